@@ -1,0 +1,235 @@
+-- What is accepted stays accepted with its weights in lowest terms, and keeps all that a checked program keeps.
+use Rattle.std.proofs.Common.{◌≡◌, ◌∙◌, ℕ, ◌+◌, ◌≤◌, Bool, true, false, ◌||◌, ◌==◌, nat_lt, if◌then◌else◌, List, [], ◌∷◌, ◌++◌, map, length, Option, Some, None, refl, sym, ap, subst, arith}
+use Rattle.std.proofs.lemmas.Bool.Decides.{nat_tests}
+use Rattle.std.proofs.Math.Path.{fun_ext}
+use Rattle.gcl_core.specs.declared.syntax.Weight.{Weight}
+use Rattle.gcl_core.specs.declared.kinds.Kind.TheVariants.{Number}
+use Rattle.gcl_core.specs.Acceptance.{Flaw, zero_denominator, weight_above_one, too_fine, Refusal, too_many_names, expression_flaw, weight_flaw, statement_flaw, first_refusal, flaws_of, IsAccepted}
+use Rattle.gcl_core.specs.Bounds.{BlockBelow, StatementBelow, VariablesBelow, BlockFits, StatementFits, NumbersFit, IsWeight, BlockWeights, StatementWeights}
+use Rattle.gcl_core.specs.Keeping.{IsChecked}
+use Rattle.gcl_core.specs.Listing.{statement_listed, listed}
+use Rattle.gcl_core.specs.Lowest.{lowest_terms, statement_in_lowest, block_in_lowest, in_lowest}
+use Rattle.gcl_core.specs.Syntax.{Statement, skip, assign, branch, loop, choice, uniform, observe, Statements, done, ◌▸◌, Source}
+use Rattle.gcl_core.specs.Targets.{statement_sets, sets}
+use Rattle.gcl_core.proofs.LowestTerms.{lowest_positive, lowest_at_most_one, lowest_again}
+
+-- ---- a weight
+by_three : (a b c : Bool) (x y z : Flaw) → (if a then Some x else if b then Some y else if c then Some z else None) ≡ None → (a ≡ false) × (b ≡ false) × (c ≡ false)
+by_three true b c x y z e = absurd (cc)
+by_three false true c x y z e = absurd (cc)
+by_three false false true x y z e = absurd (cc)
+by_three false false false x y z e = (refl, refl, refl)
+
+flawless_weight : (w : Weight) → 1 ≤ w.den → w.num ≤ w.den → (lowest_terms w).den ≤ 256 → weight_flaw w ≡ None
+flawless_weight w positive at_most_one coarse =
+    let a : (w.den == 0) ≡ false = grind (arith, nat_tests) in
+    let b : nat_lt w.den w.num ≡ false = grind (arith, nat_tests) in
+    let c : nat_lt 256 (lowest_terms w).den ≡ false = grind (arith, nat_tests) in
+    rw (a, b, c) refl
+
+module _ (w : Weight) (flawless : weight_flaw w ≡ None) where
+  tests : ((w.den == 0) ≡ false) × (nat_lt w.den w.num ≡ false) × (nat_lt 256 (lowest_terms w).den ≡ false)
+  tests = by_three (w.den == 0) (nat_lt w.den w.num) (nat_lt 256 (lowest_terms w).den) zero_denominator weight_above_one too_fine flawless
+
+  pub positive : 1 ≤ w.den
+  positive = let t = tests.0 in grind (arith, nat_tests)
+
+  at_most_one : w.num ≤ w.den
+  at_most_one = let t = tests.1 in grind (arith, nat_tests)
+
+  coarse : (lowest_terms w).den ≤ 256
+  coarse = let t = tests.2 in grind (arith, nat_tests)
+
+  lowest_is_weight : IsWeight (lowest_terms w)
+  lowest_is_weight = record { at_most_one = lowest_at_most_one w positive at_most_one; positive = lowest_positive w positive; coarse = coarse }
+
+  lowest_flawless : weight_flaw (lowest_terms w) ≡ None
+  lowest_flawless =
+      flawless_weight (lowest_terms w) (lowest_positive w positive) (lowest_at_most_one w positive at_most_one) (subst (λ v. v.den ≤ 256) (sym (lowest_again w positive)) coarse)
+
+-- ---- no flaw in a list
+abbrev AllNone : List (Option Flaw) → Type 0
+AllNone [] = Unit {0}
+AllNone (f ∷ fs) = (f ≡ None) × AllNone fs
+
+unrefused : (n : ℕ) (fs : List (Option Flaw)) → first_refusal n fs ≡ None → AllNone fs
+unrefused n [] e = tt
+unrefused n (None ∷ fs) e = (refl, unrefused (n + 1) fs e)
+unrefused n (Some f ∷ fs) e = absurd (cc)
+
+never_refused : (n : ℕ) (fs : List (Option Flaw)) → AllNone fs → first_refusal n fs ≡ None
+never_refused n [] all = refl
+never_refused n (None ∷ fs) all = never_refused (n + 1) fs all.1
+never_refused n (Some f ∷ fs) all = absurd (let e = all.0 in cc)
+
+split : (fs gs : List (Option Flaw)) → AllNone (fs ++ gs) → AllNone fs × AllNone gs
+split [] gs all = (tt, all)
+split (f ∷ fs) gs all = let rest = split fs gs all.1 in ((all.0, rest.0), rest.1)
+
+join : (fs gs : List (Option Flaw)) → AllNone fs → AllNone gs → AllNone (fs ++ gs)
+join [] gs p q = q
+join (f ∷ fs) gs p q = (p.0, join fs gs p.1 q)
+
+module _ (flaw_of : Statement → Option Flaw) where
+  split_map : (xs ys : List Statement) → AllNone (map flaw_of (xs ++ ys)) → AllNone (map flaw_of xs) × AllNone (map flaw_of ys)
+  split_map [] ys all = (tt, all)
+  split_map (x ∷ xs) ys all = let rest = split_map xs ys all.1 in ((all.0, rest.0), rest.1)
+
+  join_map : (xs ys : List Statement) → AllNone (map flaw_of xs) → AllNone (map flaw_of ys) → AllNone (map flaw_of (xs ++ ys))
+  join_map [] ys p q = q
+  join_map (x ∷ xs) ys p q = (p.0, join_map xs ys p.1 q)
+
+-- ---- blocks with no flaw
+module _ (known : ℕ → Bool) where
+  mutual
+    statement_lowest : (s : Statement) → AllNone (map (statement_flaw known) (statement_listed s)) → AllNone (map (statement_flaw known) (statement_listed (statement_in_lowest s)))
+    statement_lowest (branch e a c) all =
+        let both = split_map (statement_flaw known) (listed a) (listed c) all.1 in
+        (all.0, join_map (statement_flaw known) (listed (block_in_lowest a)) (listed (block_in_lowest c)) (block_lowest a both.0) (block_lowest c both.1))
+    statement_lowest (loop e a) all = (all.0, block_lowest a all.1)
+    statement_lowest (choice w a c) all =
+        let both = split_map (statement_flaw known) (listed a) (listed c) all.1 in
+        (lowest_flawless w all.0, join_map (statement_flaw known) (listed (block_in_lowest a)) (listed (block_in_lowest c)) (block_lowest a both.0) (block_lowest c both.1))
+    statement_lowest skip all = all
+    statement_lowest (assign x e) all = all
+    statement_lowest (uniform x e) all = all
+    statement_lowest (observe e) all = all
+
+    block_lowest : (b : Statements) → AllNone (map (statement_flaw known) (listed b)) → AllNone (map (statement_flaw known) (listed (block_in_lowest b)))
+    block_lowest done all = tt
+    block_lowest (s ▸ b) all =
+        let both = split_map (statement_flaw known) (statement_listed s) (listed b) all in
+        join_map (statement_flaw known) (statement_listed (statement_in_lowest s)) (listed (block_in_lowest b)) (statement_lowest s both.0) (block_lowest b both.1)
+
+  module _ (Fact : Weight → Type 0) (fact : (w : Weight) → weight_flaw w ≡ None → Fact w) where
+    mutual
+      statement_weights : (s : Statement) → AllNone (map (statement_flaw known) (statement_listed s)) → StatementWeights Fact s
+      statement_weights (branch e a c) all = let both = split_map (statement_flaw known) (listed a) (listed c) all.1 in (block_weights a both.0, block_weights c both.1)
+      statement_weights (loop e a) all = block_weights a all.1
+      statement_weights (choice w a c) all = let both = split_map (statement_flaw known) (listed a) (listed c) all.1 in (fact w all.0, block_weights a both.0, block_weights c both.1)
+      statement_weights skip all = tt
+      statement_weights (assign x e) all = tt
+      statement_weights (uniform x e) all = tt
+      statement_weights (observe e) all = tt
+
+      block_weights : (b : Statements) → AllNone (map (statement_flaw known) (listed b)) → BlockWeights Fact b
+      block_weights done all = tt
+      block_weights (s ▸ b) all =
+          let both = split_map (statement_flaw known) (statement_listed s) (listed b) all in (statement_weights s both.0, block_weights b both.1)
+
+-- ---- what lowest terms leave
+mutual
+  statement_sets_same : (s : Statement) (x : ℕ) → statement_sets (statement_in_lowest s) x ≡ statement_sets s x
+  statement_sets_same (branch e a c) x = ap (λ t. t || sets (block_in_lowest c) x) (sets_same a x) ∙ ap (λ t. sets a x || t) (sets_same c x)
+  statement_sets_same (loop e a) x = sets_same a x
+  statement_sets_same (choice w a c) x = ap (λ t. t || sets (block_in_lowest c) x) (sets_same a x) ∙ ap (λ t. sets a x || t) (sets_same c x)
+  statement_sets_same skip x = refl
+  statement_sets_same (assign y e) x = refl
+  statement_sets_same (uniform y e) x = refl
+  statement_sets_same (observe e) x = refl
+
+  sets_same : (b : Statements) (x : ℕ) → sets (block_in_lowest b) x ≡ sets b x
+  sets_same done x = refl
+  sets_same (s ▸ b) x = ap (λ t. t || sets (block_in_lowest b) x) (statement_sets_same s x) ∙ ap (λ t. statement_sets s x || t) (sets_same b x)
+
+module _ (count : ℕ) where
+  mutual
+    statement_below : (s : Statement) → StatementBelow count s → StatementBelow count (statement_in_lowest s)
+    statement_below (branch e a c) p = (p.0, block_below a p.1, block_below c p.2)
+    statement_below (loop e a) p = (p.0, block_below a p.1)
+    statement_below (choice w a c) p = (block_below a p.0, block_below c p.1)
+    statement_below skip p = p
+    statement_below (assign x e) p = p
+    statement_below (uniform x e) p = p
+    statement_below (observe e) p = p
+
+    block_below : (b : Statements) → BlockBelow count b → BlockBelow count (block_in_lowest b)
+    block_below done p = tt
+    block_below (s ▸ b) p = (statement_below s p.0, block_below b p.1)
+
+mutual
+  statement_fits : (s : Statement) → StatementFits s → StatementFits (statement_in_lowest s)
+  statement_fits (branch e a c) p = (p.0, block_fits a p.1, block_fits c p.2)
+  statement_fits (loop e a) p = (p.0, block_fits a p.1)
+  statement_fits (choice w a c) p = (block_fits a p.0, block_fits c p.1)
+  statement_fits skip p = p
+  statement_fits (assign x e) p = p
+  statement_fits (uniform x e) p = p
+  statement_fits (observe e) p = p
+
+  block_fits : (b : Statements) → BlockFits b → BlockFits (block_in_lowest b)
+  block_fits done p = tt
+  block_fits (s ▸ b) p = (statement_fits s p.0, block_fits b p.1)
+
+mutual
+  statement_again : (s : Statement) → StatementWeights (λ w. 1 ≤ w.den) s → statement_in_lowest (statement_in_lowest s) ≡ statement_in_lowest s
+  statement_again (branch e a c) p = ap (λ x. branch e x (block_in_lowest (block_in_lowest c))) (block_again a p.0) ∙ ap (branch e (block_in_lowest a)) (block_again c p.1)
+  statement_again (loop e a) p = ap (loop e) (block_again a p)
+  statement_again (choice w a c) p =
+      ap (λ v. choice v (block_in_lowest (block_in_lowest a)) (block_in_lowest (block_in_lowest c))) (lowest_again w p.0)
+      ∙ ap (λ x. choice (lowest_terms w) x (block_in_lowest (block_in_lowest c))) (block_again a p.1) ∙ ap (choice (lowest_terms w) (block_in_lowest a)) (block_again c p.2)
+  statement_again skip p = refl
+  statement_again (assign x e) p = refl
+  statement_again (uniform x e) p = refl
+  statement_again (observe e) p = refl
+
+  block_again : (b : Statements) → BlockWeights (λ w. 1 ≤ w.den) b → block_in_lowest (block_in_lowest b) ≡ block_in_lowest b
+  block_again done p = refl
+  block_again (s ▸ b) p = ap (λ x. x ▸ block_in_lowest (block_in_lowest b)) (statement_again s p.0) ∙ ap (λ x. statement_in_lowest s ▸ x) (block_again b p.1)
+
+-- the weights of a block whose weights in lowest terms have a fact
+module _ (Fact : Weight → Type 0) where
+  mutual
+    statement_of_lowest : (s : Statement) → StatementWeights (λ w. Fact (lowest_terms w)) s → StatementWeights Fact (statement_in_lowest s)
+    statement_of_lowest (branch e a c) p = (block_of_lowest a p.0, block_of_lowest c p.1)
+    statement_of_lowest (loop e a) p = block_of_lowest a p
+    statement_of_lowest (choice w a c) p = (p.0, block_of_lowest a p.1, block_of_lowest c p.2)
+    statement_of_lowest skip p = tt
+    statement_of_lowest (assign x e) p = tt
+    statement_of_lowest (uniform x e) p = tt
+    statement_of_lowest (observe e) p = tt
+
+    block_of_lowest : (b : Statements) → BlockWeights (λ w. Fact (lowest_terms w)) b → BlockWeights Fact (block_in_lowest b)
+    block_of_lowest done p = tt
+    block_of_lowest (s ▸ b) p = (statement_of_lowest s p.0, block_of_lowest b p.1)
+
+-- ---- a program
+by_names : (b : Bool) (r : Option Refusal) → (if b then Some too_many_names else r) ≡ None → (b ≡ false) × (r ≡ None)
+by_names true r e = absurd (cc)
+by_names false r e = (refl, e)
+
+module _ (p : Source) (accepted : IsAccepted p) where
+  few : nat_lt 256 (length p.names) ≡ false
+  few = (by_names (nat_lt 256 (length p.names)) (first_refusal 0 (flaws_of p)) accepted).0
+
+  flawless : AllNone (map (statement_flaw (sets p.body)) (listed p.body)) × AllNone (expression_flaw (sets p.body) Number p.result ∷ [])
+  flawless =
+      split (map (statement_flaw (sets p.body)) (listed p.body)) (expression_flaw (sets p.body) Number p.result ∷ [])
+      (unrefused 0 (flaws_of p) (by_names (nat_lt 256 (length p.names)) (first_refusal 0 (flaws_of p)) accepted).1)
+
+  -- no denominator is 0
+  pub accepted_positive : BlockWeights (λ w. 1 ≤ w.den) p.body
+  accepted_positive = block_weights (sets p.body) (λ w. 1 ≤ w.den) positive p.body flawless.0
+
+  lowest_accepted : IsAccepted (in_lowest p)
+  lowest_accepted =
+      let known : sets (block_in_lowest p.body) ≡ sets p.body = fun_ext (sets_same p.body) in
+      let all = join (map (statement_flaw (sets p.body)) (listed (block_in_lowest p.body))) (expression_flaw (sets p.body) Number p.result ∷ []) (block_lowest (sets p.body) p.body flawless.0) flawless.1 in
+      let none = never_refused 0 _ all in
+      ap (λ b. if b then Some too_many_names else first_refusal 0 (flaws_of (in_lowest p))) few
+      ∙ ap (λ k. first_refusal 0 (map (statement_flaw k) (listed (block_in_lowest p.body)) ++ expression_flaw k Number p.result ∷ [])) known ∙ none
+
+  -- with its weights in lowest terms it is a checked program
+  pub lowest_checked : VariablesBelow p → NumbersFit p → IsChecked (in_lowest p)
+  lowest_checked variables numbers = record {
+    accepted = lowest_accepted;
+    lowest = ap (λ b. record { names = p.names; body = b; result = p.result }) (block_again p.body accepted_positive);
+    variables = record { body = block_below (length p.names) p.body variables.body; result = variables.result };
+    numbers = record { body = block_fits p.body numbers.body; result = numbers.result };
+  }
+
+-- the weights of a checked program
+pub checked_weights : (p : Source) → IsChecked p → BlockWeights IsWeight p.body
+checked_weights p c =
+    subst (λ q. BlockWeights IsWeight q.body) c.lowest
+    (block_of_lowest IsWeight p.body (block_weights (sets p.body) (λ w. IsWeight (lowest_terms w)) lowest_is_weight p.body (flawless p c.accepted).0))

@@ -1,0 +1,77 @@
+-- Which programs are accepted, and the first refusal of one that is not. That weights are fractions up to 1, that numbers are no
+-- truths, that a name which is read is set somewhere, the two bounds and the order of refusals are this project's own rule.
+use Rattle.std.specs.Prelude.{◌≡◌, ℕ, ◌+◌, Bool, true, ◌&&◌, ◌==◌, nat_lt, if◌then◌else◌, List, [], ◌∷◌, ◌++◌, map, length, Option, Some, None}
+use Rattle.gcl_core.specs.declared.syntax.Weight.{Weight}
+use Rattle.gcl_core.specs.declared.kinds.Kind.{Kind}
+use Rattle.gcl_core.specs.declared.kinds.Kind.TheVariants.{Number, Truth}
+use Rattle.gcl_core.specs.Syntax.{Expression, number, truth, variable, negative, opposite, binary, Statement, skip, assign, branch, loop, choice, uniform, observe, Source}
+use Rattle.gcl_core.specs.Kinds.{has_kind}
+use Rattle.gcl_core.specs.Listing.{listed}
+use Rattle.gcl_core.specs.Lowest.{lowest_terms}
+use Rattle.gcl_core.specs.Targets.{sets}
+
+-- why a statement is refused
+pub data Flaw : Type 0 where
+  kind_mismatch : Flaw
+  unknown_name : Flaw
+  zero_denominator : Flaw
+  weight_above_one : Flaw
+  too_fine : Flaw
+
+-- why a program is refused: for its names, or for the statement with this number
+pub data Refusal : Type 0 where
+  too_many_names : Refusal
+  flawed : Flaw → ℕ → Refusal
+
+-- ---- one statement
+
+-- each variable that the expression reads is known
+abbrev pub reads_known : (ℕ → Bool) → Expression → Bool
+reads_known known (number z) = true
+reads_known known (truth b) = true
+reads_known known (variable x) = known x
+reads_known known (negative a) = reads_known known a
+reads_known known (opposite a) = reads_known known a
+reads_known known (binary op a b) = reads_known known a && reads_known known b
+
+-- an expression has to be of this kind, and to read known variables alone
+abbrev pub expression_flaw : (ℕ → Bool) → Kind → Expression → Option Flaw
+expression_flaw known k e =
+    if has_kind k e then (if reads_known known e then None else Some unknown_name) else Some kind_mismatch
+
+-- a weight has to be a fraction, of at most 1, with a denominator in lowest terms of at most 256
+abbrev pub weight_flaw : Weight → Option Flaw
+weight_flaw w =
+    if w.den == 0 then Some zero_denominator
+    else if nat_lt w.den w.num then Some weight_above_one
+    else if nat_lt 256 (lowest_terms w).den then Some too_fine
+    else None
+
+-- the first flaw of a statement itself, not of those in its blocks
+abbrev pub statement_flaw : (ℕ → Bool) → Statement → Option Flaw
+statement_flaw known skip = None
+statement_flaw known (assign x e) = expression_flaw known Number e
+statement_flaw known (uniform x e) = expression_flaw known Number e
+statement_flaw known (branch e a c) = expression_flaw known Truth e
+statement_flaw known (loop e a) = expression_flaw known Truth e
+statement_flaw known (observe e) = expression_flaw known Truth e
+statement_flaw known (choice w a c) = weight_flaw w
+
+-- ---- a program
+
+-- the first refusal among statements with these flaws or none, numbered from n on
+abbrev pub first_refusal : ℕ → List (Option Flaw) → Option Refusal
+first_refusal n [] = None
+first_refusal n (Some flaw ∷ flaws) = Some (flawed flaw n)
+first_refusal n (None ∷ flaws) = first_refusal (n + 1) flaws
+
+-- of each statement in reading order, and last of the result, which is a number
+abbrev pub flaws_of : Source → List (Option Flaw)
+flaws_of p = map (statement_flaw (sets p.body)) (listed p.body) ++ expression_flaw (sets p.body) Number p.result ∷ []
+
+-- There are at most 256 names, and no statement has a flaw.
+abbrev pub refusal_of : Source → Option Refusal
+refusal_of p = if nat_lt 256 (length p.names) then Some too_many_names else first_refusal 0 (flaws_of p)
+
+abbrev pub IsAccepted : Source → Type 0
+IsAccepted p = refusal_of p ≡ None

@@ -1,0 +1,76 @@
+-- Facts of all that a program names: its variables lie below a count, its numbers have 64 bits, and a fact of each weight.
+-- Programs of the code have numbers of 64 bits by their type.
+use Rattle.std.specs.Prelude.{ℕ, ◌<◌, ◌≤◌, IsTrue, length}
+use Rattle.gcl_core.specs.declared.syntax.Weight.{Weight}
+use Rattle.gcl_core.specs.Syntax.{Expression, number, truth, variable, negative, opposite, binary, Statement, skip, assign, branch, loop, choice, uniform, observe, Statements, done, ◌▸◌, Source}
+use Rattle.gcl_core.specs.Value.{fits_64, Reads}
+
+-- each variable that is read or set is below a count
+module _ (count : ℕ) where
+  abbrev mutual
+    pub StatementBelow : Statement → Type 0
+    StatementBelow skip = Unit {0}
+    StatementBelow (assign x e) = (x < count) × Reads e count
+    StatementBelow (branch e a c) = Reads e count × BlockBelow a × BlockBelow c
+    StatementBelow (loop e a) = Reads e count × BlockBelow a
+    StatementBelow (choice w a c) = BlockBelow a × BlockBelow c
+    StatementBelow (uniform x e) = (x < count) × Reads e count
+    StatementBelow (observe e) = Reads e count
+
+    pub BlockBelow : Statements → Type 0
+    BlockBelow done = Unit {0}
+    BlockBelow (s ▸ b) = StatementBelow s × BlockBelow b
+
+-- below the count of the names
+pub record VariablesBelow (p : Source) : Type 0 where
+  pub body : BlockBelow (length p.names) p.body
+  pub result : Reads p.result (length p.names)
+
+-- each number has 64 bits
+abbrev pub ExpressionFits : Expression → Type 0
+ExpressionFits (number z) = IsTrue (fits_64 z)
+ExpressionFits (truth b) = Unit {0}
+ExpressionFits (variable x) = Unit {0}
+ExpressionFits (negative a) = ExpressionFits a
+ExpressionFits (opposite a) = ExpressionFits a
+ExpressionFits (binary op a b) = ExpressionFits a × ExpressionFits b
+
+abbrev mutual
+  pub StatementFits : Statement → Type 0
+  StatementFits skip = Unit {0}
+  StatementFits (assign x e) = ExpressionFits e
+  StatementFits (branch e a c) = ExpressionFits e × BlockFits a × BlockFits c
+  StatementFits (loop e a) = ExpressionFits e × BlockFits a
+  StatementFits (choice w a c) = BlockFits a × BlockFits c
+  StatementFits (uniform x e) = ExpressionFits e
+  StatementFits (observe e) = ExpressionFits e
+
+  pub BlockFits : Statements → Type 0
+  BlockFits done = Unit {0}
+  BlockFits (s ▸ b) = StatementFits s × BlockFits b
+
+pub record NumbersFit (p : Source) : Type 0 where
+  pub body : BlockFits p.body
+  pub result : ExpressionFits p.result
+
+-- a weight is at most 1, over a number from 1 to 256
+pub record IsWeight (w : Weight) : Type 0 where
+  pub at_most_one : w.num ≤ w.den
+  pub positive : 1 ≤ w.den
+  pub coarse : w.den ≤ 256
+
+-- a fact of each weight
+module _ (Fact : Weight → Type 0) where
+  abbrev mutual
+    pub StatementWeights : Statement → Type 0
+    StatementWeights skip = Unit {0}
+    StatementWeights (assign x e) = Unit {0}
+    StatementWeights (branch e a c) = BlockWeights a × BlockWeights c
+    StatementWeights (loop e a) = BlockWeights a
+    StatementWeights (choice w a c) = Fact w × BlockWeights a × BlockWeights c
+    StatementWeights (uniform x e) = Unit {0}
+    StatementWeights (observe e) = Unit {0}
+
+    pub BlockWeights : Statements → Type 0
+    BlockWeights done = Unit {0}
+    BlockWeights (s ▸ b) = StatementWeights s × BlockWeights b
