@@ -1,0 +1,11 @@
+use Rattle.gcl_lex.proofs.OneReading as reading
+use Rattle.gcl_lex.proofs.lexing.one_answer.Goals as goal
+
+pub returns-clause-tokens : goal.returns-clause-tokens
+returns-clause-tokens c = reading.tokens_once
+
+pub returns-clause-refusal : goal.returns-clause-refusal
+returns-clause-refusal c = reading.refusal_once
+
+pub returns-clause-apart : goal.returns-clause-apart
+returns-clause-apart c = reading.apart

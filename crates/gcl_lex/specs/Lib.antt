@@ -1,0 +1,3 @@
+pub mod Lexes
+pub mod Cutting
+pub mod Reads

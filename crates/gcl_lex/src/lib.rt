@@ -1,0 +1,12 @@
+// From the bytes of a text to its tokens.
+#![tactic(auto)]
+
+mod cutting;
+mod error;
+mod lexing;
+mod piece;
+#[cfg(test)]
+mod tests;
+
+pub use error::LexError;
+pub use lexing::{lex, one_answer};

@@ -1,0 +1,97 @@
+// What one piece of a text gives.
+
+ghost use Rattle.std.specs.Prelude.{◌≡◌, true};
+ghost use Rattle.std.specs.List.{list_all};
+ghost use Rattle.gcl_core.specs.Names.{same_name};
+ghost use Rattle.gcl_core.specs.Pieces.{is_piece, is_digit};
+ghost use Rattle.gcl_core.specs.Tokens.{key_of, named_kind};
+ghost use Rattle.gcl_lex.specs.Reads.{number_of_digits, Reads};
+
+use crate::cutting::symbol;
+use crate::error::LexError;
+use gcl_core::{Key, PieceKind, TokenKind};
+
+// The value, where it is below 2^63.
+fn number(digits: &[u8]) -> Option<u64>
+    requires { list_all is_digit digits.now ≡ true }
+    ensures { result ≡ number_of_digits digits.now }
+{
+    let mut value: u64 = 0;
+    for digit in digits {
+        value = value.checked_mul(10)?.checked_add((*digit - b'0') as u64)?;
+    }
+    if value <= i64::MAX as u64 {
+        Some(value)
+    } else {
+        None
+    }
+}
+
+fn is(name: &[u8], reserved: &[u8]) -> bool
+    ensures { result ≡ same_name name.now reserved.now }
+{
+    name == reserved
+}
+
+#[tactic(auto, unfolding(gcl_core::specs::Tokens::key_of))]
+fn key(name: &[u8]) -> Option<Key>
+    ensures { result ≡ key_of name.now }
+{
+    if is(name, b"skip") {
+        Some(Key::Skip)
+    } else if is(name, b"if") {
+        Some(Key::If)
+    } else if is(name, b"else") {
+        Some(Key::Else)
+    } else if is(name, b"while") {
+        Some(Key::While)
+    } else if is(name, b"choice") {
+        Some(Key::Choice)
+    } else if is(name, b"choose") {
+        Some(Key::Choose)
+    } else if is(name, b"or") {
+        Some(Key::Or)
+    } else if is(name, b"and") {
+        Some(Key::And)
+    } else if is(name, b"not") {
+        Some(Key::Not)
+    } else if is(name, b"true") {
+        Some(Key::True)
+    } else if is(name, b"false") {
+        Some(Key::False)
+    } else if is(name, b"uniform") {
+        Some(Key::Uniform)
+    } else if is(name, b"observe") {
+        Some(Key::Observe)
+    } else if is(name, b"return") {
+        Some(Key::Return)
+    } else {
+        None
+    }
+}
+
+fn name_kind(name: &[u8]) -> TokenKind
+    ensures { result ≡ named_kind (key_of name.now) }
+{
+    match key(name) {
+        Some(key) => TokenKind::Key(key),
+        None => TokenKind::Name,
+    }
+}
+
+/// What the token of a piece is, if it has one, or why the piece, which begins at the place `at`, may not stand.
+pub fn token_kind(kind: PieceKind, bytes: &[u8], at: u32) -> Result<Option<TokenKind>, LexError>
+    requires { is_piece kind bytes.now ≡ true }
+    ensures { Reads kind bytes.now at result }
+{
+    match kind {
+        PieceKind::Blank | PieceKind::Comment => Ok(None),
+        PieceKind::Number => match number(bytes) {
+            Some(value) => Ok(Some(TokenKind::Number(value))),
+            None => Err(LexError::NumberTooWide { at }),
+        },
+        PieceKind::Name if bytes.len() > 64 => Err(LexError::NameTooLong { at }),
+        PieceKind::Name => Ok(Some(name_kind(bytes))),
+        PieceKind::Symbol => Ok(symbol(bytes).map(TokenKind::Sym)),
+    }
+}
