@@ -1,0 +1,182 @@
+-- What a program keeps that words are read as.
+use Rattle.std.proofs.Common.{◌≡◌, ℕ, ◌<◌, ◌≤◌, ◌+◌, refl, arith, Some, List, [], ◌∷◌, length}
+use Rattle.gcl_core.specs.declared.tokens.Key.TheVariants as k
+use Rattle.gcl_core.specs.declared.words.Word.{Word}
+use Rattle.gcl_core.specs.declared.words.Word.TheVariants as w
+use Rattle.gcl_core.specs.declared.levels.Level.{Level}
+use Rattle.gcl_core.specs.Syntax.{Expression, Statement, Statements}
+use Rattle.gcl_core.specs.Value.{Reads}
+use Rattle.gcl_core.specs.Bounds.{StatementBelow, BlockBelow}
+use Rattle.gcl_core.specs.Listing.{count_one, count_all}
+use Rattle.gcl_core.specs.Written.{ExpressionWritten, StatementWritten, BlockWritten}
+use Rattle.gcl_core.specs.Grammar.{leaf, ReadsPhrase, ReadsMore, a_leaf, in_brackets, with_sign, without_sign, a_comparison, no_comparison, with_not, without_not, a_row, no_more, one_more, ReadsStatement, ReadsStatements, ReadsBlock, ReadsElse, a_skip, an_assignment, a_uniform, an_observation, an_if, a_while, a_choice, no_statement, a_statement, in_braces, no_else, an_else, ReadsProgram}
+
+some_is : {a b : Expression} → Some a ≡ Some b → a ≡ b
+some_is h = cc
+
+-- ---- variables
+
+abbrev pub WordBelow : ℕ → Word → Type 0
+WordBelow count (w.Name x) = x < count
+WordBelow count _ = Unit {0}
+
+-- the numbers of names are below a count
+abbrev pub WordsBelow : ℕ → List Word → Type 0
+WordsBelow count [] = Unit {0}
+WordsBelow count (v ∷ ts) = WordBelow count v × WordsBelow count ts
+
+leaf_below : (count : ℕ) (v : Word) {e : Expression} → leaf v ≡ Some e → WordBelow count v → Reads e count
+leaf_below count (w.Number n) h b = rw (← some_is h) tt
+leaf_below count (w.Name x) h b = rw (← some_is h) b
+leaf_below count (w.Key k.True) h b = rw (← some_is h) tt
+leaf_below count (w.Key k.False) h b = rw (← some_is h) tt
+leaf_below count (w.Key _) h b = cc
+leaf_below count (w.Sym s) h b = cc
+
+mutual
+  phrase_below : {l : Level} {ts rest : List Word} {e : Expression} (count : ℕ) → ReadsPhrase l ts e rest → WordsBelow count ts → Reads e count × WordsBelow count rest
+  phrase_below count (a_leaf {v = v} h) b = (leaf_below count v h b.0, b.1)
+  phrase_below count (in_brackets r) b = let i = phrase_below count r b.1 in (i.0, i.1.1)
+  phrase_below count (with_sign r) b = phrase_below count r b.1
+  phrase_below count (without_sign r) b = phrase_below count r b
+  phrase_below count (a_comparison r h k q) b = let i = phrase_below count r b in let j = phrase_below count q i.1.1 in ((i.0, j.0), j.1)
+  phrase_below count (no_comparison r) b = phrase_below count r b
+  phrase_below count (with_not r) b = phrase_below count r b.1
+  phrase_below count (without_not r) b = phrase_below count r b
+  phrase_below count (a_row i r q) b = let j = phrase_below count r b in more_below count q j.0 j.1
+
+  more_below : {l : Level} {a e : Expression} {ts rest : List Word} (count : ℕ) → ReadsMore l a ts e rest → Reads a count → WordsBelow count ts → Reads e count × WordsBelow count rest
+  more_below count no_more a b = (a, b)
+  more_below count (one_more h k r q) a b = let i = phrase_below count r b.1 in more_below count q (a, i.0) i.1
+
+mutual
+  statement_below : {ts rest : List Word} {s : Statement} (count : ℕ) → ReadsStatement ts s rest → WordsBelow count ts → StatementBelow count s × WordsBelow count rest
+  statement_below count a_skip b = (tt, b.1.1)
+  statement_below count (an_assignment r) b = let i = phrase_below count r b.1.1 in ((b.0, i.0), i.1.1)
+  statement_below count (a_uniform r) b = let i = phrase_below count r b.1.1.1.1 in ((b.0, i.0), i.1.1.1)
+  statement_below count (an_observation r) b = let i = phrase_below count r b.1 in (i.0, i.1.1)
+  statement_below count (an_if r a c) b =
+      let i = phrase_below count r b.1 in
+      let j = block_below count a i.1 in
+      let n = else_below count c j.1 in
+      ((i.0, j.0, n.0), n.1)
+  statement_below count (a_while r a) b =
+      let i = phrase_below count r b.1 in
+      let j = block_below count a i.1 in
+      ((i.0, j.0), j.1)
+  statement_below count (a_choice a c) b =
+      let j = block_below count a b.1.1.1.1 in
+      let n = block_below count c j.1.1 in
+      ((j.0, n.0), n.1)
+
+  statements_below : {ts rest : List Word} {s : Statements} (count : ℕ) → ReadsStatements ts s rest → WordsBelow count ts → BlockBelow count s × WordsBelow count rest
+  statements_below count no_statement b = (tt, b)
+  statements_below count (a_statement s q) b =
+      let i = statement_below count s b in
+      let j = statements_below count q i.1 in
+      ((i.0, j.0), j.1)
+
+  block_below : {ts rest : List Word} {s : Statements} (count : ℕ) → ReadsBlock ts s rest → WordsBelow count ts → BlockBelow count s × WordsBelow count rest
+  block_below count (in_braces r) b = let i = statements_below count r b.1 in (i.0, i.1.1)
+
+  else_below : {ts rest : List Word} {s : Statements} (count : ℕ) → ReadsElse ts s rest → WordsBelow count ts → BlockBelow count s × WordsBelow count rest
+  else_below count no_else b = (tt, b)
+  else_below count (an_else r) b = block_below count r b.1
+
+pub program_below : {ts : List Word} {body : Statements} {e : Expression} (count : ℕ) → ReadsProgram ts body e [] → WordsBelow count ts → BlockBelow count body × Reads e count
+program_below count d b =
+    let i = statements_below count d.statements b in
+    let j = phrase_below count d.last i.1.1 in
+    (i.0, j.0)
+
+-- ---- numbers
+
+leaf_written : (v : Word) {e : Expression} → leaf v ≡ Some e → ExpressionWritten e
+leaf_written (w.Number n) h = rw (← some_is h) (record { digits = n; is = refl })
+leaf_written (w.Name x) h = rw (← some_is h) tt
+leaf_written (w.Key k.True) h = rw (← some_is h) tt
+leaf_written (w.Key k.False) h = rw (← some_is h) tt
+leaf_written (w.Key _) h = cc
+leaf_written (w.Sym s) h = cc
+
+mutual
+  phrase_written : {l : Level} {ts rest : List Word} {e : Expression} → ReadsPhrase l ts e rest → ExpressionWritten e
+  phrase_written (a_leaf {v = v} h) = leaf_written v h
+  phrase_written (in_brackets r) = phrase_written r
+  phrase_written (with_sign r) = phrase_written r
+  phrase_written (without_sign r) = phrase_written r
+  phrase_written (a_comparison r h k q) = (phrase_written r, phrase_written q)
+  phrase_written (no_comparison r) = phrase_written r
+  phrase_written (with_not r) = phrase_written r
+  phrase_written (without_not r) = phrase_written r
+  phrase_written (a_row i r q) = more_written q (phrase_written r)
+
+  more_written : {l : Level} {a e : Expression} {ts rest : List Word} → ReadsMore l a ts e rest → ExpressionWritten a → ExpressionWritten e
+  more_written no_more a = a
+  more_written (one_more h k r q) a = more_written q (a, phrase_written r)
+
+mutual
+  statement_written : {ts rest : List Word} {s : Statement} → ReadsStatement ts s rest → StatementWritten s
+  statement_written a_skip = tt
+  statement_written (an_assignment r) = phrase_written r
+  statement_written (a_uniform r) = phrase_written r
+  statement_written (an_observation r) = phrase_written r
+  statement_written (an_if r a c) = (phrase_written r, block_written a, else_written c)
+  statement_written (a_while r a) = (phrase_written r, block_written a)
+  statement_written (a_choice a c) = (block_written a, block_written c)
+
+  statements_written : {ts rest : List Word} {s : Statements} → ReadsStatements ts s rest → BlockWritten s
+  statements_written no_statement = tt
+  statements_written (a_statement s q) = (statement_written s, statements_written q)
+
+  block_written : {ts rest : List Word} {s : Statements} → ReadsBlock ts s rest → BlockWritten s
+  block_written (in_braces r) = statements_written r
+
+  else_written : {ts rest : List Word} {s : Statements} → ReadsElse ts s rest → BlockWritten s
+  else_written no_else = tt
+  else_written (an_else r) = block_written r
+
+pub program_written : {ts : List Word} {body : Statements} {e : Expression} → ReadsProgram ts body e [] → BlockWritten body × ExpressionWritten e
+program_written d = (statements_written d.statements, phrase_written d.last)
+
+-- ---- how many statements
+
+mutual
+  phrase_shrinks : {l : Level} {ts rest : List Word} {e : Expression} → ReadsPhrase l ts e rest → length rest ≤ length ts
+  phrase_shrinks (a_leaf h) = omega arith
+  phrase_shrinks (in_brackets r) = let i = phrase_shrinks r in omega (arith, i)
+  phrase_shrinks (with_sign r) = let i = phrase_shrinks r in omega (arith, i)
+  phrase_shrinks (without_sign r) = phrase_shrinks r
+  phrase_shrinks (a_comparison r h k q) = let i = phrase_shrinks r in let j = phrase_shrinks q in omega (arith, i, j)
+  phrase_shrinks (no_comparison r) = phrase_shrinks r
+  phrase_shrinks (with_not r) = let i = phrase_shrinks r in omega (arith, i)
+  phrase_shrinks (without_not r) = phrase_shrinks r
+  phrase_shrinks (a_row n r q) = let i = phrase_shrinks r in let j = more_shrinks q in omega (arith, i, j)
+
+  more_shrinks : {l : Level} {a e : Expression} {ts rest : List Word} → ReadsMore l a ts e rest → length rest ≤ length ts
+  more_shrinks no_more = omega arith
+  more_shrinks (one_more h k r q) = let i = phrase_shrinks r in let j = more_shrinks q in omega (arith, i, j)
+
+mutual
+  statement_counted : {ts rest : List Word} {s : Statement} → ReadsStatement ts s rest → count_one s + length rest ≤ length ts
+  statement_counted a_skip = omega arith
+  statement_counted (an_assignment r) = let i = phrase_shrinks r in omega (arith, i)
+  statement_counted (a_uniform r) = let i = phrase_shrinks r in omega (arith, i)
+  statement_counted (an_observation r) = let i = phrase_shrinks r in omega (arith, i)
+  statement_counted (an_if r a c) = let i = phrase_shrinks r in let j = block_counted a in let n = else_counted c in omega (arith, i, j, n)
+  statement_counted (a_while r a) = let i = phrase_shrinks r in let j = block_counted a in omega (arith, i, j)
+  statement_counted (a_choice a c) = let j = block_counted a in let n = block_counted c in omega (arith, j, n)
+
+  statements_counted : {ts rest : List Word} {s : Statements} → ReadsStatements ts s rest → count_all s + length rest ≤ length ts
+  statements_counted no_statement = omega arith
+  statements_counted (a_statement s q) = let i = statement_counted s in let j = statements_counted q in omega (arith, i, j)
+
+  block_counted : {ts rest : List Word} {s : Statements} → ReadsBlock ts s rest → count_all s + length rest ≤ length ts
+  block_counted (in_braces r) = let i = statements_counted r in omega (arith, i)
+
+  else_counted : {ts rest : List Word} {s : Statements} → ReadsElse ts s rest → count_all s + length rest ≤ length ts
+  else_counted no_else = omega arith
+  else_counted (an_else r) = let i = block_counted r in omega (arith, i)
+
+pub program_counted : {ts : List Word} {body : Statements} {e : Expression} → ReadsProgram ts body e [] → count_all body < length ts
+program_counted d = let i = statements_counted d.statements in omega (arith, i)

@@ -1,0 +1,15 @@
+pub mod Steps
+pub mod Blocks
+pub mod PhrasesPass
+pub mod StatementsPass
+pub mod Accepts
+pub mod Completes
+pub mod OnePhrase
+pub mod OneProgram
+pub mod Refuses
+pub mod Nests
+pub mod Naming
+pub mod Placed
+pub mod Kept
+pub mod Programs
+pub mod Excludes

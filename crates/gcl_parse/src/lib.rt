@@ -1,0 +1,21 @@
+// The parser: from the tokens of a text to the program that they derive.
+#![tactic(auto)]
+
+mod beginnings;
+mod error;
+mod expressions;
+mod laws;
+mod nesting;
+mod offsets;
+mod parser;
+mod parsing;
+mod starts;
+mod statements;
+#[cfg(test)]
+mod tests;
+mod wording;
+
+pub use error::ParseError;
+pub use laws::{kinds_decide, refused_once};
+pub use offsets::Places;
+pub use parsing::{Parsed, parse};

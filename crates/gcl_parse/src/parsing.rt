@@ -1,0 +1,85 @@
+// Reading programs.
+
+ghost use Rattle.std.specs.Prelude.{◌≡◌, ℕ, ◌<◌, ◌≤◌, List, length, IfOk, IsOk, IfErr, IsOkUnless};
+ghost use Rattle.gcl_core.specs.Syntax.{Source};
+ghost use Rattle.gcl_core.specs.Views.{source_of};
+ghost use Rattle.gcl_core.specs.Bounds.{VariablesBelow};
+ghost use Rattle.gcl_core.specs.Listing.{count_all};
+ghost use Rattle.gcl_core.specs.Spans.{StandInOrder};
+ghost use Rattle.gcl_core.specs.Offsets.{place_of};
+ghost use Rattle.gcl_core.specs.Words.{kinds_of};
+ghost use Rattle.gcl_core.specs.Derivation.{Derives};
+ghost use Rattle.gcl_core.specs.Nesting.{Nests};
+ghost use Rattle.gcl_core.specs.Written.{IsWritten};
+ghost use Rattle.gcl_parse.specs.Refused.{IsRefused};
+
+use crate::beginnings::beginnings;
+use crate::error::ParseError;
+use crate::nesting::nesting_break;
+use crate::offsets::Places;
+use crate::parser::{Halt, Parser};
+use crate::wording::{Worded, words};
+use gcl_core::{Program, Token};
+use std::alloc::Global;
+
+/// A program as its text has it, with the places of its statements.
+#[derive(Drop)]
+pub struct Parsed {
+    pub program: Program,
+    /// The offset of each statement in reading order, a statement before those of its blocks; that of `return` is last.
+    pub places: Places,
+}
+
+// The offset of the token of this index, or else the end of the text.
+fn place(text: &[u8], tokens: &[Token], i: usize) -> u32
+    requires { length text.now ≤ 65536 }
+    ensures { result ≡ place_of text.now tokens.now i }
+{
+    match tokens.get(i) {
+        Some(token) => token.start,
+        None => text.len() as u32,
+    }
+}
+
+/// The program that the tokens of a text derive, with its names numbered in the order of their first appearance.
+///
+/// `TooDeep` comes exactly where a token breaks the nesting rule, at the first that does, whatever else is wrong. Else
+/// `Unexpected` comes exactly where the tokens are no program, at the first with which they begin none, or at the end of the
+/// text. `OutOfMemory` comes where memory is wanting.
+pub fn parse(alloc: Global, text: &[u8], tokens: &[Token]) -> Result<Parsed, ParseError>
+    requires short { length text.now ≤ 65536 }
+    requires order { StandInOrder 0 tokens.now (length text.now) }
+    ensures program { IfOk result (λ p. Derives text.now tokens.now (source_of p.program) p.places) }
+    ensures only { IfOk result (λ p. (q : Source) (at : List ℕ) → Derives text.now tokens.now q at
+        → (q ≡ source_of p.program) × (at ≡ p.places)) }
+    ensures derived { (q : Source) (at : List ℕ) → Derives text.now tokens.now q at → Nests (kinds_of tokens.now)
+        → IsOkUnless result ParseError.OutOfMemory }
+    ensures nested { IsOk result → Nests (kinds_of tokens.now) }
+    ensures variables { IfOk result (λ p. VariablesBelow (source_of p.program)) }
+    ensures written { IfOk result (λ p. IsWritten (source_of p.program)) }
+    ensures statements { IfOk result (λ p. count_all (source_of p.program).body < length tokens.now) }
+    ensures refused { IfErr result (λ e. IsRefused text.now tokens.now e) }
+{
+    if let Some(i) = nesting_break(tokens) {
+        return Err(ParseError::TooDeep {
+            at: place(text, tokens, i),
+        });
+    }
+    let Worded { words, names } = words(alloc, text, tokens)?;
+    let mut parser = Parser::new(alloc, &words);
+    match parser.program() {
+        Ok((body, result)) => {
+            let places = Places::of(beginnings(alloc, tokens)?);
+            let program = Program {
+                names,
+                body,
+                result,
+            };
+            Ok(Parsed { program, places })
+        }
+        Err(Halt::Unexpected) => Err(ParseError::Unexpected {
+            at: place(text, tokens, tokens.len() - parser.left()),
+        }),
+        Err(Halt::OutOfMemory) => Err(ParseError::OutOfMemory),
+    }
+}
