@@ -1,0 +1,95 @@
+-- The first refusal of statements in a row.
+use Rattle.std.proofs.Common.{◌≡◌, ◌∙◌, ℕ, ◌+◌, ◌≤◌, Bool, false, nat_lt, if◌then◌else◌, List, [], ◌∷◌, ◌++◌, map, length, Option, Some, None, refl, sym, ap, arith, length-append}
+use Rattle.std.proofs.lemmas.Bool.Decides.{nat_tests}
+use Rattle.std.proofs.lemmas.List.{length-map, map-append}
+use Rattle.gcl_core.specs.declared.kinds.Kind.TheVariants.{Number}
+use Rattle.gcl_core.specs.Acceptance.{Flaw, Refusal, too_many_names, expression_flaw, statement_flaw, first_refusal, flaws_of, refusal_of}
+use Rattle.gcl_core.specs.Listing.{statement_listed, listed, count_one, count_all}
+use Rattle.gcl_core.specs.Syntax.{Statement, skip, assign, branch, loop, choice, uniform, observe, Statements, done, ◌▸◌, Source}
+use Rattle.gcl_core.specs.Targets.{sets}
+
+-- ---- as many statements as are listed
+mutual
+  pub listed_one : (s : Statement) → length (statement_listed s) ≡ count_one s
+  listed_one (branch e a c) = let p = length-append (listed a) (listed c) in let q = listed_all a in let r = listed_all c in omega arith
+  listed_one (loop e a) = let q = listed_all a in omega arith
+  listed_one (choice w a c) = let p = length-append (listed a) (listed c) in let q = listed_all a in let r = listed_all c in omega arith
+  listed_one skip = refl
+  listed_one (assign x e) = refl
+  listed_one (uniform x e) = refl
+  listed_one (observe e) = refl
+
+  pub listed_all : (b : Statements) → length (listed b) ≡ count_all b
+  listed_all done = refl
+  listed_all (s ▸ b) = let p = length-append (statement_listed s) (listed b) in let q = listed_one s in let r = listed_all b in omega arith
+
+-- ---- flaws, and then others
+
+-- those after statements that are not refused
+refusal_after : (n m : ℕ) (fs gs : List (Option Flaw)) → None ≡ first_refusal n fs → m ≡ n + length fs → first_refusal m gs ≡ first_refusal n (fs ++ gs)
+refusal_after n m [] gs none e = let p : m ≡ n = omega arith in ap (λ k. first_refusal k gs) p
+refusal_after n m (None ∷ fs) gs none e = refusal_after (n + 1) m fs gs none (omega arith)
+refusal_after n m (Some f ∷ fs) gs none e = absurd (cc)
+
+-- a refusal stays the first
+refusal_stays : (n : ℕ) (r : Refusal) (fs gs : List (Option Flaw)) → Some r ≡ first_refusal n fs → Some r ≡ first_refusal n (fs ++ gs)
+refusal_stays n r [] gs is = absurd (cc)
+refusal_stays n r (None ∷ fs) gs is = refusal_stays (n + 1) r fs gs is
+refusal_stays n r (Some f ∷ fs) gs is = is
+
+-- a statement that is not refused itself
+behind_head : (n : ℕ) (f : Option Flaw) (fs : List (Option Flaw)) → None ≡ first_refusal n (f ∷ []) → first_refusal (n + 1) fs ≡ first_refusal n (f ∷ fs)
+behind_head n None fs none = refl
+behind_head n (Some f) fs none = absurd (cc)
+
+-- ---- a program
+module _ (p : Source) (known : ℕ → Bool) (same : known ≡ sets p.body) (few : length p.names ≤ 256) where
+  whole_is : first_refusal 0 (map (statement_flaw known) (listed p.body) ++ expression_flaw known Number p.result ∷ []) ≡ refusal_of p
+  whole_is =
+      let test : nat_lt 256 (length p.names) ≡ false = grind (arith, nat_tests) in
+      ap (λ k. first_refusal 0 (map (statement_flaw k) (listed p.body) ++ expression_flaw k Number p.result ∷ [])) same
+      ∙ sym (ap (λ b. if b then Some too_many_names else first_refusal 0 (flaws_of p)) test)
+
+  pub body_refused : (r : Refusal) → Some r ≡ first_refusal 0 (map (statement_flaw known) (listed p.body)) → Some r ≡ refusal_of p
+  body_refused r is = refusal_stays 0 r (map (statement_flaw known) (listed p.body)) (expression_flaw known Number p.result ∷ []) is ∙ whole_is
+
+  pub result_decides : (last : ℕ) → None ≡ first_refusal 0 (map (statement_flaw known) (listed p.body)) → last ≡ 0 + count_all p.body →
+      first_refusal last (expression_flaw known Number p.result ∷ []) ≡ refusal_of p
+  result_decides last none e =
+      let q = listed_all p.body in
+      let l = length-map (listed p.body) (statement_flaw known) in
+      refusal_after 0 last (map (statement_flaw known) (listed p.body)) (expression_flaw known Number p.result ∷ []) none (omega arith) ∙ whole_is
+
+-- ---- statements
+module _ (flaw_of : Statement → Option Flaw) where
+  statements_after : (n m : ℕ) (xs ys : List Statement) → None ≡ first_refusal n (map flaw_of xs) → m ≡ n + length xs →
+      first_refusal m (map flaw_of ys) ≡ first_refusal n (map flaw_of (xs ++ ys))
+  statements_after n m xs ys none e =
+      let l = length-map xs flaw_of in
+      refusal_after n m (map flaw_of xs) (map flaw_of ys) none (omega arith) ∙ ap (first_refusal n) (sym (map-append flaw_of xs ys))
+
+  statements_stay : (n : ℕ) (r : Refusal) (xs ys : List Statement) → Some r ≡ first_refusal n (map flaw_of xs) → Some r ≡ first_refusal n (map flaw_of (xs ++ ys))
+  statements_stay n r xs ys is = refusal_stays n r (map flaw_of xs) (map flaw_of ys) is ∙ ap (first_refusal n) (sym (map-append flaw_of xs ys))
+
+  -- ---- a statement with two blocks
+  pub first_block_refused : (n : ℕ) (r : Refusal) (s : Statement) (a c : Statements) → None ≡ first_refusal n (flaw_of s ∷ []) →
+      Some r ≡ first_refusal (n + 1) (map flaw_of (listed a)) → Some r ≡ first_refusal n (map flaw_of (s ∷ listed a ++ listed c))
+  first_block_refused n r s a c none is = statements_stay (n + 1) r (listed a) (listed c) is ∙ behind_head n (flaw_of s) (map flaw_of (listed a ++ listed c)) none
+
+  pub second_block_decides : (n m : ℕ) (s : Statement) (a c : Statements) → None ≡ first_refusal n (flaw_of s ∷ []) →
+      None ≡ first_refusal (n + 1) (map flaw_of (listed a)) → m ≡ n + 1 + count_all a →
+      first_refusal m (map flaw_of (listed c)) ≡ first_refusal n (map flaw_of (s ∷ listed a ++ listed c))
+  second_block_decides n m s a c head none e =
+      let q = listed_all a in
+      statements_after (n + 1) m (listed a) (listed c) none (omega arith) ∙ behind_head n (flaw_of s) (map flaw_of (listed a ++ listed c)) head
+
+  -- ---- the next statement of a block
+  pub next_refused : (n : ℕ) (r : Refusal) (rest b : Statements) (s : Statement) → rest ≡ s ▸ b → Some r ≡ first_refusal n (map flaw_of (statement_listed s)) →
+      Some r ≡ first_refusal n (map flaw_of (listed rest))
+  next_refused n r rest b s is refused = statements_stay n r (statement_listed s) (listed b) refused ∙ sym (ap (λ x. first_refusal n (map flaw_of (listed x))) is)
+
+  pub rest_decides : (n m : ℕ) (rest b : Statements) (s : Statement) → rest ≡ s ▸ b → None ≡ first_refusal n (map flaw_of (statement_listed s)) → m ≡ n + count_one s →
+      first_refusal m (map flaw_of (listed b)) ≡ first_refusal n (map flaw_of (listed rest))
+  rest_decides n m rest b s is none e =
+      let q = listed_one s in
+      statements_after n m (statement_listed s) (listed b) none (omega arith) ∙ sym (ap (λ x. first_refusal n (map flaw_of (listed x))) is)

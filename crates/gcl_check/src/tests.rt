@@ -1,0 +1,180 @@
+// The refusals, on programs over the names x and y.
+
+ghost use Rattle.std.specs.Prelude.{◌≡◌, ◌-◌, ◌^◌, ◌<◌, length, IfOk};
+ghost use Rattle.gcl_core.specs.Bounds.{BlockBelow};
+ghost use Rattle.gcl_core.specs.Listing.{count_all};
+ghost use Rattle.gcl_core.specs.Syntax.{done, ◌▸◌};
+ghost use Rattle.gcl_core.specs.Value.{Reads};
+ghost use Rattle.gcl_core.specs.Views.{expression_of, statement_of, statements_of};
+
+use crate::{CheckError, check};
+use gcl_core::{BinOp, Block, Checked, Expr, Names, Program, Stmt, Weight};
+use std::alloc::{AllocError, Global};
+use std::test::Fail;
+
+const X: u32 = 0;
+
+const Y: u32 = 1;
+
+fn none(alloc: Global) -> Block
+    ensures { statements_of result ≡ done }
+{
+    Block {
+        stmts: Vec::new(alloc),
+    }
+}
+
+fn one(alloc: Global, statement: Stmt) -> Result<Block, AllocError>
+    ensures { IfOk result (λ b. statements_of b ≡ statement_of statement ▸ done) }
+{
+    let mut stmts = Vec::new(alloc);
+    stmts.push(statement)?;
+    Ok(Block { stmts })
+}
+
+fn two(alloc: Global, first: Stmt, second: Stmt) -> Result<Block, AllocError>
+    ensures { IfOk result (λ b. statements_of b ≡ statement_of first ▸ statement_of second ▸ done) }
+{
+    let mut stmts = Vec::new(alloc);
+    stmts.push(first)?;
+    stmts.push(second)?;
+    Ok(Block { stmts })
+}
+
+fn checked(
+    alloc: Global,
+    body: Block,
+    value: Expr,
+) -> Result<Result<Checked, CheckError>, AllocError>
+    requires body { BlockBelow 2 (statements_of body) }
+    requires value { Reads (expression_of value) 2 }
+    requires count { count_all (statements_of body) < 2 ^ 32 - 1 }
+{
+    let mut names = Names::new(alloc);
+    names.add(b"x")?;
+    names.add(b"y")?;
+    Ok(check(Program {
+        names,
+        body,
+        result: value,
+    }))
+}
+
+// The weight of the second statement.
+fn second_weight(program: &Program) -> Option<Weight> {
+    match program.body.stmts.as_slice() {
+        [_, Stmt::Choice(weight, ..)] => Some(*weight),
+        _ => None,
+    }
+}
+
+#[test]
+#[tactic(auto, using(gcl_core::proofs::ViewLemmas::views))]
+fn weights(rt: HostRuntime) -> Result<(), Fail> {
+    let alloc = rt.alloc();
+    let table = [
+        (2, 3, Ok(Some(Weight { num: 2, den: 3 }))),
+        (0, 5, Ok(Some(Weight { num: 0, den: 1 }))),
+        (4, 4, Ok(Some(Weight { num: 1, den: 1 }))),
+        (1, 256, Ok(Some(Weight { num: 1, den: 256 }))),
+        (2, 512, Ok(Some(Weight { num: 1, den: 256 }))),
+        (5, 4, Err(CheckError::WeightAboveOne { stmt: 1 })),
+        (1, 0, Err(CheckError::ZeroDenominator { stmt: 1 })),
+        (1, 257, Err(CheckError::TooFine { stmt: 1 })),
+    ];
+    for (num, den, want) in table {
+        let choice = Stmt::Choice(Weight { num, den }, none(alloc), none(alloc));
+        let body = two(alloc, Stmt::Skip, choice)?;
+        let answer = checked(alloc, body, Expr::Num(0))?;
+        assert_eq!(rt;
+            answer.map(|checked| second_weight(checked.program())),
+            want
+        );
+    }
+    Ok(())
+}
+
+#[test]
+#[tactic(auto, using(gcl_core::proofs::ViewLemmas::views))]
+fn kinds_and_names(rt: HostRuntime) -> Result<(), Fail> {
+    let alloc = rt.alloc();
+    let kind = |stmt| Some(CheckError::KindMismatch { stmt });
+    let name = |stmt| Some(CheckError::UnknownName { stmt });
+
+    // x := true;
+    let body = one(alloc, Stmt::Set(X, Expr::Truth(true)))?;
+    assert_eq!(rt; checked(alloc, body, Expr::Var(X))?.err(), kind(0));
+
+    // while x { skip } x := 1;
+    let turn = one(alloc, Stmt::Skip)?;
+    let body = two(
+        alloc,
+        Stmt::While(Expr::Var(X), turn),
+        Stmt::Set(X, Expr::Num(1)),
+    )?;
+    assert_eq!(rt; checked(alloc, body, Expr::Var(X))?.err(), kind(0));
+
+    // while true { x ~ uniform(x); } y := y; with a result that is a truth
+    let turn = one(alloc, Stmt::Uniform(X, Expr::Var(X)))?;
+    let body = two(
+        alloc,
+        Stmt::While(Expr::Truth(true), turn),
+        Stmt::Set(Y, Expr::Var(Y)),
+    )?;
+    assert_eq!(rt; checked(alloc, body, Expr::Truth(false))?.err(), kind(3));
+
+    // if true { x := y; } else { } x := 1;
+    let then = one(alloc, Stmt::Set(X, Expr::Var(Y)))?;
+    let body = two(
+        alloc,
+        Stmt::If(Expr::Truth(true), then, none(alloc)),
+        Stmt::Set(X, Expr::Num(1)),
+    )?;
+    assert_eq!(rt; checked(alloc, body, Expr::Var(X))?.err(), name(1));
+
+    // x := y + true;
+    let sum = Expr::Bin(
+        BinOp::Add,
+        Box::new(alloc, Expr::Var(Y))?,
+        Box::new(alloc, Expr::Truth(true))?,
+    );
+    let body = one(alloc, Stmt::Set(X, sum))?;
+    assert_eq!(rt; checked(alloc, body, Expr::Var(X))?.err(), kind(0));
+
+    // skip;
+    let body = one(alloc, Stmt::Skip)?;
+    assert_eq!(rt; checked(alloc, body, Expr::Var(Y))?.err(), name(1));
+
+    // skip; y := 1;
+    let body = two(alloc, Stmt::Skip, Stmt::Set(Y, Expr::Num(1)))?;
+    assert_eq!(rt; checked(alloc, body, Expr::Var(Y))?.err(), None);
+    Ok(())
+}
+
+// So many names of two bytes.
+fn many_names(alloc: Global, count: u32) -> Result<Names, AllocError>
+    requires { count < 1000 }
+{
+    let mut names = Names::new(alloc);
+    for i in 0..count {
+        names.add(&[(i / 256) as u8, (i % 256) as u8])?;
+    }
+    Ok(names)
+}
+
+#[test]
+#[tactic(auto, using(gcl_core::proofs::ViewLemmas::views))]
+fn names(rt: HostRuntime) -> Result<(), Fail> {
+    let alloc = rt.alloc();
+    for (count, want) in [(256, None), (257, Some(CheckError::TooManyNames))] {
+        let names = many_names(alloc, count)?;
+        let body = none(alloc);
+        let answer = check(Program {
+            names,
+            body,
+            result: Expr::Num(0),
+        });
+        assert_eq!(rt; answer.err(), want);
+    }
+    Ok(())
+}
