@@ -1,0 +1,27 @@
+//! The outside: files, sinks and sources of bits, each with a count of its faults.
+#![tactic(auto)]
+
+mod calls;
+mod faults;
+mod file_bits;
+mod gate;
+mod host;
+mod list_bits;
+mod mem_files;
+mod mem_sink;
+mod outside;
+mod source;
+mod writing;
+
+pub use file_bits::FileBits;
+pub use gate::{Gate, Open};
+pub use host::{HostFiles, HostSink};
+pub use list_bits::ListBits;
+pub use mem_files::MemFiles;
+pub use mem_sink::MemSink;
+pub use outside::{Bits, Failed, Files, OpenError, Sink};
+pub use source::{MOST_BYTES, SourceError, read_source};
+pub use writing::put;
+
+#[cfg(test)]
+mod tests;
