@@ -1,0 +1,3 @@
+pub mod FairDeal
+pub mod Keeps
+pub mod Passes

@@ -1,0 +1,83 @@
+-- Lists of passes, while a board is made and closed.
+use Rattle.std.proofs.Common.{◌≡◌, ℕ, ◌+◌, ◌<◌, Bool, true, cond, min, List, [], ◌∷◌, ◌++◌, length, get_or, set, All, Any, sym, refl, ap, ◌∙◌, subst, arith}
+use mathlib.Core.Option.{some, some-injective, some-ne-none}
+use lib.ListN.{get_elem?}
+use Rattle.std.proofs.lemmas.List.Elements.{All-set, AllZip-get_or}
+use Rattle.std.proofs.lemmas.Slice.Zip.{AllZip-long}
+use Rattle.std.specs.List.{AllZip}
+use Rattle.atomic_table.specs.Seated.{TableId}
+use Rattle.claim_board.specs.declared.pass.Pass.{Pass}
+use Rattle.claim_board.specs.declared.hand.Hand.{Hand}
+use Rattle.number_lists.specs.Total.{total}
+use Rattle.number_lists.specs.Numbers.{times, once_below}
+use Rattle.claim_board.specs.Rule.{Kept}
+use Rattle.claim_board.specs.declared.hand.Terms.{Terms}
+use Rattle.claim_board.specs.declared.pass.Board.{Board}
+use Rattle.claim_board.specs.Board.{numbers_of, dealt_to, had_none, IsPassOf, IsSamePass, AreAllPasses}
+use Rattle.claim_board.proofs.Keeps.{all_dealt}
+use Rattle.number_lists.proofs.Totals.{total_put, total_snoc, total_get}
+use Rattle.number_lists.proofs.Times.{once_more}
+
+abbrev pub IsAt : TableId → ℕ → Pass → Type 0
+IsAt id blocks p = (p.seat.table_id ≡ id) × (p.seat.me.0.blocks ≡ blocks)
+
+-- one pass more, with the next number
+pub numbers_more : (items after : List Pass) (p : Pass) (n x : ℕ) → after ≡ items ++ p ∷ [] → numbers_of p ≡ n ∷ []
+    → total (λ (q : Pass). times x (numbers_of q)) items + times x (0 ∷ []) ≡ once_below x n → total (λ (q : Pass). times x (numbers_of q)) after + times x (0 ∷ []) ≡ once_below x (n + 1)
+numbers_more items after p n x is one all = let s = total_snoc (λ (q : Pass). times x (numbers_of q)) items p in let here : times x (numbers_of p) ≡ times x (n ∷ []) = ap (times x) one in
+    let same : total (λ (q : Pass). times x (numbers_of q)) after ≡ total (λ (q : Pass). times x (numbers_of q)) (items ++ p ∷ []) = ap (total (λ (q : Pass). times x (numbers_of q))) is in
+    let more = once_more x n in omega arith
+
+-- the first pass, put behind the others
+pub numbers_all : (items after : List Pass) (p : Pass) (n x : ℕ) → after ≡ items ++ p ∷ [] → numbers_of p ≡ 0 ∷ []
+    → total (λ (q : Pass). times x (numbers_of q)) items + times x (0 ∷ []) ≡ once_below x n → total (λ (q : Pass). times x (numbers_of q)) after ≡ once_below x n
+numbers_all items after p n x is one all = let s = total_snoc (λ (q : Pass). times x (numbers_of q)) items p in let here : times x (numbers_of p) ≡ times x (0 ∷ []) = ap (times x) one in
+    let same : total (λ (q : Pass). times x (numbers_of q)) after ≡ total (λ (q : Pass). times x (numbers_of q)) (items ++ p ∷ []) = ap (total (λ (q : Pass). times x (numbers_of q))) is in omega arith
+
+-- a pass that had None has one number in the list of the ended
+pub ended_once : (p : Pass) → had_none p ≡ true → 0 < length p.seat.me.0.ended
+ended_once p h = subst (λ (xs : List ℕ). 0 < length xs) (sym (p.ended ∙ ap (λ (b : Bool). cond b p.seat.me.0.numbers []) h ∙ p.single)) (omega arith)
+
+-- where one of the passes had None, some number stands in their lists of the ended
+pub some_ended : (items : List Pass) → Any (λ (p : Pass). had_none p ≡ true) items → 0 < total (λ (p : Pass). length p.seat.me.0.ended) items
+some_ended items any = let p : Pass = any.1 in let one = ended_once p any.4 in let le = total_get (λ (q : Pass). length q.seat.me.0.ended) items any.0 p any.2 in
+    let same : length (get_or items any.0 p).seat.me.0.ended ≡ length p.seat.me.0.ended = ap (λ (q : Pass). length q.seat.me.0.ended) any.3 in omega arith
+
+pub word_is : (l ws : List ℕ) (w : ℕ) → l ≡ ws → get_elem? ws 0 ≡ some w → get_or l 0 0 ≡ w
+word_is l ws w same at = ap (λ (xs : List ℕ). get_or xs 0 0) same ∙ go ws at
+  where
+    go : (xs : List ℕ) → get_elem? xs 0 ≡ some w → get_or xs 0 0 ≡ w
+    go [] e = absurd (some-ne-none w (sym e))
+    go (x ∷ xs) e = some-injective x w e
+
+-- What is known of the last seat. It stands for all passes, so that what was dealt to it was dealt to all
+pub gathered : (t : Terms) (n : ℕ) (views : List Hand) (id : ℕ) (v : Hand) (passes : List Pass) → Kept t.blocks t.workers n views → get_elem? views id ≡ some v
+    → ((x : ℕ) → times x v.numbers ≡ once_below x t.workers)
+    → ((x : ℕ) → times x v.dealt ≡ total (λ (p : Pass). times x (dealt_to p)) passes)
+    → length v.ended ≡ total (λ (p : Pass). length p.seat.me.0.ended) passes
+    → ((x : ℕ) → total (λ (p : Pass). times x (dealt_to p)) passes ≡ once_below x (min n t.blocks)) × (Any (λ (p : Pass). had_none p ≡ true) passes → min n t.blocks ≡ t.blocks)
+gathered t n views id v passes kept at numbers dealt ended = let all = all_dealt t.blocks t.workers n views id v kept at numbers in (
+  (λ x. sym (dealt x) ∙ all.0 x),
+  (λ any. all.1 (subst (λ (k : ℕ). 0 < k) (sym ended) (some_ended passes any))),
+)
+
+-- after a step of one pass they are all passes still
+pub all_passes_set : (b : Board) (ps : List Pass) (i : ℕ) (d q : Pass) → i < length ps → AreAllPasses b ps → IsPassOf b q → numbers_of q ≡ numbers_of (get_or ps i d) → AreAllPasses b (set ps i q)
+all_passes_set b ps i d q inside all is same = (
+  All-set (IsPassOf b) ps i q is all.0,
+  (λ x. let t = total_put (λ (p : Pass). times x (numbers_of p)) ps i d q inside in let now = all.1 x in let e : times x (numbers_of q) ≡ times x (numbers_of (get_or ps i d)) = ap (times x) same in omega arith),
+)
+
+-- after steps of several passes they are all passes still
+pub all_passes_same : (b : Board) (ps qs : List Pass) → AreAllPasses b ps → AllZip IsSamePass ps qs → AreAllPasses b qs
+all_passes_same b ps qs all same = (all_of ps qs all.0 same, λ x. sym (as_many x ps qs same) ∙ all.1 x)
+  where
+    all_of : (ps qs : List Pass) → All (IsPassOf b) ps → AllZip IsSamePass ps qs → All (IsPassOf b) qs
+    all_of ps qs h z k d inside = let long = AllZip-long IsSamePass ps qs z in let here : k < length ps = omega arith in
+        let pair = AllZip-get_or IsSamePass ps qs k d d z here in let is = h k d here in (pair.0 ∙ is.0, pair.1 ∙ is.1)
+
+    as_many : (x : ℕ) (ps qs : List Pass) → AllZip IsSamePass ps qs → total (λ (p : Pass). times x (numbers_of p)) ps ≡ total (λ (p : Pass). times x (numbers_of p)) qs
+    as_many x [] [] z = refl
+    as_many x [] (q ∷ qs) z = absurd z
+    as_many x (p ∷ ps) [] z = absurd z
+    as_many x (p ∷ ps) (q ∷ qs) z = let r = as_many x ps qs z.1 in let here : times x (numbers_of q) ≡ times x (numbers_of p) = ap (times x) z.0.2 in omega arith

@@ -1,0 +1,4 @@
+pub mod Deal
+pub mod Views
+pub mod Rule
+pub mod Board

@@ -1,0 +1,12 @@
+//! A board that deals blocks to threads, each block to one and once, by one atomic word.
+#![tactic(auto)]
+
+mod board;
+mod deal;
+mod hand;
+mod pass;
+#[cfg(test)]
+mod tests;
+
+pub use deal::{board_shows_a_dealing, deals_fairly};
+pub use pass::{Board, Dealt, Pass};
