@@ -1,0 +1,12 @@
+pub mod Pairs
+pub mod Ranges
+pub mod Readings
+pub mod Loops
+pub mod Rounds
+pub mod DrawnNumbers
+pub mod Refusals
+pub mod Counts
+pub mod Spelled
+pub mod Files
+pub mod Outputs
+pub mod Shown

@@ -1,0 +1,13 @@
+pub mod BitsRead
+pub mod Pace
+pub mod PlainRun
+pub mod Words
+pub mod OptionsView
+pub mod Spelling
+pub mod Lines
+pub mod Readings
+pub mod Quiet
+pub mod Output
+pub mod Delivery
+pub mod Stages
+pub mod Reads
