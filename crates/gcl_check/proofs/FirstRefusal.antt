@@ -4,24 +4,10 @@ use Rattle.std.proofs.lemmas.Bool.Decides.{nat_tests}
 use Rattle.std.proofs.lemmas.List.{length-map, map-append}
 use Rattle.gcl_core.specs.declared.kinds.Kind.TheVariants.{Number}
 use Rattle.gcl_core.specs.Acceptance.{Flaw, Refusal, too_many_names, expression_flaw, statement_flaw, first_refusal, flaws_of, refusal_of}
+use Rattle.gcl_core.proofs.Listed.{listed_one, listed_all}
 use Rattle.gcl_core.specs.Listing.{statement_listed, listed, count_one, count_all}
 use Rattle.gcl_core.specs.Syntax.{Statement, skip, assign, branch, loop, choice, uniform, observe, Statements, done, ◌▸◌, Source}
 use Rattle.gcl_core.specs.Targets.{sets}
-
--- ---- as many statements as are listed
-mutual
-  pub listed_one : (s : Statement) → length (statement_listed s) ≡ count_one s
-  listed_one (branch e a c) = let p = length-append (listed a) (listed c) in let q = listed_all a in let r = listed_all c in omega arith
-  listed_one (loop e a) = let q = listed_all a in omega arith
-  listed_one (choice w a c) = let p = length-append (listed a) (listed c) in let q = listed_all a in let r = listed_all c in omega arith
-  listed_one skip = refl
-  listed_one (assign x e) = refl
-  listed_one (uniform x e) = refl
-  listed_one (observe e) = refl
-
-  pub listed_all : (b : Statements) → length (listed b) ≡ count_all b
-  listed_all done = refl
-  listed_all (s ▸ b) = let p = length-append (statement_listed s) (listed b) in let q = listed_one s in let r = listed_all b in omega arith
 
 -- ---- flaws, and then others
 

@@ -6,3 +6,4 @@ pub mod EqualClasses
 pub mod Strings
 pub mod ViewLemmas
 pub mod Accepted
+pub mod Listed
