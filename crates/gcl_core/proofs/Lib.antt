@@ -7,3 +7,10 @@ pub mod Strings
 pub mod ViewLemmas
 pub mod Accepted
 pub mod Listed
+pub mod Sums
+pub mod Trees
+pub mod TreeWeights
+pub mod AttemptTrees
+pub mod DrawTrees
+pub mod DrawWeights
+pub mod WorkedDraws

@@ -6,6 +6,8 @@ pub mod Reading
 pub mod Draw
 pub mod Blocks
 pub mod Partition
+pub mod StringWeight
+pub mod OneDraw
 pub mod Runs
 pub mod Lowest
 pub mod Levels
