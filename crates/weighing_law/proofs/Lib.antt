@@ -1,0 +1,13 @@
+pub mod Passing
+pub mod WeightedLists
+pub mod Matching
+pub mod FittingValues
+pub mod DrawMatching
+pub mod Uniform
+pub mod BlockMatching
+pub mod Shares
+pub mod RoundTrees
+pub mod EveryLength
+pub mod WholeRuns
+pub mod AllOutcomes
+pub mod WeighingLaw
