@@ -20,6 +20,7 @@ use Rattle.gcl_parse.specs.Starts.{start, begun}
 use Rattle.gcl_parse.specs.Fronts.{is_sym, is_key, sym_code, key_code}
 use Rattle.gcl_parse.specs.Pushdown as m
 use Rattle.gcl_parse.specs.Pushdown.{Symbol, phrase, more, take_word, run, stops, accepts, goes_on, at_atom, at_sign, at_not, at_phrase, after_start, after_operand, may_end, whole}
+use Rattle.gcl_core.proofs.Ranks.{same_rank}
 use Rattle.gcl_parse.proofs.Steps as step
 
 -- The tokens read for one symbol: for each expression that stands before, where it goes on with one.
@@ -170,7 +171,7 @@ goes_to l v h = go (operator v) refl
   where
     go : (q : Option BinOp) → operator v ≡ q → (o : BinOp) × (operator v ≡ Some o) × (level_of o ≡ l)
     go None e = let n : goes_on l (operator v) ≡ false = rw e in cc
-    go (Some o) e = (o, e, step.same_rank (level_of o) l (rw e at h))
+    go (Some o) e = (o, e, same_rank (level_of o) l (rw e at h))
 
 row_goes_all : {l : Level} {v : Word} {o : BinOp} {s : List Symbol} {ts : List Word} → IsRow l → operator v ≡ Some o → level_of o ≡ l → All (phrase (above l) ∷ more l ∷ s) ts
     → All (more l ∷ s) (v ∷ ts)

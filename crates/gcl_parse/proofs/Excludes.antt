@@ -13,7 +13,8 @@ use Rattle.gcl_core.specs.GrammarRefusal.{RefusedAt, IsProgram}
 use Rattle.gcl_parse.specs.declared.error.ParseError.{ParseError}
 use Rattle.gcl_parse.specs.declared.error.ParseError.TheVariants.{TooDeep, Unexpected, OutOfMemory}
 use Rattle.gcl_parse.specs.Refused.{IsRefused, IsDerived}
-use Rattle.gcl_parse.proofs.Programs.{kinds-words, derives}
+use Rattle.gcl_core.proofs.TokenWords.{kinds-words}
+use Rattle.gcl_parse.proofs.Programs.{derives}
 use Rattle.gcl_parse.proofs.Refuses.{by_kinds}
 use Rattle.gcl_parse.specs.Beginnings.{beginnings}
 

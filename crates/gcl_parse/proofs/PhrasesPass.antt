@@ -15,6 +15,7 @@ use Rattle.gcl_parse.specs.Pushdown as m
 use Rattle.gcl_core.specs.Levels.{rank}
 use Rattle.gcl_parse.specs.Pushdown.{Symbol, phrase, more, take_word, run, stops, goes_on, after_operand}
 use Rattle.gcl_parse.specs.Parses.{operator_at}
+use Rattle.gcl_core.proofs.Ranks.{same_rank}
 use Rattle.gcl_parse.proofs.Steps as step
 
 -- how tightly the operator binds that comes next, or 0
@@ -48,7 +49,7 @@ no_operator l (v ∷ ts) h = go (operator v) refl
         test false t = rw (e, t)
         test true t =
             let b : rank (level_of o) < rank l = rw (← ap binding e) h in
-            let q = ap rank (step.same_rank (level_of o) l t) in
+            let q = ap rank (same_rank (level_of o) l t) in
             absurd (omega (arith, b, q))
 
 pub operator_binds : (v : Word) {o : BinOp} {l : Level} (ts : List Word) → operator v ≡ Some o → level_of o ≡ l → word_binds (first (v ∷ ts)) ≡ rank l

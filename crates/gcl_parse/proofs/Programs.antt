@@ -18,29 +18,14 @@ use Rattle.gcl_core.specs.Grammar.{ReadsProgram}
 use Rattle.gcl_core.specs.Places.{places_in_program}
 use Rattle.gcl_core.specs.Derivation.{Derives, place_before}
 use Rattle.gcl_core.specs.GrammarRefusal.{IsUnexpected}
+use Rattle.gcl_core.proofs.TokenWords.{Has, has_own, has_later, number_within, kind-as, kinds-by, kinds-words}
 use Rattle.gcl_parse.specs.Beginnings.{begins, beginnings}
 use Rattle.gcl_parse.specs.Fronts.{AreInRange}
 use Rattle.gcl_parse.specs.Pushdown.{run, stops, whole}
-use Rattle.gcl_parse.proofs.Naming.{Has, has_own, has_later, number_within}
 use Rattle.gcl_parse.proofs.OneProgram.{one_program}
 use Rattle.gcl_parse.proofs.Placed.{lefts, program_placed}
 use Rattle.gcl_parse.proofs.Kept.{WordBelow, WordsBelow, program_below, program_written, program_counted}
 use Rattle.gcl_parse.proofs.Refuses.{refused, stops_within}
-
--- ---- kinds
-
-kind-as : (k : TokenKind) (i : ℕ) → kind_of_word (as_word k i) ≡ k
-kind-as (token.Number n) i = refl
-kind-as token.Name i = refl
-kind-as (token.Key n) i = refl
-kind-as (token.Sym n) i = refl
-
-kinds-by : (names : List Name) (text : List ℕ) (ts : List Token) → map kind_of_word (map (word_of names text) ts) ≡ kinds_of ts
-kinds-by names text [] = refl
-kinds-by names text (t ∷ ts) = rw (kind-as t.kind (number_of names (slice_of text t)), kinds-by names text ts)
-
-pub kinds-words : (text : List ℕ) (tokens : List Token) → map kind_of_word (words_of text tokens) ≡ kinds_of tokens
-kinds-words text tokens = kinds-by (names_of text tokens) text tokens
 
 -- ---- numbers
 

@@ -18,6 +18,7 @@ use Rattle.gcl_parse.specs.declared.starts.Start.TheVariants as b'
 use Rattle.gcl_core.specs.Syntax.{Expression}
 use Rattle.gcl_core.specs.Grammar.{operator, IsRow, or_row, and_row, sum_row, product_row, ReadsPhrase, a_leaf, without_not, without_sign, an_else}
 use Rattle.gcl_core.specs.Levels.{level_of, above}
+use Rattle.gcl_core.proofs.Ranks.{same_rank}
 use Rattle.gcl_parse.specs.Starts.{start, begun}
 use Rattle.gcl_parse.specs.Fronts.{first, behind, key_code, sym_code, is_sym, is_key, number_at}
 use Rattle.gcl_parse.specs.Pushdown as m
@@ -110,17 +111,6 @@ row_begins sum_row [] s = refl
 row_begins sum_row (v ∷ ts) s = refl
 row_begins product_row [] s = refl
 row_begins product_row (v ∷ ts) s = refl
-
-pub same_rank : (a b : Level) → (rank a == rank b) ≡ true → a ≡ b
-same_rank l.Or l.Or h = refl
-same_rank l.And l.And h = refl
-same_rank l.Not l.Not h = refl
-same_rank l.Compare l.Compare h = refl
-same_rank l.Sum l.Sum h = refl
-same_rank l.Product l.Product h = refl
-same_rank l.Sign l.Sign h = refl
-same_rank l.Atom l.Atom h = refl
-same_rank _ _ h = cc
 
 found_of : (l : Level) (o p : BinOp) → if_of l o ≡ Some p → (o ≡ p) × ((rank (level_of o) == rank l) ≡ true)
 found_of l o p h = go (rank (level_of o) == rank l) refl

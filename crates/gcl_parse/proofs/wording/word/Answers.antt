@@ -2,7 +2,7 @@ use Rattle.std.proofs.Common.{◌≡◌, ◌∙◌, ap, sym}
 use Rattle.gcl_core.specs.declared.words.Word.TheVariants as w
 use Rattle.gcl_core.specs.Names.{with_name}
 use Rattle.gcl_core.specs.Words.{slice_of}
-use Rattle.gcl_parse.proofs.Naming.{number_with}
+use Rattle.gcl_core.proofs.TokenWords.{number_with}
 use Rattle.gcl_parse.proofs.wording.word.Goals as goal
 
 pub returns-in_ok-number-in-Name-clause-word : goal.returns-in_ok-number-in-Name-clause-word
