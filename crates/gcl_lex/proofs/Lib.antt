@@ -5,3 +5,4 @@ pub mod PieceByPiece
 pub mod InOrder
 pub mod OneReading
 pub mod Refusing
+pub mod OnePiece

@@ -1,7 +1,7 @@
--- One piece is the longest at the front of a text.
-use Rattle.std.proofs.Common.{◌≡◌, ℕ, zero, suc, ◌<◌, arith, true, List, [], ◌∷◌, take}
+-- One piece is the longest at the front of a text, and so a text is cut in one way.
+use Rattle.std.proofs.Common.{◌≡◌, refl, ℕ, zero, suc, ◌<◌, arith, true, List, [], ◌∷◌, take}
 use Rattle.gcl_core.specs.declared.tokens.PieceKind.{PieceKind}
-use Rattle.gcl_core.specs.Pieces.{is_piece, Longest}
+use Rattle.gcl_core.specs.Pieces.{is_piece, Longest, Piece, Leads, here, over}
 use Rattle.gcl_lex.proofs.Cuts.{begins, same_kind, some_len}
 
 no_longer : {c d : PieceKind} (text : List ℕ) (n m : ℕ) → Longest c text n → Longest d text m → n < m → ⊥
@@ -18,3 +18,16 @@ one_kind [] zero p q = absurd (let z = some_len _ [] zero p in omega (arith, z))
 one_kind text zero p q = absurd (let z = some_len _ text zero p in omega (arith, z))
 one_kind [] (suc n) p q = absurd (let w = p.within in omega (arith, w))
 one_kind (b ∷ bs) (suc n) p q = same_kind b (begins _ b (take n bs) q.is) (begins _ b (take n bs) p.is)
+
+pub no_longest : {k : PieceKind} {n : ℕ} → Longest k [] n → ⊥
+no_longest {k} {n} l = let z = some_len k [] n l in let w = l.within in omega (arith, z, w)
+
+pub one_cut : {text : List ℕ} {ps qs : List Piece} → Leads text ps [] → Leads text qs [] → ps ≡ qs
+one_cut here here = refl
+one_cut here (over l r) = absurd (no_longest l)
+one_cut (over l r) here = absurd (no_longest l)
+one_cut (over {text = text} {k = k} {n = n} {ps = ps} l r) (over {k = j} {n = m} {ps = qs} g q) =
+    let e = one_length text n m l g in
+    let f = one_kind text n l (rw (← e) at g) in
+    let i = one_cut r (rw (← e) at q) in
+    cc

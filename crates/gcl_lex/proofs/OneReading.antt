@@ -10,7 +10,7 @@ use Rattle.gcl_core.specs.Pieces.{Longest, NoPiece, Piece, Leads, here, over}
 use Rattle.gcl_core.specs.Tokens.{tokens_of}
 use Rattle.gcl_core.specs.Lexing.{may_stand, stands, IsLexed, LexRefusal, bad_byte, number_too_wide, name_too_long, Reaches, IsRefused, long_text, no_piece, wide_number, long_name}
 use Rattle.gcl_lex.proofs.Cuts.{both, some_len}
-use Rattle.gcl_lex.proofs.OneCut.{one_length, one_kind}
+use Rattle.gcl_lex.proofs.OneCut.{one_length, one_kind, no_longest}
 use Rattle.gcl_lex.proofs.PieceByPiece.{taken}
 
 -- no piece that may stand begins at the front
@@ -59,9 +59,6 @@ one_way (over {text = text} {k = k} {n = n} {ps = ps} l r) h e (over {k = other}
 
 pub tokens_once : (text : List ℕ) (ts us : List Token) → IsLexed text ts → IsLexed text us → ts ≡ us
 tokens_once text ts us a b = a.all ∙ ap tokens_of (one_way a.cut a.stand ends_empty b.cut b.stand ends_empty).pieces ∙ sym b.all
-
-no_longest : {k : PieceKind} {n : ℕ} → Longest k [] n → ⊥
-no_longest {k} {n} l = let z = some_len k [] n l in let w = l.within in omega (arith, z, w)
 
 none_stands : {text : List ℕ} {k : PieceKind} {n : ℕ} → NoPiece text → Longest k text n → ⊥
 none_stands {k = k} {n = n} h l = let e = h k n l.within in let i = l.is in cc

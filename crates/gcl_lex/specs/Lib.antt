@@ -1,3 +1,4 @@
 pub mod Lexes
 pub mod Cutting
 pub mod Reads
+pub mod PieceEnds

@@ -1,10 +1,13 @@
 // From a text to its tokens.
 
-ghost use Rattle.std.specs.Prelude.{◌≡◌, ◌≤◌, ℕ, List, length, IfOk, IfErr};
+ghost use Rattle.std.specs.Prelude.{◌≡◌, ◌≤◌, ◌++◌, ℕ, List, length, IsTrue, IfOk, IfErr};
+ghost use Rattle.gcl_core.specs.declared.tokens.PieceKind.{PieceKind as TheKind};
 ghost use Rattle.gcl_core.specs.declared.tokens.Token.{Token as TheToken};
+ghost use Rattle.gcl_core.specs.Pieces.{is_piece, Longest, Piece, Pieces};
 ghost use Rattle.gcl_core.specs.Lexing.{IsLexed, IsRefused, LexRefusal};
 ghost use Rattle.gcl_core.specs.Spans.{StandInOrder};
 ghost use Rattle.gcl_lex.specs.Lexes.{Refuses};
+ghost use Rattle.gcl_lex.specs.PieceEnds.{EndsBefore};
 
 use crate::cutting::front_of;
 use crate::error::LexError;
@@ -47,9 +50,17 @@ pub fn lex(alloc: Global, text: &[u8]) -> Result<Vec<Token>, LexError>
     }
 }
 
-/// A text has at most one list of tokens, or is refused for one reason at one place, and never both.
+/// A text is cut into pieces in at most one way. It has at most one list of tokens, or is refused for one reason at one place, and
+/// never both.
 pub fn one_answer()
+    ensures pieces { (text : List ℕ) (ps qs : List Piece) → Pieces text ps → Pieces text qs → ps ≡ qs }
     ensures tokens { (text : List ℕ) (ts us : List TheToken) → IsLexed text ts → IsLexed text us → ts ≡ us }
     ensures refusal { (text : List ℕ) (r s : LexRefusal) → IsRefused text r → IsRefused text s → r ≡ s }
     ensures apart { (text : List ℕ) (ts : List TheToken) (r : LexRefusal) → IsLexed text ts → IsRefused text r → ⊥ }
+{}
+
+/// A piece is the longest at its place, where the byte behind it does not go on with it.
+pub fn ends_here()
+    ensures { (k : TheKind) (bytes rest : List ℕ) → IsTrue (is_piece k bytes) → EndsBefore k rest
+        → Longest k (bytes ++ rest) (length bytes) }
 {}

@@ -9,4 +9,4 @@ mod piece;
 mod tests;
 
 pub use error::LexError;
-pub use lexing::{lex, one_answer};
+pub use lexing::{ends_here, lex, one_answer};

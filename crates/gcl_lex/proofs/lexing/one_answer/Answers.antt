@@ -1,3 +1,4 @@
+use Rattle.gcl_lex.proofs.OneCut.{one_cut}
 use Rattle.gcl_lex.proofs.OneReading as reading
 use Rattle.gcl_lex.proofs.lexing.one_answer.Goals as goal
 
@@ -9,3 +10,6 @@ returns-clause-refusal c = reading.refusal_once
 
 pub returns-clause-apart : goal.returns-clause-apart
 returns-clause-apart c = reading.apart
+
+pub returns-clause-pieces : goal.returns-clause-pieces
+returns-clause-pieces c text ps qs p q = one_cut p q
