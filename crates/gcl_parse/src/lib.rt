@@ -16,6 +16,6 @@ mod tests;
 mod wording;
 
 pub use error::ParseError;
-pub use laws::{kinds_decide, refused_once};
+pub use laws::{kinds_decide, one_program, refused_once};
 pub use offsets::Places;
 pub use parsing::{Parsed, parse};

@@ -1,0 +1,8 @@
+use Rattle.gcl_parse.proofs.Programs.{one_derivation, is_written}
+use Rattle.gcl_parse.proofs.laws.one_program.Goals as goal
+
+pub returns-clause-program : goal.returns-clause-program
+returns-clause-program c text tokens p q at places d e = one_derivation text tokens d e
+
+pub returns-clause-written : goal.returns-clause-written
+returns-clause-written c text tokens p at d = is_written d
