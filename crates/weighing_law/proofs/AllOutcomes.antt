@@ -1,5 +1,5 @@
 -- The outcomes of a run, each once, have masses that add up to 1.
-use Rattle.std.proofs.Common.{◌≡◌, ◌⊎◌, inl, inr, ⊎_elim, ℕ, zero, suc, ◌+◌, ◌*◌, ◌^◌, ◌≤◌, ◌<◌, ℤ, Bool, true, false, cond, List, [], ◌∷◌, ◌++◌, refl, sym, ap, ◌∙◌, subst, arith, true≢false}
+use Rattle.std.proofs.Common.{◌≡◌, ℕ, zero, suc, ◌+◌, ◌*◌, ◌^◌, ◌≤◌, Bool, true, false, cond, List, [], ◌∷◌, refl, sym, ap, ◌∙◌, arith, true≢false}
 use Rattle.std.proofs.lemmas.Bool.Decides.{Decides-int_eq}
 use Rattle.gcl_core.specs.declared.answers.Fault.{Fault}
 use Rattle.gcl_core.specs.declared.answers.Fault.TheVariants.{Overflow, ZeroDivisor, BadBound}
@@ -8,7 +8,6 @@ use Rattle.gcl_core.specs.declared.answers.Limit.TheVariants.{Turns, Attempts, R
 use Rattle.gcl_core.specs.declared.answers.Limits.{Limits}
 use Rattle.gcl_core.specs.declared.answers.Outcome.{Outcome}
 use Rattle.gcl_core.specs.declared.answers.Outcome.TheVariants as outcome
-use Rattle.gcl_core.specs.Fractions.{Fraction, IsOne}
 use Rattle.gcl_core.specs.Keeping.{IsChecked}
 use Rattle.gcl_core.specs.Outcomes.{same_fault, same_limit, same_outcome}
 use Rattle.gcl_core.specs.Syntax.{Source}
@@ -16,9 +15,8 @@ use Rattle.gcl_core.proofs.Trees.{Tree, leaf, flip, spread-add, spread-ext, wort
 use Rattle.gcl_core.proofs.TreeWeights.{chi}
 use Rattle.weighing_law.specs.Weighing.{times_in, sum_over, AddUpToOne, limited_mass}
 use Rattle.weighing_law.proofs.EveryLength.{worth-all}
-use Rattle.weighing_law.proofs.Matching.{EachLeaf}
 use Rattle.weighing_law.proofs.Shares.{Share, share-plus, cancel}
-use Rattle.weighing_law.proofs.WholeRuns.{all_bits, run_tree, run_within, tree_share, mass_pos}
+use Rattle.weighing_law.proofs.WholeRuns.{all_bits, run_tree, run_within, tree_share}
 
 -- ---- the same outcome
 same_faults : (f g : Fault) → same_fault f g ≡ true → f ≡ g

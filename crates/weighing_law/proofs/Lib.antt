@@ -11,3 +11,10 @@ pub mod EveryLength
 pub mod WholeRuns
 pub mod AllOutcomes
 pub mod WeighingLaw
+pub mod Comparing
+pub mod Scales
+pub mod ComparedBlocks
+pub mod WholeWeights
+pub mod Costs
+pub mod LimitsLaw
+pub mod WorkedPrograms

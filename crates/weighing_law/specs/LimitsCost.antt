@@ -1,6 +1,6 @@
 -- What the limits cost: how far the mass of an outcome under limits of attempts and rounds may be from what the program states. This
 -- project's own rule.
-use Rattle.std.specs.Prelude.{◌≡◌, Bool, true, false, Some, None}
+use Rattle.std.specs.Prelude.{◌≡◌, ◌≤◌, Bool, true, false, None}
 use Rattle.gcl_core.specs.declared.answers.Limit.TheVariants.{Turns, Attempts, Rounds}
 use Rattle.gcl_core.specs.declared.answers.Limits.{Limits}
 use Rattle.gcl_core.specs.declared.answers.Outcome.{Outcome}
@@ -26,12 +26,13 @@ is_cut_off (outcome.Limit Rounds) = true
 abbrev pub cut_off : Source → Limits → Fraction
 cut_off p l = plus (limited_mass p l (outcome.Limit Attempts)) (limited_mass p l (outcome.Limit Rounds))
 
--- Where without a limit of attempts a round fails with less than all weight, a value, a fault or the limit of turns has under the limits
--- at most the mass that is stated, and falls short of it by at most what the two limits weigh.
-pub record LimitsCost (p : Source) (l : Limits) : Type 0 where
-  pub at_most : (x : Outcome) → is_cut_off x ≡ false → AtMost (limited_mass p l x) (stated_mass p l x)
-  pub short_by : (x : Outcome) → is_cut_off x ≡ false → AtMost (stated_mass p l x) (plus (limited_mass p l x) (cut_off p l))
-
 -- without a limit of attempts a round fails with less than all weight
 abbrev pub MayPass : Source → Limits → Type 0
 MayPass p l = IsBelowOne (failed_mass p l.turns None)
+
+-- Where without a limit of attempts a round fails with less than all weight, a value, a fault or the limit of turns has under the limits
+-- at most the mass that is stated, and falls short of it by at most what the two limits weigh.
+pub record LimitsCost (p : Source) (l : Limits) : Type 0 where
+  pub fraction : (x : Outcome) → 1 ≤ (stated_mass p l x).1
+  pub at_most : (x : Outcome) → is_cut_off x ≡ false → AtMost (limited_mass p l x) (stated_mass p l x)
+  pub short_by : (x : Outcome) → is_cut_off x ≡ false → AtMost (stated_mass p l x) (plus (limited_mass p l x) (cut_off p l))

@@ -1,0 +1,100 @@
+-- The law at four programs, worked: what the strings weigh, and the masses.
+use Rattle.std.proofs.Common.{◌≡◌, ℕ, ◌*◌, ◌^◌, pos, [], ◌∷◌, refl}
+use Rattle.gcl_core.specs.declared.answers.Limit.TheVariants.{Turns, Attempts, Rounds}
+use Rattle.gcl_core.specs.declared.answers.Limits.{Limits}
+use Rattle.gcl_core.specs.declared.answers.Outcome.{Outcome}
+use Rattle.gcl_core.specs.declared.answers.Outcome.TheVariants as outcome
+use Rattle.gcl_core.specs.declared.syntax.BinOp.TheVariants as op
+use Rattle.gcl_core.specs.declared.syntax.Weight.{Weight}
+use Rattle.gcl_core.specs.Fractions.{IsShare}
+use Rattle.gcl_core.specs.Longest.{longest}
+use Rattle.gcl_core.specs.Runs.{run_on}
+use Rattle.gcl_core.specs.StringWeight.{outcome_weight}
+use Rattle.gcl_core.specs.Syntax.{number, variable, binary, assign, loop, choice, uniform, observe, done, ◌▸◌, Source}
+use Rattle.weighing_law.specs.Weighing.{limited_mass}
+use Rattle.weighing_law.specs.LimitsCost.{stated_mass, cut_off}
+
+abbrev limits : ℕ → ℕ → ℕ → Limits
+limits n r R = record { turns = n; attempts = r; rounds = R }
+
+abbrev weight : ℕ → ℕ → Weight
+weight a b = record { num = a; den = b }
+
+-- so many strings are read to the outcome, and so many it has of all by its mass
+abbrev Weighs : Source → Limits → ℕ → Outcome → ℕ → Type 0
+Weighs p l L x many = (outcome_weight (run_on p l) x L ≡ many) × IsShare many (2 ^ L) (limited_mass p l x)
+
+-- ---- choice 2/3 { x := 1; } or { x := 2; } return x;
+abbrev two_thirds : Source
+two_thirds = record { names = [] ∷ []; body = choice (weight 2 3) (assign 0 (number (pos 1)) ▸ done) (assign 0 (number (pos 2)) ▸ done) ▸ done; result = variable 0 }
+
+two_thirds_1 : Weighs two_thirds (limits 0 1 1) 2 (outcome.Value (pos 1)) 2
+two_thirds_1 = (refl, refl)
+
+two_thirds_2 : Weighs two_thirds (limits 0 1 1) 2 (outcome.Value (pos 2)) 1
+two_thirds_2 = (refl, refl)
+
+two_thirds_limit : Weighs two_thirds (limits 0 1 1) 2 (outcome.Limit Attempts) 1
+two_thirds_limit = (refl, refl)
+
+two_attempts_1 : Weighs two_thirds (limits 0 2 1) 4 (outcome.Value (pos 1)) 10
+two_attempts_1 = (refl, refl)
+
+two_attempts_2 : Weighs two_thirds (limits 0 2 1) 4 (outcome.Value (pos 2)) 5
+two_attempts_2 = (refl, refl)
+
+two_attempts_limit : Weighs two_thirds (limits 0 2 1) 4 (outcome.Limit Attempts) 1
+two_attempts_limit = (refl, refl)
+
+two_attempts_longest : longest 0 2 two_thirds.body ≡ 4
+two_attempts_longest = refl
+
+-- 2/3 is stated, and 1/16 is cut off
+two_thirds_stated : let m = stated_mass two_thirds (limits 0 2 1) (outcome.Value (pos 1)) in m.0 * 3 ≡ 2 * m.1
+two_thirds_stated = refl
+
+two_thirds_cut : let m = cut_off two_thirds (limits 0 2 1) in m.0 * 16 ≡ m.1
+two_thirds_cut = refl
+
+-- ---- x ~ uniform(2); y ~ uniform(2); observe x = 1 or y = 1; return x + y;
+abbrev one_of_two_coins : Source
+one_of_two_coins = record {
+  names = [] ∷ [] ∷ [];
+  body = uniform 0 (number (pos 2)) ▸ uniform 1 (number (pos 2)) ▸ observe (binary op.Or (binary op.Eq (variable 0) (number (pos 1))) (binary op.Eq (variable 1) (number (pos 1)))) ▸ done;
+  result = binary op.Add (variable 0) (variable 1);
+}
+
+two_rounds_1 : Weighs one_of_two_coins (limits 0 1 2) 4 (outcome.Value (pos 1)) 10
+two_rounds_1 = (refl, refl)
+
+two_rounds_2 : Weighs one_of_two_coins (limits 0 1 2) 4 (outcome.Value (pos 2)) 5
+two_rounds_2 = (refl, refl)
+
+two_rounds_limit : Weighs one_of_two_coins (limits 0 1 2) 4 (outcome.Limit Rounds) 1
+two_rounds_limit = (refl, refl)
+
+-- ---- go := 1; while go = 1 { choice 1/2 { x := x + 1; } or { go := 0; } } return x;
+abbrev geometric : Source
+geometric = record {
+  names = [] ∷ [] ∷ [];
+  body = assign 0 (number (pos 1))
+      ▸ loop (binary op.Eq (variable 0) (number (pos 1))) (choice (weight 1 2) (assign 1 (binary op.Add (variable 1) (number (pos 1))) ▸ done) (assign 0 (number (pos 0)) ▸ done) ▸ done)
+      ▸ done;
+  result = variable 1;
+}
+
+two_turns_0 : Weighs geometric (limits 2 1 1) 2 (outcome.Value (pos 0)) 2
+two_turns_0 = (refl, refl)
+
+two_turns_1 : Weighs geometric (limits 2 1 1) 2 (outcome.Value (pos 1)) 1
+two_turns_1 = (refl, refl)
+
+two_turns_limit : Weighs geometric (limits 2 1 1) 2 (outcome.Limit Turns) 1
+two_turns_limit = (refl, refl)
+
+-- ---- return 7;
+abbrev seven : Source
+seven = record { names = []; body = done; result = number (pos 7) }
+
+seven_7 : Weighs seven (limits 0 1 1) 0 (outcome.Value (pos 7)) 1
+seven_7 = (refl, refl)
