@@ -13,12 +13,12 @@ ghost use Rattle.zar_cli.specs.Quiet.{IsQuiet};
 ghost use Rattle.zar_cli.specs.Reads.{IsTextRefusal, AnswersRun, IsRunRefusal};
 
 use crate::lines::Refusal;
-use crate::plain::{PlainError, run_plain};
 use crate::said::{Said, Text};
 use crate::source::{read_checked, read_written};
 use crate::words::{Command, FileName, Source, WordsError, read_words};
 use gcl_core::{Answer, Checked, Limits, count_statements};
 use gcl_print::print;
+use plain_run::{PlainError, run_plain};
 use std::alloc::Global;
 use zar_io::{FileBits, Files, OpenError};
 

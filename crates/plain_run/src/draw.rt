@@ -5,7 +5,7 @@ ghost use Rattle.zar_io.specs.Faults.{Counts};
 ghost use Rattle.zar_io.specs.Bits.{ended_after, broken_after};
 ghost use Rattle.gcl_core.specs.Draw.{last_end, draw_on};
 ghost use Rattle.gcl_core.specs.Partition.{ends_of};
-ghost use Rattle.zar_cli.specs.BitsRead.{reading_of, CountsBits};
+ghost use Rattle.plain_run.specs.BitsRead.{reading_of, CountsBits};
 
 use crate::attempt::attempt_on;
 use gcl_core::Partition;

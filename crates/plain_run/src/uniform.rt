@@ -4,8 +4,8 @@ ghost use Rattle.std.specs.Prelude.{◌≡◌, ◌<◌, [], length, IfOk, IfNone
 ghost use Rattle.zar_io.specs.Faults.{Counts};
 ghost use Rattle.zar_io.specs.Bits.{ended_after, broken_after};
 ghost use Rattle.gcl_core.specs.Blocks.{uniform_on};
-ghost use Rattle.zar_cli.specs.BitsRead.{reading_of, CountsBits};
-ghost use Rattle.zar_cli.specs.Pace.{end_of};
+ghost use Rattle.plain_run.specs.BitsRead.{reading_of, CountsBits};
+ghost use Rattle.plain_run.specs.Pace.{end_of};
 
 use crate::blocks::Pace;
 use crate::draw::draw_on;

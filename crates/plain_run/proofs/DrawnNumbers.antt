@@ -10,7 +10,7 @@ use Rattle.gcl_core.specs.Reading.{gives, after}
 use Rattle.gcl_core.specs.Draw.{last_end, draw_on}
 use Rattle.gcl_core.specs.Blocks.{on, limit, by_class, uniform_ends, uniform_on}
 use Rattle.gcl_core.specs.declared.answers.Limit.TheVariants.{Attempts}
-use Rattle.zar_cli.specs.BitsRead.{reading_of}
+use Rattle.plain_run.specs.BitsRead.{reading_of}
 use Rattle.gcl_core.proofs.EqualClasses.{last_of_equal}
 
 -- the bound without its sign

@@ -7,8 +7,8 @@ ghost use Rattle.gcl_core.specs.Views.{expression_of, statement_of, statements_o
 ghost use Rattle.gcl_core.specs.Value.{value_of, Reads};
 ghost use Rattle.gcl_core.specs.Blocks.{loop_on, statement_on, block_on};
 ghost use Rattle.gcl_core.specs.Bounds.{StatementBelow, BlockBelow, IsWeight, StatementWeights, BlockWeights};
-ghost use Rattle.zar_cli.specs.BitsRead.{reading_of, CountsBits};
-ghost use Rattle.zar_cli.specs.Pace.{end_of};
+ghost use Rattle.plain_run.specs.BitsRead.{reading_of, CountsBits};
+ghost use Rattle.plain_run.specs.Pace.{end_of};
 
 use crate::draw::draw_on;
 use crate::uniform::uniform_on;

@@ -2,8 +2,8 @@ use Rattle.std.proofs.Common.{◌≡◌, ◌+◌, ◌≤◌, List, Bool, length}
 use Rattle.std.specs.Prelude.{IsTrue}
 use Rattle.gcl_core.specs.Draw.{last_end, bits_for, spelled, attempt_on, attempt_from}
 use Rattle.gcl_core.specs.Partition.{ends_of}
-use Rattle.zar_cli.specs.BitsRead.{CountsBits}
-use Rattle.zar_cli.proofs.attempt.attempt_on.Given as goal
+use Rattle.plain_run.specs.BitsRead.{CountsBits}
+use Rattle.plain_run.proofs.attempt.attempt_on.Given as goal
 
 -- the string u was read so far
 abbrev pub invariant-loop-class : goal.invariant-loop-class

@@ -4,8 +4,8 @@ use Rattle.gcl_core.specs.Views.{expression_of, list_of, statements_of}
 use Rattle.gcl_core.specs.Value.{value_of}
 use Rattle.gcl_core.specs.Blocks.{loop_on, block_on}
 use Rattle.gcl_core.specs.Bounds.{BlockBelow, IsWeight, BlockWeights}
-use Rattle.zar_cli.specs.BitsRead.{CountsBits}
-use Rattle.zar_cli.proofs.blocks.+run.Given as goal
+use Rattle.plain_run.specs.BitsRead.{CountsBits}
+use Rattle.plain_run.proofs.blocks.+run.Given as goal
 
 abbrev pub invariant-block_on-loop-statement : goal.invariant-block_on-loop-statement
 invariant-block_on-loop-statement g l = record {

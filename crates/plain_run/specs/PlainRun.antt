@@ -3,8 +3,8 @@ use Rattle.std.specs.Prelude.{◌≡◌, ℕ, Bool, true, Result, Ok, Err}
 use Rattle.zar_io.specs.Faults.{CountsFault}
 use Rattle.gcl_core.specs.declared.answers.Answer.{Answer}
 use Rattle.gcl_core.specs.declared.answers.Answer.TheVariants.{Ended, MoreBits}
-use Rattle.zar_cli.specs.declared.plain.PlainError.{PlainError}
-use Rattle.zar_cli.specs.declared.plain.PlainError.TheVariants.{Read, OutOfMemory}
+use Rattle.plain_run.specs.declared.plain.PlainError.{PlainError}
+use Rattle.plain_run.specs.declared.plain.PlainError.TheVariants.{Read, OutOfMemory}
 
 -- a fault was counted exactly where a read failed
 abbrev pub CountsRun : {A : Type 0} → Result A PlainError → ℕ → ℕ → Type 0

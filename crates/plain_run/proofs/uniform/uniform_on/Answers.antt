@@ -1,7 +1,7 @@
 use Rattle.std.proofs.Common.{Some, ◌∙◌, ap, arith}
 use Rattle.std.proofs.lemmas.Int.{ints}
-use Rattle.zar_cli.proofs.DrawnNumbers.{is_bound, end_fits, number_small, sets_number}
-use Rattle.zar_cli.proofs.uniform.uniform_on.Goals as goal
+use Rattle.plain_run.proofs.DrawnNumbers.{is_bound, end_fits, number_small, sets_number}
+use Rattle.plain_run.proofs.uniform.uniform_on.Goals as goal
 
 pub draw_on-requires : goal.draw_on-requires
 draw_on-requires g c = end_fits c.args.bound (is_bound c.args.bound c.ranges.bound (omega (arith, ints)))

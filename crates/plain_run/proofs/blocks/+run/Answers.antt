@@ -6,10 +6,10 @@ use Rattle.gcl_core.specs.Views.{statement_of, list_of}
 use Rattle.gcl_core.specs.Blocks.{statement_on}
 use Rattle.gcl_core.specs.Bounds.{StatementBelow, BlockBelow, IsWeight, StatementWeights, BlockWeights}
 use Rattle.gcl_core.proofs.ViewLemmas.{views, while_view}
-use Rattle.zar_cli.specs.BitsRead.{reading_of}
-use Rattle.zar_cli.specs.Pace.{end_of}
-use Rattle.zar_cli.proofs.Loops.{loop_faults, loop_ends}
-use Rattle.zar_cli.proofs.blocks.+run.Goals as goal
+use Rattle.plain_run.specs.BitsRead.{reading_of}
+use Rattle.plain_run.specs.Pace.{end_of}
+use Rattle.plain_run.proofs.Loops.{loop_faults, loop_ends}
+use Rattle.plain_run.proofs.blocks.+run.Goals as goal
 
 -- the statement at an index of a block, over as many variables
 module _ (i : ℕ) (statements : List Stmt) (s : Stmt) (lt : i < length statements) (is : s ≡ get_or statements i s) where

@@ -2,7 +2,7 @@
 use Rattle.std.proofs.Common.{◌≡◌, ℕ, suc, ◌+◌, ◌<◌, ◌-◌, Bool, Option, Some, None, List, ap, ◌∙◌, arith}
 use Rattle.gcl_core.specs.Reading.{Reading, gives, more_bits, after}
 use Rattle.gcl_core.specs.Draw.{attempt_on, draw_on}
-use Rattle.zar_cli.specs.BitsRead.{CountsBits}
+use Rattle.plain_run.specs.BitsRead.{CountsBits}
 
 -- ---- the count of the bits
 

@@ -1,8 +1,8 @@
 use Rattle.std.proofs.Common.{◌∙◌, ap, Some, Option, ℕ}
 use Rattle.gcl_core.specs.Partition.{ends_of}
-use Rattle.zar_cli.specs.BitsRead.{reading_of}
-use Rattle.zar_cli.proofs.Readings.{counts_then, draw_needs, draw_picks, draw_again}
-use Rattle.zar_cli.proofs.draw.draw_on.Goals as goal
+use Rattle.plain_run.specs.BitsRead.{reading_of}
+use Rattle.plain_run.proofs.Readings.{counts_then, draw_needs, draw_picks, draw_again}
+use Rattle.plain_run.proofs.draw.draw_on.Goals as goal
 
 pub returns-in-None-clause-value : goal.returns-in-None-clause-value
 returns-in-None-clause-value g c told =

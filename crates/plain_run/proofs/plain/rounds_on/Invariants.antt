@@ -2,8 +2,8 @@ use Rattle.std.proofs.Common.{◌≡◌, ◌-◌, length}
 use Rattle.std.specs.Prelude.{IsTrue}
 use Rattle.gcl_core.specs.Views.{source_of}
 use Rattle.gcl_core.specs.Runs.{rounds_on}
-use Rattle.zar_cli.specs.BitsRead.{CountsBits}
-use Rattle.zar_cli.proofs.plain.rounds_on.Given as goal
+use Rattle.plain_run.specs.BitsRead.{CountsBits}
+use Rattle.plain_run.proofs.plain.rounds_on.Given as goal
 
 abbrev pub invariant-loop : goal.invariant-loop
 invariant-loop g l = record {

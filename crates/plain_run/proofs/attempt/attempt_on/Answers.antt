@@ -6,8 +6,8 @@ use Rattle.gcl_core.specs.Draw.{class_of, have_one_class, last_end, bits_for, sp
 use Rattle.gcl_core.proofs.Strings.{shifted, shifted_one, shifted-fits, spelled-below, spelled-push, bit-le, decided_as, undecided_shorter, attempt_decided, attempt_needs, attempt_reads}
 use Rattle.gcl_core.specs.Partition.{ends_of}
 use Rattle.gcl_core.proofs.Classes.{class_within}
-use Rattle.zar_cli.proofs.Readings.{counts_none, counts_then}
-use Rattle.zar_cli.proofs.attempt.attempt_on.Goals as goal
+use Rattle.plain_run.proofs.Readings.{counts_none, counts_then}
+use Rattle.plain_run.proofs.attempt.attempt_on.Goals as goal
 
 -- the string u was read so far of k bits, it spells this number, and these many bits are still free
 module _ (ends : List ℕ) (k free number : ℕ) (u : List Bool) (e : length u + free ≡ k) (narrow : k ≤ 63) (q : number ≡ spelled u) where

@@ -2,8 +2,8 @@ use Rattle.std.proofs.Common.{◌≡◌, ◌-◌}
 use Rattle.std.specs.Prelude.{IsTrue}
 use Rattle.gcl_core.specs.Draw.{draw_on}
 use Rattle.gcl_core.specs.Partition.{ends_of}
-use Rattle.zar_cli.specs.BitsRead.{CountsBits}
-use Rattle.zar_cli.proofs.draw.draw_on.Given as goal
+use Rattle.plain_run.specs.BitsRead.{CountsBits}
+use Rattle.plain_run.proofs.draw.draw_on.Given as goal
 
 abbrev pub invariant-loop : goal.invariant-loop
 invariant-loop g l = record {

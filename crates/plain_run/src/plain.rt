@@ -8,9 +8,9 @@ ghost use Rattle.gcl_core.specs.Listing.{count_all};
 ghost use Rattle.gcl_core.specs.Views.{expression_of, statements_of, source_of};
 ghost use Rattle.gcl_core.specs.Value.{value_of, Reads};
 ghost use Rattle.gcl_core.specs.Runs.{InRange, outcome_of, rounds_on, run_on, run_leaves};
-ghost use Rattle.zar_cli.specs.declared.plain.PlainError.TheVariants.{Read, OutOfMemory};
-ghost use Rattle.zar_cli.specs.BitsRead.{reading_of, CountsBits};
-ghost use Rattle.zar_cli.specs.PlainRun.{CountsRun, ended_by, broken_by};
+ghost use Rattle.plain_run.specs.declared.plain.PlainError.TheVariants.{Read, OutOfMemory};
+ghost use Rattle.plain_run.specs.BitsRead.{reading_of, CountsBits};
+ghost use Rattle.plain_run.specs.PlainRun.{CountsRun, ended_by, broken_by};
 
 use crate::blocks::{Pace, block_on};
 use gcl_core::{Answer, Checked, Expr, Limit, Limits, Outcome, Program, eval};

@@ -1,0 +1,4 @@
+pub mod Readings
+pub mod Loops
+pub mod Rounds
+pub mod DrawnNumbers

@@ -1,0 +1,3 @@
+pub mod BitsRead
+pub mod Pace
+pub mod PlainRun
