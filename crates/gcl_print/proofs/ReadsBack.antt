@@ -1,5 +1,5 @@
 -- A canonical text is read back as its program, where a text has that program.
-use Rattle.std.proofs.Common.{◌≡◌, ◌∙◌, ℕ, ◌≤◌, refl, ap, sym, subst, true, List, [], ◌++◌, length, map}
+use Rattle.std.proofs.Common.{◌≡◌, ◌↔◌, ◌∙◌, ℕ, ◌≤◌, refl, ap, sym, subst, true, List, [], ◌++◌, length, map}
 use Rattle.gcl_core.specs.declared.tokens.PieceKind.{PieceKind}
 use Rattle.gcl_core.specs.declared.tokens.Token.{Token}
 use Rattle.gcl_core.specs.declared.words.Word.{Word}
@@ -15,7 +15,9 @@ use Rattle.gcl_core.specs.Derivation.{Derives, place_before}
 use Rattle.gcl_core.specs.Written.{IsWritten}
 use Rattle.gcl_core.specs.Marks.{Mark, words_among, marks_text}
 use Rattle.gcl_core.specs.Canonical.{canonical_marks, canonical_text}
-use Rattle.gcl_core.specs.Texts.{IsWrittenIn}
+use Rattle.gcl_core.specs.Acceptance.{IsAccepted}
+use Rattle.gcl_core.specs.Lowest.{in_lowest}
+use Rattle.gcl_core.specs.Texts.{IsWrittenIn, Spells}
 use Rattle.gcl_core.proofs.TokenWords.{kinds-words}
 use Rattle.gcl_lex.specs.PieceEnds.{EndsBefore}
 use Rattle.gcl_print.specs.ReadBack.{IsReadAs, HasProgram}
@@ -157,3 +159,14 @@ module _
 
   pub same_program : {s t : List ℕ} {p q : Source} → IsReadAs s p → IsReadAs t q → s ≡ t → p ≡ q
   same_program {p = p} r q e = one_reading q (subst (λ x. IsReadAs x p) e r)
+
+  -- ---- as it is checked
+
+  spells_too : {text other : List ℕ} {p : Source} {at : List ℕ} → IsWrittenIn text p at → HasProgram other p → (q : Source) → Spells text q → Spells other q
+  spells_too {p = p} h r q s =
+      let e = no_other (has_reading h) s.has in
+      record { written = p; places = r.places; has = r.written; accepted = subst IsAccepted e s.accepted; lowest = s.lowest ∙ ap in_lowest e }
+
+  -- two texts of one program spell the same
+  pub spell_alike : {text other : List ℕ} {p : Source} {at : List ℕ} → IsWrittenIn text p at → HasProgram other p → (q : Source) → (Spells text q ↔ Spells other q)
+  spell_alike {at = at} h r q = (spells_too h r q, spells_too r.written (record { places = at; written = h }) q)
