@@ -64,7 +64,7 @@ module _ (p : Source) (ok : IsChecked p) (n r : ℕ) where
   abbrev pair : Pair scale (weighted_ends n (Some r) p.body (zeros (length p.names))) (weighted_ends n None p.body (zeros (length p.names)))
   pair = pair_block n r (scale_of r) (scales r) p.body (checked_weights p ok) ok.numbers.body (zeros (length p.names)) (zeros_fit (length p.names))
 
-  whole : Whole scale (weighted_ends n None p.body (zeros (length p.names)))
+  pub whole : Whole scale (weighted_ends n None p.body (zeros (length p.names)))
   whole = whole_block n r (scale_of r) (scales r) p.body (checked_weights p ok) ok.numbers.body (zeros (length p.names)) (zeros_fit (length p.names))
 
   -- what is not cut off weighs no more under the limit

@@ -18,3 +18,6 @@ pub mod WholeWeights
 pub mod Costs
 pub mod LimitsLaw
 pub mod WorkedPrograms
+pub mod EntrySums
+pub mod ListedOutcomes
+pub mod StatedMasses
