@@ -1,0 +1,4 @@
+pub mod Tree
+pub mod Views
+pub mod Meaning
+pub mod TreeOf

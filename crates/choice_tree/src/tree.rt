@@ -1,0 +1,29 @@
+// Choice-fix trees.
+
+use gcl_core::{Expr, Weight};
+
+/// Trees in order.
+#[derive(Drop)]
+#[cycle(tree)]
+pub struct CfRow {
+    pub members: Vec<Cf>,
+}
+
+/// A tree. The number before an expression is that of the variable which is set.
+#[derive(Drop)]
+#[cycle(tree)]
+pub enum Cf {
+    /// The round fails.
+    Fail,
+    Set(u32, Expr),
+    /// The first tree where the value is not 0, else the second.
+    Test(Expr, Box<Cf>, Box<Cf>),
+    /// The first tree with this weight, else the second.
+    Choice(Weight, Box<Cf>, Box<Cf>),
+    /// A number from 0 up to the bound, which the expression gives, each with the same weight.
+    Uniform(u32, Expr),
+    /// One tree after the other. An empty row does nothing.
+    Row(CfRow),
+    /// The tree again and again, while the value is not 0.
+    Fix(Expr, Box<Cf>),
+}
