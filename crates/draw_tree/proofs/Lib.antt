@@ -1,0 +1,5 @@
+pub mod LeastPower
+pub mod Halves
+pub mod Merged
+pub mod Completed
+pub mod Attempts

@@ -1,6 +1,16 @@
 //! Draws as trees of flips.
 #![tactic(auto)]
 
-pub mod tree;
+mod complete;
+mod merging;
+#[cfg(test)]
+mod tests;
+mod tree;
+mod walking;
+mod widths;
 
+pub use complete::perfect;
+pub use merging::coalesce;
 pub use tree::{Attempt, Draw};
+pub use walking::attempt;
+pub use widths::bits_for;
