@@ -1,1 +1,3 @@
 pub mod ViewLemmas
+pub mod Meanings
+pub mod Rows

@@ -1,6 +1,8 @@
 //! Programs as choice-fix trees.
 #![tactic(auto)]
 
-pub mod tree;
+mod building;
+mod tree;
 
+pub use building::to_tree;
 pub use tree::{Cf, CfRow};
