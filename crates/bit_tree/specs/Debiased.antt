@@ -45,6 +45,10 @@ abbrev mutual
   row_coalesced done = done
   row_coalesced (t ▸ ts) = all_coalesced t ▸ row_coalesced ts
 
+-- what debiasing and coalescing give of a program's body, one after the other
+abbrev pub body_tree : Source → BitTree
+body_tree p = all_coalesced (debiased (tree_of p.body))
+
 -- The tied tree of a program: the tree of its body over decided draws, with its result and the number of its names.
 abbrev pub tied_tree : Source → TiedTree
 tied_tree p = record { body = with_draws decided_draw (tree_of p.body); result = p.result; vars = length p.names }

@@ -1,13 +1,13 @@
 -- The tree of a block means what the block does.
-use Rattle.std.proofs.Common.{◌≡◌, ℕ, zero, suc, ℤ, Bool, List, [], ◌∷◌, Option, Some, None, Ok, Err, refl, sym, ap, ◌∙◌}
+use Rattle.std.proofs.Common.{◌≡◌, ℕ, zero, suc, ℤ, Bool, List, Option, Some, None, Ok, Err, refl, ap, ◌∙◌}
 use Rattle.gcl_core.specs.declared.answers.Fault.{Fault}
-use Rattle.gcl_core.specs.declared.answers.Limit.TheVariants.{Turns, Attempts}
+use Rattle.gcl_core.specs.declared.answers.Limit.TheVariants.{Attempts}
 use Rattle.gcl_core.specs.Syntax.{Statement, skip, assign, branch, loop, choice, uniform, observe, Statements, done, ◌▸◌}
-use Rattle.gcl_core.specs.Value.{State, Value, value_of, is_zero}
+use Rattle.gcl_core.specs.Value.{State, Value, value_of}
 use Rattle.gcl_core.specs.Reading.{Reading, gives, more_bits, after}
 use Rattle.gcl_core.specs.Draw.{draw_on}
 use Rattle.gcl_core.specs.Blocks.{End, on, failed, fault, limit, by_value, by_truth, by_class, by_side, by_end, choice_ends, loop_on, statement_on, block_on}
-use Rattle.choice_tree.specs.Tree.{ChoiceTree, fails, sets, tests, chooses, draws_below, in_order, repeats, ChoiceTrees, no_tree, ◌▹◌}
+use Rattle.choice_tree.specs.Tree.{ChoiceTree, ChoiceTrees}
 use Rattle.choice_tree.specs.TreeOf.{in_front, member_of, members_of, tree_of}
 use Rattle.choice_tree.specs.Meaning.{choice_tree_on, choice_row_on}
 

@@ -1,12 +1,12 @@
 -- Rows that grow at their end while statements are read.
-use Rattle.std.proofs.Common.{◌≡◌, ◌∙◌, ℕ, ◌+◌, ◌<◌, ◌≤◌, List, [], ◌∷◌, ◌++◌, length, get_or, drop, Option, Some, None, refl, sym, ap}
+use Rattle.std.proofs.Common.{◌≡◌, ◌∙◌, ℕ, ◌+◌, ◌<◌, ◌≤◌, List, [], ◌∷◌, ◌++◌, length, get_or, drop, Some, None, refl, sym, ap}
 use Rattle.std.proofs.lemmas.List.{at_drop_more, at_drop_all}
 use Rattle.std.specs.Option.{option_map}
 use Rattle.gcl_core.specs.declared.syntax.Stmt.{Stmt}
 use Rattle.gcl_core.specs.Views as statements
 use Rattle.gcl_core.specs.Views.{statement_of}
 use Rattle.choice_tree.specs.declared.tree.Cf.{Cf}
-use Rattle.choice_tree.specs.Tree.{ChoiceTree, ChoiceTrees, no_tree, ◌▹◌}
+use Rattle.choice_tree.specs.Tree.{ChoiceTrees, no_tree, ◌▹◌}
 use Rattle.choice_tree.specs.TreeOf.{in_front, member_of, members_of}
 use Rattle.choice_tree.specs.Views.{choice_tree_of, list_of}
 

@@ -1,16 +1,16 @@
 -- The draw of some ends, read by prefixes, makes the attempts among their classes.
-use Rattle.std.proofs.Common.{◌≡◌, ⊎_elim, ℕ, zero, suc, ◌+◌, ◌-◌, ◌*◌, ◌^◌, ◌≤◌, ◌<◌, Bool, true, false, cond, Option, Some, None, List, [], ◌∷◌, ◌++◌, length, refl, sym, ap, ◌∙◌, subst, arith, true≢false}
+use Rattle.std.proofs.Common.{◌≡◌, ⊎_elim, ℕ, zero, suc, ◌+◌, ◌-◌, ◌*◌, ◌^◌, Bool, true, false, cond, Option, Some, None, List, [], ◌∷◌, ◌++◌, length, refl, sym, ap, ◌∙◌, arith}
 use Rattle.std.proofs.lemmas.List.{length_push}
 use Rattle.gcl_core.specs.Reading.{Reading, gives, more_bits, after}
-use Rattle.gcl_core.specs.Draw.{class_of, have_one_class, bit, spelled_from, spelled, first_of, decides, bits_for, last_end, attempt_from, attempt_on, draw_on}
+use Rattle.gcl_core.specs.Draw.{class_of, have_one_class, spelled, first_of, decides, bits_for, last_end, attempt_from, attempt_on, draw_on}
 use Rattle.gcl_core.proofs.Strings.{spelled_from-push, decides_whole, attempt_decided, attempt_needs, attempt_reads}
-use Rattle.draw_tree.specs.Flips.{Flips, leaf, flip}
+use Rattle.draw_tree.specs.Flips.{Flips}
 use Rattle.draw_tree.specs.Perfect.{perfect_from, perfect_draw}
 use Rattle.draw_tree.specs.Coalescing.{coalesced, decided_draw}
 use Rattle.draw_tree.specs.Walk.{by_bit, walk_on}
-use Rattle.draw_tree.specs.Prefixes.{only_leaf, by_leaf, attempt_by, draw_by}
+use Rattle.draw_tree.specs.Prefixes.{by_leaf, attempt_by, draw_by}
 use Rattle.draw_tree.proofs.Merged.{bool_cases, attempt_coalesced, attempt_walk, coalesced_is}
-use Rattle.draw_tree.proofs.Completed.{doubled, only_class, only_perfect, coalesced_perfect}
+use Rattle.draw_tree.proofs.Completed.{doubled, only_perfect, coalesced_perfect}
 
 module _ (ends : List ℕ) (width : ℕ) where
   first_is : (k : ℕ) (u : List Bool) → length u + k ≡ width → first_of width u ≡ spelled u * 2 ^ k

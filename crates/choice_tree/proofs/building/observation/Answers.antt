@@ -1,6 +1,6 @@
 use Rattle.std.proofs.Common.{◌≡◌, ap, ◌∙◌}
 use Rattle.gcl_core.specs.Views.{expression_of}
-use Rattle.choice_tree.specs.Tree.{fails, tests, in_order, no_tree}
+use Rattle.choice_tree.specs.Tree.{fails, in_order, no_tree}
 use Rattle.choice_tree.specs.Views.{choice_tree_of, list_of}
 use Rattle.choice_tree.proofs.ViewLemmas.{row_view, test_view, fail_view}
 use Rattle.choice_tree.proofs.building.observation.Goals as goal

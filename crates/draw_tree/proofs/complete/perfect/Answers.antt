@@ -1,8 +1,7 @@
 use Rattle.std.proofs.Common.{◌≡◌, ◌++◌, ap, ◌∙◌}
 use Rattle.std.proofs.lemmas.Result.{IfOk-weaker}
 use Rattle.gcl_core.specs.Draw.{bits_for, last_end}
-use Rattle.draw_tree.specs.Perfect.{perfect_from, perfect_draw}
-use Rattle.draw_tree.specs.Views.{flips_of}
+use Rattle.draw_tree.specs.Perfect.{perfect_from}
 use Rattle.draw_tree.specs.Walk.{walk_on}
 use Rattle.draw_tree.proofs.Completed.{walk_perfect}
 use Rattle.draw_tree.specs.Prefixes.{attempt_by}
