@@ -1,3 +1,5 @@
 pub mod ViewLemmas
 pub mod Meanings
 pub mod Rows
+pub mod Weights
+pub mod Places

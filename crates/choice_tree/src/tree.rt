@@ -1,5 +1,9 @@
 // Choice-fix trees.
 
+ghost use Rattle.std.specs.Prelude.{◌≡◌, ◌<◌, Some};
+ghost use Rattle.choice_tree.specs.Tree.{count, tree_at};
+ghost use Rattle.choice_tree.specs.Views.{choice_tree_of, choice_trees_of};
+
 use gcl_core::{Expr, Weight};
 
 /// Trees in order.
@@ -26,4 +30,21 @@ pub enum Cf {
     Row(CfRow),
     /// The tree again and again, while the value is not 0.
     Fix(Expr, Box<Cf>),
+}
+
+impl CfRow {
+    /// How many trees the row has.
+    pub fn count(&self) -> usize
+        ensures { result ≡ count (choice_trees_of self.now) }
+    {
+        self.members.len()
+    }
+
+    /// The tree at a place, counted from 0.
+    pub fn get(&self, i: usize) -> &Cf
+        requires { i < count (choice_trees_of self.now) }
+        ensures { tree_at (choice_trees_of self.now) i ≡ Some (choice_tree_of result.now) }
+    {
+        &self.members[i]
+    }
 }

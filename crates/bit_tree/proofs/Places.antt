@@ -1,0 +1,14 @@
+-- The members of a row, by place.
+use Rattle.std.proofs.Common.{◌≡◌, ◌∙◌, ℕ, zero, suc, ◌+◌, ◌<◌, List, [], ◌∷◌, length, get_or, Option, Some, refl, ap, arith}
+use Rattle.bit_tree.specs.declared.tree.Bt.{Bt}
+use Rattle.bit_tree.specs.Fine.{count, tree_at}
+use Rattle.bit_tree.specs.Views.{bit_tree_of, list_of}
+
+pub as_many : (ts : List Bt) → count (list_of ts) ≡ length ts
+as_many [] = refl
+as_many (t ∷ ts) = let e = as_many ts in omega arith
+
+pub at_place : (ts : List Bt) (i : ℕ) (d : Bt) → i < length ts → tree_at (list_of ts) i ≡ Some (bit_tree_of (get_or ts i d))
+at_place [] i d lt = absurd (omega arith)
+at_place (t ∷ ts) zero d lt = refl
+at_place (t ∷ ts) (suc i) d lt = at_place ts i d (omega arith)
