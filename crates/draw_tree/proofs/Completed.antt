@@ -17,13 +17,13 @@ use Rattle.draw_tree.proofs.Merged.{bool_cases, merged, unmerged, one_leaf, only
 pub doubled : (k : ℕ) → 2 ^ suc k ≡ 2 ^ k + 2 ^ k
 doubled k = omega arith
 
-some_numbers : (k : ℕ) → 1 ≤ 2 ^ k
+pub some_numbers : (k : ℕ) → 1 ≤ 2 ^ k
 some_numbers k = omega (arith, pow_pos k)
 
-low_half : (a k : ℕ) → a * 2 ^ suc k ≡ (2 * a + 0) * 2 ^ k
+pub low_half : (a k : ℕ) → a * 2 ^ suc k ≡ (2 * a + 0) * 2 ^ k
 low_half a k = let e = ap (λ x. a * x) (doubled k) in omega arith
 
-high_half : (a k : ℕ) → a * 2 ^ suc k + 2 ^ k ≡ (2 * a + 1) * 2 ^ k
+pub high_half : (a k : ℕ) → a * 2 ^ suc k + 2 ^ k ≡ (2 * a + 1) * 2 ^ k
 high_half a k = let e = ap (λ x. a * x) (doubled k) in omega arith
 
 no_leaf : (a b : Bool) (x y : Option ℕ) → (a ≡ true → b ≡ true → option_eq ◌==◌ x y ≡ true → ⊥) → leaf_of_both (cond a (Some x) None) (cond b (Some y) None) ≡ None
@@ -88,9 +88,12 @@ module _ (ends : List ℕ) where
       ∙ only_halves first (2 ^ k) (some_numbers k)
       ∙ ap (only_class first) (sym (doubled k))
 
-  decided_one : (k first : ℕ) → have_one_class ends first (2 ^ k) ≡ true → decided_from ends k first ≡ leaf (class_of ends first)
+  pub decided_one : (k first : ℕ) → have_one_class ends first (2 ^ k) ≡ true → decided_from ends k first ≡ leaf (class_of ends first)
   decided_one zero first t = refl
   decided_one (suc k) first t = ap (λ b. cond b (leaf (class_of ends first)) (flip (decided_from ends k first) (decided_from ends k (first + 2 ^ k)))) t
+
+  pub decided_more : (k first : ℕ) → have_one_class ends first (2 ^ suc k) ≡ false → decided_from ends (suc k) first ≡ flip (decided_from ends k first) (decided_from ends k (first + 2 ^ k))
+  decided_more k first f = ap (λ b. cond b (leaf (class_of ends first)) (flip (decided_from ends k first) (decided_from ends k (first + 2 ^ k)))) f
 
   apart : (k first : ℕ) → have_one_class ends first (2 ^ suc k) ≡ false → equal_leaves (coalesced (perfect_from ends k first)) (coalesced (perfect_from ends k (first + 2 ^ k))) ≡ false
   apart k first f =
@@ -122,7 +125,7 @@ module _ (ends : List ℕ) where
       ∙ unmerged _ _ (apart k first f)
       ∙ ap (λ d. flip d (coalesced (perfect_from ends k (first + 2 ^ k)))) (coalesced_from k first)
       ∙ ap (flip (decided_from ends k first)) (coalesced_from k (first + 2 ^ k))
-      ∙ sym (ap (λ b. cond b (leaf (class_of ends first)) (flip (decided_from ends k first) (decided_from ends k (first + 2 ^ k)))) f))
+      ∙ sym (decided_more k first f))
       (bool_cases (have_one_class ends first (2 ^ suc k)))
 
   pub coalesced_perfect : coalesced (perfect_draw ends) ≡ decided_draw ends

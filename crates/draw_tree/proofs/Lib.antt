@@ -3,3 +3,4 @@ pub mod Halves
 pub mod Merged
 pub mod Completed
 pub mod Attempts
+pub mod OneDraw

@@ -2,6 +2,7 @@
 #![tactic(auto)]
 
 mod complete;
+mod laws;
 mod merging;
 #[cfg(test)]
 mod tests;
@@ -10,6 +11,7 @@ mod walking;
 mod widths;
 
 pub use complete::perfect;
+pub use laws::one_decided_draw;
 pub use merging::coalesce;
 pub use tree::{Attempt, Draw};
 pub use walking::attempt;
