@@ -6,3 +6,7 @@ pub mod Readings
 pub mod Runs
 pub mod Costs
 pub mod Whole
+pub mod SoundCode
+pub mod Patch
+pub mod EmitSteps
+pub mod Written

@@ -1,6 +1,11 @@
 pub mod Instruction
+pub mod Stored
 pub mod Views
 pub mod Code
 pub mod Machine
 pub mod Running
 pub mod Fits
+pub mod Sound
+pub mod Assembled
+pub mod Models
+pub mod Assemble

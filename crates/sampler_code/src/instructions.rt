@@ -1,6 +1,11 @@
 // Instructions.
 
+ghost use Rattle.std.specs.Prelude.{◌≡◌, ◌<◌, ◌+◌, ◌++◌, ◌∷◌, [], length, Some, slice_get, slice_set, OnOk};
+ghost use Rattle.sampler_code.specs.Views.{instruction_of};
+
 use gcl_core::Expr;
+use std::alloc::{AllocError, Global};
+use std::marker::Model;
 
 /// An instruction of flat code. Targets are indices of instructions; one that names no jump goes on to the next index.
 #[derive(Drop)]
@@ -27,4 +32,76 @@ pub enum Instr {
     Fail,
     /// Ends with the value of the expression, or with its fault.
     Return(Expr),
+}
+
+/// Instructions in order, by their indices from 0.
+#[derive(Drop)]
+pub struct Instructions {
+    instrs: Vec<Instr>,
+}
+
+impl Model for Instructions {
+    ghost use Rattle.std.specs.Prelude.{List};
+    ghost use Rattle.sampler_code.specs.Instruction.{Instruction};
+    ghost use Rattle.sampler_code.specs.Views.{instructions_of};
+    ghost use Rattle.std.specs.Coded.{codes};
+    ghost use Rattle.sampler_code.specs.Stored.{expression_code};
+
+    ghost Value = { List Instruction };
+
+    ghost coded = { Prim.hlevel (codes, expression_code) };
+
+    ghost view = { λ c. instructions_of c.instrs.items };
+}
+
+impl Instructions {
+    /// No instruction. It takes no memory.
+    pub fn new(alloc: Global) -> Instructions
+        ensures { result ≡ [] }
+    {
+        Instructions {
+            instrs: Vec::new(alloc),
+        }
+    }
+
+    /// How many there are.
+    pub fn count(&self) -> usize
+        ensures { result ≡ length self.now }
+    {
+        self.instrs.len()
+    }
+
+    /// The instruction at an index.
+    pub fn get(&self, i: usize) -> &Instr
+        requires { i < length self.now }
+        ensures { slice_get self.now i ≡ Some (instruction_of result.now) }
+    {
+        &self.instrs[i]
+    }
+
+    /// The index after that of an instruction.
+    pub fn after(&self, i: usize) -> usize
+        requires { i < length self.now }
+        ensures { result ≡ i + 1 }
+    {
+        let inside = i < self.instrs.len();
+        prove!(inside);
+        i + 1
+    }
+
+    /// One more at the end. An error comes only where memory is wanting.
+    pub fn put(&mut self, instr: Instr) -> Result<(), AllocError>
+        ensures { OnOk result (self.new ≡ self.old ++ instruction_of instr ∷ []) }
+    {
+        self.instrs.push(instr)?;
+        Ok(())
+    }
+
+    /// Another in place of that at an index.
+    pub fn set(&mut self, i: usize, instr: Instr)
+        requires { i < length self.old }
+        ensures { self.new ≡ slice_set self.old i (instruction_of instr) }
+    {
+        self.instrs[i] = instr;
+    }
 }

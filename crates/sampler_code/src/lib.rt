@@ -1,6 +1,11 @@
 //! Flat code of trees on bits.
 #![tactic(auto)]
 
+pub mod assembling;
+pub mod code;
+pub mod draws;
 pub mod instructions;
 
-pub use instructions::Instr;
+pub use assembling::assemble;
+pub use code::Code;
+pub use instructions::{Instr, Instructions};
