@@ -66,6 +66,7 @@ impl Code {
     pub fn at(&self, i: usize) -> &Instr
         requires { i < length self.now.instrs }
         ensures instruction { slice_get self.now.instrs i ≡ Some (instruction_of result.now) }
+        ensures within { i + 1 < 2 ^ 64 }
     {
         self.instrs.get(i)
     }

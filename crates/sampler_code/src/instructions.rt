@@ -1,6 +1,6 @@
 // Instructions.
 
-ghost use Rattle.std.specs.Prelude.{◌≡◌, ◌<◌, ◌+◌, ◌++◌, ◌∷◌, [], length, Some, slice_get, slice_set, OnOk};
+ghost use Rattle.std.specs.Prelude.{◌≡◌, ◌<◌, ◌+◌, ◌^◌, ◌++◌, ◌∷◌, [], length, Some, slice_get, slice_set, OnOk};
 ghost use Rattle.sampler_code.specs.Views.{instruction_of};
 
 use gcl_core::Expr;
@@ -71,10 +71,11 @@ impl Instructions {
         self.instrs.len()
     }
 
-    /// The instruction at an index.
+    /// The instruction at an index, which has one after it.
     pub fn get(&self, i: usize) -> &Instr
         requires { i < length self.now }
-        ensures { slice_get self.now i ≡ Some (instruction_of result.now) }
+        ensures instruction { slice_get self.now i ≡ Some (instruction_of result.now) }
+        ensures within { i + 1 < 2 ^ 64 }
     {
         &self.instrs[i]
     }

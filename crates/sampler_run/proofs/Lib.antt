@@ -1,0 +1,4 @@
+pub mod Below
+pub mod Asking
+pub mod Settle
+pub mod Feeding

@@ -1,0 +1,3 @@
+pub mod Resting
+pub mod Telling
+pub mod Views

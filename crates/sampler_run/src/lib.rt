@@ -1,0 +1,7 @@
+//! Runs of samplers, bit by bit.
+#![tactic(auto)]
+
+mod machine;
+mod stepping;
+
+pub use machine::Progress;
