@@ -73,14 +73,16 @@ impl Code {
 
     /// The number of loops. Each counter of turns is below it.
     pub fn loops(&self) -> usize
-        ensures { result ≡ self.now.loops }
+        ensures value { result ≡ self.now.loops }
+        ensures sound { Sound self.now.instrs self.now.loops self.now.vars }
     {
         self.loops
     }
 
-    /// The number of variables. Each variable of an instruction is below it.
+    /// The number of variables. Each variable of an instruction is below it. A run over so many has an answer.
     pub fn vars(&self) -> u32
-        ensures { result ≡ self.now.vars }
+        ensures value { result ≡ self.now.vars }
+        ensures answers { (l : Limits) (w : List Bool) → InRange l → IsSome (run_of self.now.instrs self.now.vars self.now.loops l w) }
     {
         self.vars
     }

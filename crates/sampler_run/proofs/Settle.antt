@@ -1,19 +1,22 @@
 -- A machine that is answered comes to rest.
-use Rattle.std.proofs.Common.{◌≡◌, ℕ, zero, suc, ◌<◌, ◌≤◌, Bool, true, false, List, [], ◌∷◌, length, Option, Some, None, refl, sym, ap, ◌∙◌, arith}
-use Rattle.std.specs.Prelude.{slice_get}
+use Rattle.std.proofs.Common.{◌≡◌, ℕ, zero, suc, ◌<◌, ◌≤◌, Bool, true, false, ℤ, pos, List, [], ◌∷◌, length, Option, Some, None, refl, sym, ap, ◌∙◌, subst, ⊎_elim, arith}
+use Rattle.std.specs.Prelude.{slice_get, replicate, IsSome}
+use Rattle.std.proofs.lemmas.Bool.{cases_lt}
+use Rattle.std.proofs.lemmas.List.{length-replicate}
 use Rattle.std.proofs.lemmas.Option.{slice_get_within}
 use Rattle.gcl_core.specs.declared.answers.Limits.{Limits}
 use Rattle.gcl_core.specs.declared.answers.Outcome.{Outcome}
 use Rattle.gcl_core.specs.declared.answers.Answer.{Answer}
 use Rattle.gcl_core.specs.declared.answers.Answer.TheVariants.{Ended, MoreBits}
 use Rattle.sampler_code.specs.Instruction.{Instruction}
-use Rattle.sampler_code.specs.Machine.{Machine, Next, goes, asks, ends, stuck, act, step}
-use Rattle.sampler_code.specs.Running.{Reached, follow, within_steps, most_steps, rest_of}
-use Rattle.sampler_code.specs.Sound.{Answered}
-use Rattle.sampler_code.proofs.Steps.{longer}
+use Rattle.sampler_code.specs.Machine.{Machine, idle, Next, goes, asks, ends, stuck, act, step}
+use Rattle.sampler_code.specs.Running.{Reached, follow, within_steps, most_steps, rest_of, run_of, Reaches}
+use Rattle.sampler_code.specs.Sound.{Sound, Answered}
+use Rattle.sampler_code.proofs.Steps.{longer, one_answer}
 use Rattle.sampler_run.specs.declared.machine.Progress.{Progress}
 use Rattle.sampler_run.specs.declared.machine.Progress.TheVariants as progress
 use Rattle.sampler_run.specs.Resting.{Asks, Rests, side}
+use Rattle.sampler_run.specs.Held.{Held, Kept, rest_on}
 use Rattle.sampler_run.specs.Telling.{TellsAnswer, Tells, used_in, UsedIs, PlaceIs}
 
 -- the steps that need no bit, of at most k
@@ -131,3 +134,46 @@ tells_answer (Ended x n) p q h i = h ∙ sym i
 pub tells_one : (o : Option Reached) (p q : Progress) → Tells o p → Tells o q → p ≡ q
 tells_one None p q h i = absurd h
 tells_one (Some a) p q h i = tells_answer a.answer p q h i
+
+-- ---- what a state that is kept tells
+
+pub kept_tells : (s : Held) (L V : ℕ) (p : Progress) → Kept s L V p → Tells (rest_on s []) p × UsedIs (rest_on s []) s.machine.used × PlaceIs (rest_on s []) s.machine.index
+kept_tells s L V p k = at_rest s.code s.limits p s.machine k.answered k.rests
+
+is_some : {A : Type 0} (o : Option A) (a : A) → o ≡ Some a → IsSome o
+is_some None a e = absurd (cc)
+is_some (Some x) a e = refl
+
+pub some_answer : {A : Type 0} (o : Option A) → IsSome o → (a : A) × (o ≡ Some a)
+some_answer None h = absurd (cc)
+some_answer (Some a) h = (a, refl)
+
+pub kept_some : (s : Held) (L V : ℕ) (p : Progress) → Kept s L V p → (v : List Bool) → IsSome (rest_on s v)
+kept_some s L V p k v = is_some (rest_on s v) (k.answered v).0 (k.answered v).1
+
+-- whatever is reached is the answer
+pub kept_only : (s : Held) (L V : ℕ) (p : Progress) → Kept s L V p → (v : List Bool) (a : Reached) → Reaches s.code s.limits s.machine v a → rest_on s v ≡ Some a
+kept_only s L V p k v a reached =
+    let q = most_steps s.code s.limits in
+    let h = k.answered v in
+    ⊎_elim
+    (λ (lt : reached.0 < q). longer s.code s.limits reached.0 q s.machine v a (omega arith) reached.1)
+    (λ le. h.1 ∙ ap Some (one_answer s.code s.limits q reached.0 s.machine v _ a le h.1 reached.1))
+    (cases_lt reached.0 q)
+
+-- ---- a run before its first step
+
+abbrev pub first_of : ℕ → List ℤ → List ℕ → Machine
+first_of R vs ts = record { index = 0; vars = vs; turns = ts; tries = 0; rounds = R; used = 0; drawing = idle }
+
+module _ (code : List Instruction) (vars loops : ℕ) (l : Limits) (vs : List ℤ) (ts : List ℕ) (e : vs ≡ replicate vars (pos 0)) (f : ts ≡ replicate loops 0) where
+  pub first_same : (v : List Bool) → rest_of code l (first_of l.rounds vs ts) v ≡ run_of code vars loops l v
+  first_same v =
+      ap (λ vs. rest_of code l (first_of l.rounds vs ts) v) e ∙ ap (λ ts. rest_of code l (first_of l.rounds (replicate vars (pos 0)) ts) v) f
+
+  pub first_sound : Sound code loops vars → Sound code (length ts) (length vs)
+  first_sound h =
+      subst (λ n. Sound code (length ts) n) (sym (ap length e ∙ length-replicate vars (pos 0))) (subst (λ n. Sound code n vars) (sym (ap length f ∙ length-replicate loops 0)) h)
+
+  pub first_answered : ((v : List Bool) → IsSome (run_of code vars loops l v)) → Answered code l (first_of l.rounds vs ts)
+  first_answered h v = some_answer (rest_of code l (first_of l.rounds vs ts) v) (subst IsSome (sym (first_same v)) (h v))

@@ -1,3 +1,5 @@
 pub mod Resting
 pub mod Telling
 pub mod Views
+pub mod Held
+pub mod Models

@@ -2,6 +2,8 @@
 #![tactic(auto)]
 
 mod machine;
+mod state;
 mod stepping;
 
 pub use machine::Progress;
+pub use state::State;
