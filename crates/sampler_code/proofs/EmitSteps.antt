@@ -6,6 +6,7 @@ use Rattle.bit_tree.specs.Fine.{LabelsHaveArms, RowHasArms}
 use Rattle.bit_tree.specs.Views.{bit_tree_of, list_of}
 use Rattle.sampler_code.specs.Instruction.{Instruction, Goto}
 use Rattle.sampler_code.specs.Code.{size, arms_size, loops, row_loops, tree_code, row_code, arms_code}
+use Rattle.sampler_code.specs.Fits.{TreeFits, RowFits}
 use Rattle.sampler_code.specs.Assemble.{more_arms, rest_arms, starts_of, rest_starts, between}
 use Rattle.sampler_code.proofs.Sizes.{one_length, arms_length}
 use Rattle.sampler_code.proofs.Patch.{arms_more, starts_more}
@@ -82,6 +83,9 @@ labelled_on xs i x lt e h = (subst RowHasArms (list_drop xs i x lt e) h).1
 
 pub labelled_here : (xs : List Bt) (i : ℕ) (x : Bt) → i < length xs → x ≡ get_or xs i x → RowHasArms (list_of (drop i xs)) → LabelsHaveArms (bit_tree_of x)
 labelled_here xs i x lt e h = (subst RowHasArms (list_drop xs i x lt e) h).0
+
+pub fits_on : (xs : List Bt) (i : ℕ) (x : Bt) → i < length xs → x ≡ get_or xs i x → TreeFits (bit_tree_of x) → RowFits (list_of (drop (i + 1) xs)) → RowFits (list_of (drop i xs))
+fits_on xs i x lt e h rest = subst RowFits (sym (list_drop xs i x lt e)) (h, rest)
 
 -- the arms' jumps go to where the code ends
 pub arms_end : (ts : BitTrees) (c0 c1 : List Instruction) (k n : ℕ) → c1 ≡ c0 ++ arms_code ts (length c0) k 0 → n ≡ length c1 → n ≡ length c0 + arms_size ts

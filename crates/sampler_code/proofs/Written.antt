@@ -1,8 +1,10 @@
 -- A whole code is written.
-use Rattle.std.proofs.Common.{◌≡◌, ℕ, ◌+◌, List, [], ◌∷◌, ◌++◌, length, ap, ◌∙◌, arith}
+use Rattle.std.proofs.Common.{◌≡◌, ℕ, ◌+◌, List, [], ◌∷◌, ◌++◌, length, ap, ◌∙◌, subst, arith}
 use Rattle.gcl_core.specs.Syntax.{Expression}
 use Rattle.bit_tree.specs.Tree.{BitTree, fail, store, test, pick, range, row, fix, BitTrees, done, ◌▸◌, TiedTree}
 use Rattle.bit_tree.specs.Fine.{IsFine, RowIsFine, LabelsHaveArms, RowHasArms}
+use Rattle.gcl_core.specs.Bounds.{ExpressionFits}
+use Rattle.sampler_code.specs.Fits.{TreeFits, TiedFits}
 use Rattle.sampler_code.specs.Instruction.{Instruction, Return}
 use Rattle.sampler_code.specs.Code.{loops, tree_code, code_of}
 use Rattle.sampler_code.specs.Assembled.{Assembled, assembled}
@@ -21,6 +23,9 @@ module _ (vars : ℕ) where
     pub row_has_arms : (ts : BitTrees) → RowIsFine vars ts → RowHasArms ts
     row_has_arms done h = tt
     row_has_arms (t ▸ ts) h = (has_arms t h.0, row_has_arms ts h.1)
+
+pub numbers_of : (t : TiedTree) (x : Expression) → TreeFits t.body → x ≡ t.result → ExpressionFits x → TiedFits t
+numbers_of t x body e fits = record { body = body; result = subst ExpressionFits e fits }
 
 pub written : (t : TiedTree) (c0 c1 c2 : List Instruction) (x : Expression) (j : ℕ) → c0 ≡ [] → c1 ≡ c0 ++ tree_code t.body (length c0) 0 → x ≡ t.result → c2 ≡ c1 ++ Return x ∷ [] → j ≡ 0 + loops t.body → ◌≡◌ {A = Assembled} (record { instrs = c2; loops = j; vars = t.vars }) (assembled t)
 written t c0 c1 c2 x j e f ex g h =

@@ -11,7 +11,7 @@ ghost use Rattle.sampler_code.specs.Instruction.{Instruction};
 ghost use Rattle.sampler_code.specs.Code.{tree_code, row_code, arms_code, arms_size, loops, row_loops};
 ghost use Rattle.sampler_code.specs.Assemble.{between, starts_of};
 ghost use Rattle.sampler_code.specs.Assembled.{assembled};
-ghost use Rattle.sampler_code.specs.Fits.{TiedFits};
+ghost use Rattle.sampler_code.specs.Fits.{TreeFits, RowFits};
 ghost use Rattle.sampler_code.specs.Running.{Follows};
 
 use crate::code::Code;
@@ -40,6 +40,7 @@ fn emit(code: &mut Instructions, t: &Bt, next: &mut usize, alloc: Global) -> Res
     ensures code { OnOk result (code.new ≡ code.old ++ tree_code (bit_tree_of t.now) (length code.old) next.old) }
     ensures loops { OnOk result (next.new ≡ next.old + loops (bit_tree_of t.now)) }
     ensures low { OnOk result (next.new ≤ length code.new) }
+    ensures fits { OnOk result (TreeFits (bit_tree_of t.now)) }
 {
     match t {
         Bt::Fail => code.put(Instr::Fail),
@@ -88,6 +89,7 @@ fn emit_row(
     ensures code { OnOk result (code.new ≡ code.old ++ row_code (bit_trees_of members.now) (length code.old) next.old) }
     ensures loops { OnOk result (next.new ≡ next.old + row_loops (bit_trees_of members.now)) }
     ensures low { OnOk result (next.new ≤ length code.new) }
+    ensures fits { OnOk result (RowFits (bit_trees_of members.now)) }
 {
     for t in &members.members {
         emit(code, t, next, alloc)?;
@@ -109,6 +111,7 @@ fn emit_pick(
     ensures code { OnOk result (code.new ≡ code.old ++ tree_code (pick (flips_of draw.now) (bit_trees_of arms.now)) (length code.old) next.old) }
     ensures loops { OnOk result (next.new ≡ next.old + row_loops (bit_trees_of arms.now)) }
     ensures low { OnOk result (next.new ≤ length code.new) }
+    ensures fits { OnOk result (RowFits (bit_trees_of arms.now)) }
 {
     code.put(Instr::Tries)?;
     let first = code.count();
@@ -135,6 +138,7 @@ fn emit_arms(
     ensures loops { OnOk result (next.new ≡ next.old + row_loops (bit_trees_of arms.now)) }
     ensures starts { OnOk result (starts.new.items ≡ starts_of (bit_trees_of arms.now) (length code.old)) }
     ensures low { OnOk result (next.new ≤ length code.new) }
+    ensures fits { OnOk result (RowFits (bit_trees_of arms.now)) }
 {
     emit_open(code, arms, next, starts, alloc)?;
     let end = code.count();
@@ -158,6 +162,7 @@ fn emit_open(
     ensures loops { OnOk result (next.new ≡ next.old + row_loops (bit_trees_of arms.now)) }
     ensures starts { OnOk result (starts.new.items ≡ starts_of (bit_trees_of arms.now) (length code.old)) }
     ensures low { OnOk result (next.new ≤ length code.new) }
+    ensures fits { OnOk result (RowFits (bit_trees_of arms.now)) }
 {
     for (i, arm) in arms.members.iter().enumerate() {
         put_between(code, i)?;
@@ -187,7 +192,6 @@ fn close(code: &mut Instructions, starts: &[usize], i: usize, end: usize)
 /// memory is wanting.
 pub fn assemble(alloc: Global, t: &Tied) -> Result<Code, AllocError>
     requires fine { TiedIsFine (tied_tree_of t.now) }
-    requires numbers { TiedFits (tied_tree_of t.now) }
     ensures code { IfOk result (λ c. c ≡ assembled (tied_tree_of t.now)) }
     ensures follows { IfOk result (λ c. Follows (tied_tree_of t.now) c.instrs) }
 {

@@ -7,7 +7,7 @@ use Rattle.choice_tree.proofs.building.observation.Goals as goal
 
 pub returns : goal.returns
 returns c =
-    let condition : expression_of c.in_ok-copy.field-0 ≡ expression_of c.args.e.now = c.in_ok-copy.ensures in
+    let condition : expression_of c.in_ok-copy.field-0 ≡ expression_of c.args.e.now = c.in_ok-copy.ensures.same in
     let passes : choice_tree_of c.in_ok-passes.passes.value ≡ in_order no_tree = ap choice_tree_of c.in_ok-passes.ensures.ok ∙ row_view _ ∙ ap (λ ts. in_order (list_of ts)) c.new-members.ensures.items in
     let fails : choice_tree_of c.in_ok-fails.fails.value ≡ fails = ap choice_tree_of c.in_ok-fails.ensures.ok ∙ fail_view in
     test_view _ _ _ ∙ cc

@@ -11,7 +11,7 @@ use Rattle.bit_tree.proofs.ViewLemmas.{views, test_view, fix_view}
 use Rattle.sampler_code.specs.Instruction.{Instruction, Unless, Loop}
 use Rattle.sampler_code.specs.Code.{tree_code, arms_code}
 use Rattle.sampler_code.proofs.Patch.{patch_test, patch_fix, patch_pick, filler_length, starts_length}
-use Rattle.sampler_code.proofs.EmitSteps.{one_more, rows_on, arms_on, starts_on, loops_on, labelled_on, arms_end}
+use Rattle.sampler_code.proofs.EmitSteps.{one_more, rows_on, arms_on, starts_on, loops_on, labelled_on, fits_on, arms_end}
 use Rattle.sampler_code.proofs.assembling.+emit.Goals as goal
 
 pub emit-emit_pick-requires : goal.emit-emit_pick-requires
@@ -50,7 +50,7 @@ emit-returns-in_ok-copy-in-Test-clause-code t c =
     ∙ ap (λ y. test x (bit_tree_of y) (bit_tree_of c.in-Test.b.value)) (sym c.deref.ensures) ∙ ap (λ y. test x a (bit_tree_of y)) (sym c.deref-in-Test.ensures) in
     patch_test x a b _ _ c.args.next.now c.emit.new.next c.args.code.now c.put-in-Test.new.self c.emit.new.code c.put-in-Test-2.new.self c.emit-in-Test.new.code c.set.new.self c.set-in-Test.new.self c.count-test.result c.count-middle.result c.count-other.result c.count-end.result
     c.count-test.ensures c.in_ok-put-in-Test.ensures c.in_ok-emit-in-Test.ensures.code c.count-middle.ensures c.in_ok-put-in-Test-2.ensures c.count-other.ensures c.in_ok-emit-in-Test-2.ensures.code c.in_ok-emit-in-Test.ensures.loops
-    (c.set.ensures ∙ ap (λ y. slice_set c.emit-in-Test.new.code c.count-test.result (Unless y c.count-other.result)) c.in_ok-copy-in-Test.ensures) c.count-end.ensures c.set-in-Test.ensures
+    (c.set.ensures ∙ ap (λ y. slice_set c.emit-in-Test.new.code c.count-test.result (Unless y c.count-other.result)) c.in_ok-copy-in-Test.ensures.same) c.count-end.ensures c.set-in-Test.ensures
     ∙ ap (λ t. c.args.code.now ++ tree_code t (length c.args.code.now) c.args.next.now) (sym e)
 
 pub emit-returns-in_ok-put-in-Fix-3-clause-code : goal.emit-returns-in_ok-put-in-Fix-3-clause-code
@@ -61,7 +61,7 @@ emit-returns-in_ok-put-in-Fix-3-clause-code t c =
     ap bit_tree_of c.in-Fix.is ∙ fix_view c.in-Fix.e c.in-Fix.body ∙ ap (λ y. fix x (bit_tree_of y)) (sym c.deref-in-Fix.ensures) in
     patch_fix x a _ c.args.next.now _ c.args.code.now c.put-in-Fix.new.self c.put-in-Fix-2.new.self c.emit-in-Fix.new.code c.set-in-Fix.new.self c.put-in-Fix-3.new.self c.count-jump.result c.count-first.result c.count-test-in-Fix.result
     c.in_ok-put-in-Fix.ensures c.count-jump.ensures c.in_ok-put-in-Fix-2.ensures c.count-first.ensures c.in_ok-emit-in-Fix.ensures.code refl c.count-test-in-Fix.ensures c.set-in-Fix.ensures
-    (c.in_ok-put-in-Fix-3.ensures ∙ ap (λ y. c.set-in-Fix.new.self ++ Loop c.args.next.now c.count-first.result y ∷ []) c.in_ok-copy-in-Fix.ensures)
+    (c.in_ok-put-in-Fix-3.ensures ∙ ap (λ y. c.set-in-Fix.new.self ++ Loop c.args.next.now c.count-first.result y ∷ []) c.in_ok-copy-in-Fix.ensures.same)
     ∙ ap (λ t. c.args.code.now ++ tree_code t (length c.args.code.now) c.args.next.now) (sym e)
 
 pub emit_arms-returns-clause-code : goal.emit_arms-returns-clause-code
@@ -84,6 +84,7 @@ emit_open-loop-i-preserved t c =
       loops_on xs i x c.loop-i.next c.emit.new.next c.loop-i-test.true c.arm-item.is ek ∙ inv.2,
       arms_on xs i x c.loop-i.code c.put_between.new.code c.emit.new.code c.loop-i.next c.emit.new.next c.loop-i-test.true c.arm-item.is b h ek ∙ inv.3,
       starts_on xs i x c.loop-i.code c.put_between.new.code c.emit.new.code c.loop-i.next c.loop-i.starts.items c.push.new.self.items c.loop-i-test.true c.arm-item.is b h (c.in_ok-push.ensures.items ∙ ap (λ n. c.loop-i.starts.items ++ n ∷ []) c.count.ensures) ∙ inv.4,
+      λ rest. inv.5 (fits_on xs i x c.loop-i-test.true c.arm-item.is c.in_ok-emit.ensures.fits rest),
     )
 
 pub emit_pick-fill-requires-clause-labels : goal.emit_pick-fill-requires-clause-labels
@@ -114,4 +115,5 @@ emit_row-loop-t-preserved t c =
       c.in_ok-emit.ensures.low,
       loops_on xs i x c.loop-t.next c.emit.new.next c.loop-t-test.true c.t-item.is ek ∙ inv.2,
       rows_on xs i x c.loop-t.code c.emit.new.code c.loop-t.next c.emit.new.next c.loop-t-test.true c.t-item.is h ek ∙ inv.3,
+      λ rest. inv.4 (fits_on xs i x c.loop-t-test.true c.t-item.is c.in_ok-emit.ensures.fits rest),
     )

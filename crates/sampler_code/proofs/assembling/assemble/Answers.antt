@@ -3,7 +3,7 @@ use Rattle.bit_tree.specs.Views.{tied_tree_of}
 use Rattle.sampler_code.specs.Assembled.{Assembled}
 use Rattle.sampler_code.specs.Running.{Follows}
 use Rattle.sampler_code.proofs.SoundCode.{tied_follows}
-use Rattle.sampler_code.proofs.Written.{has_arms, written}
+use Rattle.sampler_code.proofs.Written.{has_arms, numbers_of, written}
 use Rattle.sampler_code.proofs.assembling.assemble.Goals as goal
 
 pub emit-requires-clause-arms : goal.emit-requires-clause-arms
@@ -13,12 +13,12 @@ pub of-requires : goal.of-requires
 of-requires c = record {
   tree = tied_tree_of c.args.t.now;
   fine = c.requires.fine;
-  numbers = c.requires.numbers;
-  same = written (tied_tree_of c.args.t.now) _ _ _ _ _ c.new-instrs.ensures c.in_ok-emit.ensures.code c.in_ok-copy.ensures c.in_ok-put.ensures c.in_ok-emit.ensures.loops;
+  numbers = numbers_of (tied_tree_of c.args.t.now) _ c.in_ok-emit.ensures.fits c.in_ok-copy.ensures.same c.in_ok-copy.ensures.fits;
+  same = written (tied_tree_of c.args.t.now) _ _ _ _ _ c.new-instrs.ensures c.in_ok-emit.ensures.code c.in_ok-copy.ensures.same c.in_ok-put.ensures c.in_ok-emit.ensures.loops;
 }
 
 pub returns-clause-follows : goal.returns-clause-follows
 returns-clause-follows c =
     let t = tied_tree_of c.args.t.now in
-    let e = c.of.ensures ∙ written t _ _ _ _ _ c.new-instrs.ensures c.in_ok-emit.ensures.code c.in_ok-copy.ensures c.in_ok-put.ensures c.in_ok-emit.ensures.loops in
-    subst (λ (p : Assembled). Follows t p.instrs) (sym e) (tied_follows t c.requires.fine c.requires.numbers)
+    let e = c.of.ensures ∙ written t _ _ _ _ _ c.new-instrs.ensures c.in_ok-emit.ensures.code c.in_ok-copy.ensures.same c.in_ok-put.ensures c.in_ok-emit.ensures.loops in
+    subst (λ (p : Assembled). Follows t p.instrs) (sym e) (tied_follows t c.requires.fine (numbers_of t _ c.in_ok-emit.ensures.fits c.in_ok-copy.ensures.same c.in_ok-copy.ensures.fits))
