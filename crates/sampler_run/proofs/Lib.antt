@@ -2,3 +2,4 @@ pub mod Below
 pub mod Asking
 pub mod Settle
 pub mod Feeding
+pub mod Compiled

@@ -1,9 +1,13 @@
 //! Runs of samplers, bit by bit.
 #![tactic(auto)]
 
+mod compiling;
 mod machine;
+mod sampler;
 mod state;
 mod stepping;
 
+pub use compiling::compile;
 pub use machine::Progress;
+pub use sampler::Sampler;
 pub use state::State;
