@@ -15,8 +15,8 @@ use Rattle.sampler_run.specs.Resting.{Asks, Rests, side}
 use Rattle.sampler_run.specs.Telling.{TellsAnswer, Tells, used_in, UsedIs, PlaceIs}
 
 -- more bits are needed
-abbrev pub Needs : Option Reached → Type 0
-Needs o = Tells o progress.NeedBit
+abbrev pub NeedsMore : Option Reached → Type 0
+NeedsMore o = Tells o progress.NeedBit
 
 -- the most bits that are still read, of at most k
 abbrev more_after : Answer → ℕ → ℕ
@@ -33,22 +33,22 @@ bits_left (suc k) f = more_of (f []) (max (bits_left k (λ v. f (false ∷ v))) 
 
 -- k bits are enough
 pub record Shallow (k : ℕ) (f : List Bool → Option Reached) : Type 0 where
-  pub by : (v : List Bool) → k ≤ length v → Needs (f v) → ⊥
+  pub by : (v : List Bool) → k ≤ length v → NeedsMore (f v) → ⊥
 
 pub shallow_same : (k : ℕ) (f g : List Bool → Option Reached) → ((v : List Bool) → g v ≡ f v) → Shallow k f → Shallow k g
-shallow_same k f g e h = record { by = λ v le n. h.by v le (subst Needs (e v) n) }
+shallow_same k f g e h = record { by = λ v le n. h.by v le (subst NeedsMore (e v) n) }
 
 pub shallow_on : (k : ℕ) (f g : List Bool → Option Reached) (b : Bool) → ((v : List Bool) → g v ≡ f (b ∷ v)) → Shallow (suc k) f → Shallow k g
-shallow_on k f g b e h = record { by = λ v le n. h.by (b ∷ v) (omega arith) (subst Needs (e v) n) }
+shallow_on k f g b e h = record { by = λ v le n. h.by (b ∷ v) (omega arith) (subst NeedsMore (e v) n) }
 
 pub shallow_more : (k : ℕ) (f g : List Bool → Option Reached) (b : Bool) → ((v : List Bool) → g v ≡ f (b ∷ v)) → Shallow k f → Shallow k g
-shallow_more k f g b e h = record { by = λ v le n. h.by (b ∷ v) (omega arith) (subst Needs (e v) n) }
+shallow_more k f g b e h = record { by = λ v le n. h.by (b ∷ v) (omega arith) (subst NeedsMore (e v) n) }
 
 none_after : (a : Answer) (n : ℕ) → (TellsAnswer a progress.NeedBit → ⊥) → more_after a n ≡ 0
 none_after (MoreBits u) n h = absurd (h refl)
 none_after (Ended x u) n h = refl
 
-none_more : (o : Option Reached) (n : ℕ) → (Needs o → ⊥) → more_of o n ≡ 0
+none_more : (o : Option Reached) (n : ℕ) → (NeedsMore o → ⊥) → more_of o n ≡ 0
 none_more None n h = refl
 none_more (Some s) n h = none_after s.answer n h
 
@@ -56,7 +56,7 @@ one_after : (a : Answer) (n : ℕ) → TellsAnswer a progress.NeedBit → more_a
 one_after (MoreBits u) n h = refl
 one_after (Ended x u) n h = absurd (cc)
 
-one_more_bit : (o : Option Reached) (n : ℕ) → Needs o → more_of o n ≡ suc n
+one_more_bit : (o : Option Reached) (n : ℕ) → NeedsMore o → more_of o n ≡ suc n
 one_more_bit None n h = absurd h
 one_more_bit (Some s) n h = one_after s.answer n h
 
@@ -84,7 +84,7 @@ side_less k f false = omega arith
 side_less k f true = omega arith
 
 -- a bit less
-pub bit_less : (k : ℕ) (f g : List Bool → Option Reached) (b : Bool) → Shallow k f → Needs (f []) → ((v : List Bool) → g v ≡ f (b ∷ v)) → bits_left k g < bits_left k f
+pub bit_less : (k : ℕ) (f g : List Bool → Option Reached) (b : Bool) → Shallow k f → NeedsMore (f []) → ((v : List Bool) → g v ≡ f (b ∷ v)) → bits_left k g < bits_left k f
 unfolding bits_left
 bit_less zero f g b h n e = absurd (h.by [] (omega arith) n)
 bit_less (suc k) f g b h n e =
@@ -96,7 +96,7 @@ bit_less (suc k) f g b h n e =
 
 -- ---- runs read at most as many bits as they take steps
 
-shallow_step : (x : Next) (m : Machine) (k : ℕ) (f : Machine → List Bool → Option Reached) → ((m : Machine) → Shallow k (f m)) → (w : List Bool) → suc k ≤ length w → Needs (follow x m f w) → ⊥
+shallow_step : (x : Next) (m : Machine) (k : ℕ) (f : Machine → List Bool → Option Reached) → ((m : Machine) → Shallow k (f m)) → (w : List Bool) → suc k ≤ length w → NeedsMore (follow x m f w) → ⊥
 shallow_step (goes n) m k f h w le e = (h n).by w (omega arith) e
 shallow_step (asks n o) m k f h [] le e = absurd (omega arith)
 shallow_step (asks n o) m k f h (false ∷ w) le e = (h n).by w (omega arith) e
@@ -117,7 +117,7 @@ module _ (code : List Instruction) (l : Limits) where
 
 follow_ended : (x : Next) (m : Machine) (f : Machine → List Bool → Option Reached) (o : Outcome) (u p : ℕ) (w : List Bool) → ((m : Machine) → f m [] ≡ Some (record { answer = Ended o u; place = p }) → f m w ≡ Some (record { answer = Ended o u; place = p })) → follow x m f [] ≡ Some (record { answer = Ended o u; place = p }) → follow x m f w ≡ Some (record { answer = Ended o u; place = p })
 follow_ended (goes n) m f o u p w h e = h n e
-follow_ended (asks n q) m f o u p w h e = let r : Needs (Some (record { answer = Ended o u; place = p })) = subst Needs e refl in absurd (cc)
+follow_ended (asks n q) m f o u p w h e = let r : NeedsMore (Some (record { answer = Ended o u; place = p })) = subst NeedsMore e refl in absurd (cc)
 follow_ended (ends x) m f o u p w h e = e
 follow_ended stuck m f o u p w h e = absurd (cc)
 

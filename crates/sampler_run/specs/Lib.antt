@@ -3,3 +3,4 @@ pub mod Telling
 pub mod Views
 pub mod Held
 pub mod Models
+pub mod Sampled

@@ -4,10 +4,12 @@
 mod compiling;
 mod machine;
 mod sampler;
+mod sampling;
 mod state;
 mod stepping;
 
 pub use compiling::compile;
 pub use machine::Progress;
 pub use sampler::Sampler;
+pub use sampling::{RunError, Stop, sample};
 pub use state::State;
