@@ -4,3 +4,4 @@ pub mod Merged
 pub mod Completed
 pub mod Attempts
 pub mod OneDraw
+pub mod Shortest

@@ -1,9 +1,9 @@
 -- A coalesced draw in which each number leads to its class is the decided draw of the ends.
-use Rattle.std.proofs.Common.{◌≡◌, ⊎_elim, ℕ, zero, suc, ◌+◌, ◌*◌, ◌^◌, ◌≤◌, ◌<◌, Bool, true, false, cond, Option, Some, None, List, [], ◌∷◌, length, refl, sym, ap, ◌∙◌, subst, arith, true≢false}
+use Rattle.std.proofs.Common.{◌≡◌, ⊎_elim, ℕ, zero, suc, ◌+◌, ◌*◌, ◌^◌, Bool, true, false, Option, Some, None, List, [], ◌∷◌, length, refl, sym, ap, ◌∙◌, subst, arith, true≢false}
 use Rattle.gcl_core.specs.Draw.{class_of, have_one_class, spelled_from, spelled, bits_for, last_end}
 use Rattle.draw_tree.specs.Flips.{Flips, leaf, flip}
 use Rattle.draw_tree.specs.Perfect.{perfect_from, perfect_draw}
-use Rattle.draw_tree.specs.Coalescing.{equal_leaves, IsCoalesced, coalesced, decided_from, decided_draw}
+use Rattle.draw_tree.specs.Coalescing.{equal_leaves, IsCoalesced, decided_from, decided_draw}
 use Rattle.draw_tree.specs.Walk.{leads_to, LeadsToClasses}
 use Rattle.draw_tree.proofs.Halves.{options_same, one_number, first_half, second_half, same_halves, both_halves}
 use Rattle.draw_tree.proofs.Merged.{bool_cases, leads_coalesced, coalesced_is}

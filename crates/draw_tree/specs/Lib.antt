@@ -4,3 +4,4 @@ pub mod Perfect
 pub mod Coalescing
 pub mod Walk
 pub mod Prefixes
+pub mod Reach

@@ -11,7 +11,7 @@ mod walking;
 mod widths;
 
 pub use complete::perfect;
-pub use laws::one_decided_draw;
+pub use laws::{one_decided_draw, shortest_string_decides};
 pub use merging::coalesce;
 pub use tree::{Attempt, Draw};
 pub use walking::attempt;
