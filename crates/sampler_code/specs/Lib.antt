@@ -9,3 +9,4 @@ pub mod Sound
 pub mod Assembled
 pub mod Models
 pub mod Assemble
+pub mod Listing

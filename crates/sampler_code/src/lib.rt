@@ -5,7 +5,9 @@ pub mod assembling;
 pub mod code;
 pub mod draws;
 pub mod instructions;
+pub mod listing;
 
 pub use assembling::assemble;
 pub use code::Code;
 pub use instructions::{Instr, Instructions};
+pub use listing::list;
