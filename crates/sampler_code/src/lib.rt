@@ -6,6 +6,8 @@ pub mod code;
 pub mod draws;
 pub mod instructions;
 pub mod listing;
+#[cfg(test)]
+mod tests;
 
 pub use assembling::assemble;
 pub use code::Code;
