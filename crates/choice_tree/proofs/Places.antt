@@ -1,5 +1,5 @@
 -- The members of a row, by place.
-use Rattle.std.proofs.Common.{◌≡◌, ◌∙◌, ℕ, zero, suc, ◌+◌, ◌<◌, List, [], ◌∷◌, length, get_or, Option, Some, refl, ap, arith}
+use Rattle.std.proofs.Common.{◌≡◌, ℕ, zero, suc, ◌<◌, List, [], ◌∷◌, length, get_or, Some, refl, arith}
 use Rattle.choice_tree.specs.declared.tree.Cf.{Cf}
 use Rattle.choice_tree.specs.Tree.{count, tree_at}
 use Rattle.choice_tree.specs.Views.{choice_tree_of, list_of}

@@ -1,5 +1,5 @@
 -- The tree of a block has the weights of the block.
-use Rattle.std.proofs.Common.{ℕ, Option, Some, None}
+use Rattle.std.proofs.Common.{Option, Some, None}
 use Rattle.gcl_core.specs.declared.syntax.Weight.{Weight}
 use Rattle.gcl_core.specs.Syntax.{Statement, skip, assign, branch, loop, choice, uniform, observe, Statements, done, ◌▸◌}
 use Rattle.gcl_core.specs.Bounds.{StatementWeights, BlockWeights}

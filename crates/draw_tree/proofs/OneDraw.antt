@@ -21,12 +21,15 @@ module _ (ends : List ℕ) where
   perfect_leads (suc k) a (false ∷ u) e = ap (λ j. leads_to (perfect_from ends k j) u) (low_half a k) ∙ perfect_leads k (2 * a + 0) u (omega arith)
   perfect_leads (suc k) a (true ∷ u) e = ap (λ j. leads_to (perfect_from ends k j) u) (high_half a k) ∙ perfect_leads k (2 * a + 1) u (omega arith)
 
-  pub decided_leads : LeadsToClasses ends (decided_draw ends)
-  decided_leads = λ u e.
+  pub perfect_classes : LeadsToClasses ends (perfect_draw ends)
+  perfect_classes = λ u e.
       let k = bits_for (last_end ends) in
       let p : 0 * 2 ^ k ≡ 0 = omega arith in
-      ap (λ d. leads_to d u) (sym (coalesced_perfect ends))
-      ∙ leads_coalesced (perfect_draw ends) u (class_of ends (spelled u)) (ap (λ j. leads_to (perfect_from ends k j) u) (sym p) ∙ perfect_leads k 0 u e)
+      ap (λ j. leads_to (perfect_from ends k j) u) (sym p) ∙ perfect_leads k 0 u e
+
+  pub decided_leads : LeadsToClasses ends (decided_draw ends)
+  decided_leads = λ u e.
+      ap (λ d. leads_to d u) (sym (coalesced_perfect ends)) ∙ leads_coalesced (perfect_draw ends) u (class_of ends (spelled u)) (perfect_classes u e)
 
   -- a decided draw that is a leaf has numbers of one class
   leaf_one : (k first : ℕ) (x : Option ℕ) → decided_from ends k first ≡ leaf x → (have_one_class ends first (2 ^ k) ≡ true) × (x ≡ class_of ends first)

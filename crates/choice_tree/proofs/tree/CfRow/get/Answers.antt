@@ -1,4 +1,4 @@
-use Rattle.std.proofs.Common.{◌≡◌, ◌<◌, length, Some, arith, ap, sym, ◌∙◌}
+use Rattle.std.proofs.Common.{◌<◌, length, Some, arith, ap, sym, ◌∙◌}
 use Rattle.choice_tree.specs.Views.{choice_tree_of}
 use Rattle.choice_tree.proofs.Places.{as_many, at_place}
 use Rattle.choice_tree.proofs.tree.CfRow.get.Goals as goal
