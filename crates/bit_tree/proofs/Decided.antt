@@ -6,7 +6,8 @@ use Rattle.gcl_core.specs.Blocks.{choice_ends}
 use Rattle.gcl_core.proofs.Classes.{class_within}
 use Rattle.draw_tree.specs.Flips.{Flips, leaf, flip, ClassBelow, ClassesBelow}
 use Rattle.draw_tree.specs.Perfect.{perfect_from, perfect_draw}
-use Rattle.draw_tree.specs.Coalescing.{equal_leaves, flip_or_leaf, IsCoalesced, coalesced, decided_draw}
+use Rattle.draw_tree.specs.Coalescing.{equal_leaves, flip_or_leaf, IsCoalesced, coalesced}
+use Rattle.draw_tree.specs.Decided.{decided_draw}
 use Rattle.draw_tree.proofs.Merged.{bool_cases, merged, unmerged, coalesced_is}
 use Rattle.draw_tree.proofs.Completed.{coalesced_perfect}
 use Rattle.choice_tree.specs.Tree.{ChoiceTree, fails, sets, tests, chooses, draws_below, in_order, repeats, ChoiceTrees, no_tree, ◌▹◌}

@@ -3,7 +3,7 @@ use Rattle.std.proofs.Common.{ℕ, length, Option, Some, None}
 use Rattle.gcl_core.specs.Syntax.{Statement, skip, assign, branch, loop, choice, uniform, observe, Statements, done, ◌▸◌, Source}
 use Rattle.gcl_core.specs.Bounds.{StatementBelow, BlockBelow, VariablesBelow}
 use Rattle.gcl_core.specs.Blocks.{choice_ends}
-use Rattle.draw_tree.specs.Coalescing.{decided_draw}
+use Rattle.draw_tree.specs.Decided.{decided_draw}
 use Rattle.choice_tree.specs.Tree.{ChoiceTree, ChoiceTrees}
 use Rattle.choice_tree.specs.TreeOf.{in_front, member_of, members_of}
 use Rattle.bit_tree.specs.Fine.{IsFine, RowIsFine, TiedIsFine}

@@ -7,7 +7,7 @@ use Rattle.gcl_core.specs.Value.{State}
 use Rattle.gcl_core.specs.Reading.{gives, after}
 use Rattle.gcl_core.specs.Blocks.{End, on, failed, fault, limit, block_on}
 use Rattle.gcl_core.specs.Runs.{zeros, by_round, answer_of, rounds_on, run_on}
-use Rattle.draw_tree.specs.Coalescing.{decided_draw}
+use Rattle.draw_tree.specs.Decided.{decided_draw}
 use Rattle.draw_tree.proofs.Attempts.{attempt_decided_draw}
 use Rattle.choice_tree.specs.TreeOf.{tree_of}
 use Rattle.choice_tree.proofs.Meanings.{after_same, tree_means}

@@ -5,7 +5,8 @@ use Rattle.gcl_core.specs.Syntax.{Source}
 use Rattle.gcl_core.specs.Blocks.{choice_ends}
 use Rattle.draw_tree.specs.Flips.{Flips}
 use Rattle.draw_tree.specs.Perfect.{perfect_draw}
-use Rattle.draw_tree.specs.Coalescing.{coalesced, decided_draw}
+use Rattle.draw_tree.specs.Coalescing.{coalesced}
+use Rattle.draw_tree.specs.Decided.{decided_draw}
 use Rattle.choice_tree.specs.Tree.{ChoiceTree, fails, sets, tests, chooses, draws_below, in_order, repeats, ChoiceTrees, no_tree, ◌▹◌}
 use Rattle.choice_tree.specs.TreeOf.{tree_of}
 use Rattle.bit_tree.specs.Tree.{BitTree, fail, store, test, pick, range, row, fix, BitTrees, done, ◌▸◌, TiedTree}

@@ -1,7 +1,8 @@
 // Laws of the definitions.
 
 ghost use Rattle.std.specs.Prelude.{◌≡◌, ℕ, Bool, List};
-ghost use Rattle.draw_tree.specs.Coalescing.{IsCoalesced, decided_draw};
+ghost use Rattle.draw_tree.specs.Coalescing.{IsCoalesced};
+ghost use Rattle.draw_tree.specs.Decided.{decided_draw};
 ghost use Rattle.draw_tree.specs.Flips.{Flips};
 ghost use Rattle.draw_tree.specs.Prefixes.{attempt_by};
 ghost use Rattle.draw_tree.specs.Reach.{ReadsShortest};
