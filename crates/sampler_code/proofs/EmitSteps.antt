@@ -2,7 +2,7 @@
 use Rattle.std.proofs.Common.{◌≡◌, ℕ, zero, suc, ◌+◌, ◌<◌, List, [], ◌∷◌, ◌++◌, length, get_or, drop, sym, ap, ◌∙◌, subst, arith, append_assoc, length-append, add-one, drop-cons}
 use Rattle.bit_tree.specs.declared.tree.Bt.{Bt}
 use Rattle.bit_tree.specs.Tree.{BitTree, BitTrees, ◌▸◌}
-use Rattle.bit_tree.specs.Fine.{LabelsHaveArms, RowHasArms}
+use Rattle.bit_tree.specs.Fine.{RowHasArms}
 use Rattle.bit_tree.specs.Views.{bit_tree_of, list_of}
 use Rattle.sampler_code.specs.Instruction.{Instruction, Goto}
 use Rattle.sampler_code.specs.Code.{size, arms_size, loops, row_loops, tree_code, row_code, arms_code}
@@ -80,9 +80,6 @@ loops_on xs i x k j lt e ek =
 
 pub labelled_on : (xs : List Bt) (i : ℕ) (x : Bt) → i < length xs → x ≡ get_or xs i x → RowHasArms (list_of (drop i xs)) → RowHasArms (list_of (drop (i + 1) xs))
 labelled_on xs i x lt e h = (subst RowHasArms (list_drop xs i x lt e) h).1
-
-pub labelled_here : (xs : List Bt) (i : ℕ) (x : Bt) → i < length xs → x ≡ get_or xs i x → RowHasArms (list_of (drop i xs)) → LabelsHaveArms (bit_tree_of x)
-labelled_here xs i x lt e h = (subst RowHasArms (list_drop xs i x lt e) h).0
 
 pub fits_on : (xs : List Bt) (i : ℕ) (x : Bt) → i < length xs → x ≡ get_or xs i x → TreeFits (bit_tree_of x) → RowFits (list_of (drop (i + 1) xs)) → RowFits (list_of (drop i xs))
 fits_on xs i x lt e h rest = subst RowFits (sym (list_drop xs i x lt e)) (h, rest)

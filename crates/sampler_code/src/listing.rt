@@ -110,7 +110,12 @@ fn returned(alloc: Global, text: &mut Vec<u8>, names: &Names, e: &Expr) -> Resul
     expression(alloc, text, names, e)
 }
 
-fn instruction(alloc: Global, text: &mut Vec<u8>, names: &Names, i: &Instr) -> Result<(), AllocError>
+fn instruction(
+    alloc: Global,
+    text: &mut Vec<u8>,
+    names: &Names,
+    i: &Instr,
+) -> Result<(), AllocError>
     requires { (loops : ℕ) × Knows loops (length names.now) (instruction_of i.now) }
     ensures { OnOk result (text.new.items ≡ text.old.items ++ instruction_text names.now (instruction_of i.now)) }
 {

@@ -5,13 +5,9 @@ use Rattle.gcl_core.specs.declared.answers.Outcome.{Outcome}
 use Rattle.gcl_core.specs.declared.answers.Answer.{Answer}
 use Rattle.gcl_core.specs.declared.answers.Answer.TheVariants.{Ended, MoreBits}
 use Rattle.sampler_code.specs.Instruction.{Instruction}
-use Rattle.sampler_code.specs.Machine.{Machine, Next, goes, asks, ends, stuck, act, step}
+use Rattle.sampler_code.specs.Machine.{Machine, Next, goes, asks, ends, stuck, step}
 use Rattle.sampler_code.specs.Running.{Reached, follow, within_steps, most_steps, rest_of}
-use Rattle.sampler_code.specs.Sound.{Answered}
-use Rattle.sampler_code.proofs.Steps.{longer}
-use Rattle.sampler_run.specs.declared.machine.Progress.{Progress}
 use Rattle.sampler_run.specs.declared.machine.Progress.TheVariants as progress
-use Rattle.sampler_run.specs.Resting.{Asks, Rests, side}
 use Rattle.sampler_run.specs.Telling.{TellsAnswer, Tells, used_in, UsedIs, PlaceIs}
 
 -- more bits are needed
@@ -132,16 +128,7 @@ answer_ended : (a : Answer) (o : Outcome) (u : ℕ) → TellsAnswer a (progress.
 answer_ended (MoreBits n) o u h e = absurd (cc)
 answer_ended (Ended x n) o u h e = let d : o ≡ x = cc in cc
 
-answer_more : (a : Answer) (u : ℕ) → TellsAnswer a progress.NeedBit → u ≡ used_in a → a ≡ MoreBits u
-answer_more (MoreBits n) u h e = cc
-answer_more (Ended x n) u h e = absurd (cc)
-
 pub told_ended : (s : Option Reached) (o : Outcome) (u p : ℕ) → Tells s (progress.Ended o) → UsedIs s u → PlaceIs s p → s ≡ Some (record { answer = Ended o u; place = p })
 told_ended None o u p h i j = absurd h
 told_ended (Some a) o u p h i j =
     ap (λ x. let r : Reached = record { answer = x; place = a.place } in Some r) (answer_ended a.answer o u h i) ∙ ap (λ n. let r : Reached = record { answer = Ended o u; place = n } in Some r) (sym j)
-
-pub told_more : (s : Option Reached) (u p : ℕ) → Tells s progress.NeedBit → UsedIs s u → PlaceIs s p → s ≡ Some (record { answer = MoreBits u; place = p })
-told_more None u p h i j = absurd h
-told_more (Some a) u p h i j =
-    ap (λ x. let r : Reached = record { answer = x; place = a.place } in Some r) (answer_more a.answer u h i) ∙ ap (λ n. let r : Reached = record { answer = MoreBits u; place = n } in Some r) (sym j)

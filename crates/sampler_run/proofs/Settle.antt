@@ -2,22 +2,20 @@
 use Rattle.std.proofs.Common.{◌≡◌, ℕ, zero, suc, ◌<◌, ◌≤◌, Bool, true, false, ℤ, pos, List, [], ◌∷◌, length, Option, Some, None, refl, sym, ap, ◌∙◌, subst, ⊎_elim, arith}
 use Rattle.std.specs.Prelude.{slice_get, replicate, IsSome}
 use Rattle.std.proofs.lemmas.Bool.{cases_lt}
-use Rattle.std.proofs.lemmas.List.{length-replicate}
 use Rattle.std.proofs.lemmas.Option.{slice_get_within}
 use Rattle.gcl_core.specs.declared.answers.Limits.{Limits}
-use Rattle.gcl_core.specs.declared.answers.Outcome.{Outcome}
 use Rattle.gcl_core.specs.declared.answers.Answer.{Answer}
 use Rattle.gcl_core.specs.declared.answers.Answer.TheVariants.{Ended, MoreBits}
 use Rattle.sampler_code.specs.Instruction.{Instruction}
 use Rattle.sampler_code.specs.Machine.{Machine, idle, Next, goes, asks, ends, stuck, act, step}
 use Rattle.sampler_code.specs.Running.{Reached, follow, within_steps, most_steps, rest_of, run_of, Reaches}
-use Rattle.sampler_code.specs.Sound.{Sound, Answered}
+use Rattle.sampler_code.specs.Sound.{Answered}
 use Rattle.sampler_code.proofs.Steps.{longer, one_answer}
 use Rattle.sampler_run.specs.declared.machine.Progress.{Progress}
 use Rattle.sampler_run.specs.declared.machine.Progress.TheVariants as progress
 use Rattle.sampler_run.specs.Resting.{Asks, Rests, side}
 use Rattle.sampler_run.specs.Held.{Held, Kept, rest_on}
-use Rattle.sampler_run.specs.Telling.{TellsAnswer, Tells, used_in, UsedIs, PlaceIs}
+use Rattle.sampler_run.specs.Telling.{TellsAnswer, Tells, UsedIs, PlaceIs}
 
 -- the steps that need no bit, of at most k
 abbrev silent_after : Next → (Machine → ℕ) → ℕ
@@ -170,10 +168,6 @@ module _ (code : List Instruction) (vars loops : ℕ) (l : Limits) (vs : List �
   pub first_same : (v : List Bool) → rest_of code l (first_of l.rounds vs ts) v ≡ run_of code vars loops l v
   first_same v =
       ap (λ vs. rest_of code l (first_of l.rounds vs ts) v) e ∙ ap (λ ts. rest_of code l (first_of l.rounds (replicate vars (pos 0)) ts) v) f
-
-  pub first_sound : Sound code loops vars → Sound code (length ts) (length vs)
-  first_sound h =
-      subst (λ n. Sound code (length ts) n) (sym (ap length e ∙ length-replicate vars (pos 0))) (subst (λ n. Sound code n vars) (sym (ap length f ∙ length-replicate loops 0)) h)
 
   pub first_answered : ((v : List Bool) → IsSome (run_of code vars loops l v)) → Answered code l (first_of l.rounds vs ts)
   first_answered h v = some_answer (rest_of code l (first_of l.rounds vs ts) v) (subst IsSome (sym (first_same v)) (h v))

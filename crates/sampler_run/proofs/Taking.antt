@@ -4,7 +4,7 @@ use Rattle.std.proofs.lemmas.List.{append-nil}
 use Rattle.sampler_code.specs.Running.{Reached}
 use Rattle.sampler_run.specs.declared.machine.Progress.TheVariants as progress
 use Rattle.sampler_run.specs.Telling.{Tells}
-use Rattle.sampler_run.specs.Sampled.{Needs, Asked}
+use Rattle.sampler_run.specs.Sampled.{Needs}
 
 -- which bits were taken, and that the rest of the run is what the run does after them
 pub record Takes (run rest : List Bool → Option Reached) (old new : List Bool) : Type 0 where
@@ -27,9 +27,6 @@ takes_more run rest next b old w new h e n fed = record {
   same = λ v. fed v ∙ h.same (b ∷ v) ∙ ap run (sym (append_assoc h.taken (b ∷ []) v));
   needed = needs_more run h.taken b h.needed (subst (λ o. Tells o progress.NeedBit) (h.same [] ∙ ap run (append-nil h.taken)) n);
 }
-
-pub takes_asked : (run rest : List Bool → Option Reached) (old new : List Bool) → Takes run rest old new → Asked run old new
-takes_asked run rest old new h = record { taken = h.taken; split = h.split; needed = h.needed }
 
 pub takes_answer : (run rest : List Bool → Option Reached) (old new : List Bool) → Takes run rest old new → run old ≡ rest new
 takes_answer run rest old new h = ap run h.split ∙ sym (h.same new)

@@ -8,7 +8,9 @@ ghost use Rattle.gcl_core.specs.Views.{statement_of, statements_of, source_of};
 
 use crate::{Progress, Sampler, Stop, compile, sample};
 use gcl_check::check;
-use gcl_core::{Answer, Block, Checked, Expr, Fault, Limits, Names, Outcome, Program, Stmt, Weight};
+use gcl_core::{
+    Answer, Block, Checked, Expr, Fault, Limits, Names, Outcome, Program, Stmt, Weight,
+};
 use std::alloc::{AllocError, Global};
 use std::test::Fail;
 use zar_io::ListBits;
@@ -81,9 +83,15 @@ fn places_of_two_thirds(rt: HostRuntime) -> Result<(), Fail> {
             let sampler = compile(alloc, &p)?;
             assert_eq!(rt; sampler.code().count(), 10);
             let mut state = sampler.start(alloc, &LIMITS)?;
-            assert_eq!(rt; (state.progress(), state.used(), state.place()), (Progress::NeedBit, 0, 1));
+            assert_eq!(rt;
+                (state.progress(), state.used(), state.place()),
+                (Progress::NeedBit, 0, 1)
+            );
             state.feed(true);
-            assert_eq!(rt; (state.progress(), state.used(), state.place()), (Progress::NeedBit, 1, 3));
+            assert_eq!(rt;
+                (state.progress(), state.used(), state.place()),
+                (Progress::NeedBit, 1, 3)
+            );
             let mut other = state.fork(alloc)?;
             let two = Progress::Ended(Outcome::Value(2));
             assert_eq!(rt; state.feed(false), two);
@@ -103,10 +111,50 @@ fn runs_of_two_thirds(rt: HostRuntime) -> Result<(), Fail> {
     match two_thirds(alloc)? {
         Some(p) => {
             let s = compile(alloc, &p)?;
-            assert!(rt; ends_at(alloc, &s, &[false], Stop { answer: Answer::Ended(Outcome::Value(1), 1), place: 9 })?);
-            assert!(rt; ends_at(alloc, &s, &[true, true, true, false], Stop { answer: Answer::Ended(Outcome::Value(2), 4), place: 9 })?);
-            assert!(rt; ends_at(alloc, &s, &[true], Stop { answer: Answer::MoreBits(1), place: 3 })?);
-            assert!(rt; ends_at(alloc, &s, &[], Stop { answer: Answer::MoreBits(0), place: 1 })?);
+            assert!(rt;
+                ends_at(
+                    alloc,
+                    &s,
+                    &[false],
+                    Stop {
+                        answer: Answer::Ended(Outcome::Value(1), 1),
+                        place: 9
+                    }
+                )?
+            );
+            assert!(rt;
+                ends_at(
+                    alloc,
+                    &s,
+                    &[true, true, true, false],
+                    Stop {
+                        answer: Answer::Ended(Outcome::Value(2), 4),
+                        place: 9
+                    }
+                )?
+            );
+            assert!(rt;
+                ends_at(
+                    alloc,
+                    &s,
+                    &[true],
+                    Stop {
+                        answer: Answer::MoreBits(1),
+                        place: 3
+                    }
+                )?
+            );
+            assert!(rt;
+                ends_at(
+                    alloc,
+                    &s,
+                    &[],
+                    Stop {
+                        answer: Answer::MoreBits(0),
+                        place: 1
+                    }
+                )?
+            );
         }
         None => assert!(rt; false),
     }
