@@ -7,6 +7,7 @@ use Rattle.bit_tree.specs.Tree.{TiedTree}
 use Rattle.bit_tree.specs.Meaning.{tied_on}
 use Rattle.sampler_code.specs.Assembled.{Assembled, assembled}
 use Rattle.sampler_code.specs.Running.{Reached, Follows, Answers, run_of}
+use Rattle.sampler_run.specs.CodeWeight.{answer_reached, code_answer}
 
 pub compiled : (t : TiedTree) (c s : Assembled) (p : Source) → s ≡ c → c ≡ assembled t → Follows t c.instrs → ((l : Limits) (w : List Bool) → tied_on t l w ≡ run_on p l w) → (l : Limits) (w : List Bool) → InRange l → Answers (run_of s.instrs s.vars s.loops l w) (run_on p l w)
 compiled t c s p e f follows runs l w r =
@@ -15,3 +16,7 @@ compiled t c s p e f follows runs l w r =
       a.0,
       ap (λ (s : Assembled). run_of s.instrs s.vars s.loops l w) (e ∙ f) ∙ a.1 ∙ ap (λ x. let y : Reached = record { answer = x; place = a.0 } in Some y) (runs l w),
     )
+
+-- the code's answer is the program's
+pub code_answers : (s : Assembled) (p : Source) (l : Limits) (w : List Bool) → Answers (run_of s.instrs s.vars s.loops l w) (run_on p l w) → code_answer s l w ≡ run_on p l w
+code_answers s p l w a = ap answer_reached a.1
