@@ -34,9 +34,9 @@ impl Model for Code {
 impl Code {
     ghost use Rattle.std.specs.Prelude.{◌≡◌, ◌<◌, ◌+◌, ◌^◌, Bool, List, Some, length, slice_get, IsSome};
     ghost use Rattle.gcl_core.specs.Runs.{InRange};
-    ghost use Rattle.sampler_code.specs.Running.{run_of, Follows};
+    ghost use Rattle.sampler_code.specs.Running.{Follows};
     ghost use Rattle.sampler_code.specs.Sound.{Sound};
-    ghost use Rattle.sampler_code.specs.Assembled.{IsCode};
+    ghost use Rattle.sampler_code.specs.Assembled.{IsCode, code_run};
     ghost use Rattle.sampler_code.specs.Views.{instruction_of};
 
     // What is the code of a tree.
@@ -57,7 +57,7 @@ impl Code {
         ensures tree { IsCode self.now }
         ensures follows { (code : IsCode self.now) → Follows code.tree self.now.instrs }
         ensures sound { Sound self.now.instrs self.now.loops self.now.vars }
-        ensures answers { (l : Limits) (w : List Bool) → InRange l → IsSome (run_of self.now.instrs self.now.vars self.now.loops l w) }
+        ensures answers { (l : Limits) (w : List Bool) → InRange l → IsSome (code_run self.now l w) }
     {
         self.instrs.count()
     }
@@ -82,7 +82,7 @@ impl Code {
     /// The number of variables. Each variable of an instruction is below it. A run over so many has an answer.
     pub fn vars(&self) -> u32
         ensures value { result ≡ self.now.vars }
-        ensures answers { (l : Limits) (w : List Bool) → InRange l → IsSome (run_of self.now.instrs self.now.vars self.now.loops l w) }
+        ensures answers { (l : Limits) (w : List Bool) → InRange l → IsSome (code_run self.now l w) }
     {
         self.vars
     }

@@ -7,8 +7,8 @@ ghost use Rattle.bit_tree.specs.Debiased.{body_tree, tied_tree};
 ghost use Rattle.bit_tree.specs.Fine.{TiedIsFine};
 ghost use Rattle.bit_tree.specs.Meaning.{tied_on};
 ghost use Rattle.bit_tree.specs.Views.{bit_tree_of, tied_tree_of};
-ghost use Rattle.sampler_code.specs.Assembled.{assembled};
-ghost use Rattle.sampler_code.specs.Running.{Answers, run_of};
+ghost use Rattle.sampler_code.specs.Assembled.{assembled, code_run};
+ghost use Rattle.sampler_code.specs.Running.{Answers};
 ghost use Rattle.sampler_run.specs.CodeWeight.{code_answer};
 ghost use Rattle.weighing_law.specs.LimitsCost.{LimitsCost, MayPass};
 ghost use Rattle.weighing_law.specs.Weighing.{WeighsExactly};
@@ -57,7 +57,7 @@ fn laws_of(p: &Checked)
 pub fn compile(alloc: Global, p: &Checked) -> Result<Sampler, AllocError>
     ensures code { IfOk result (λ s. s ≡ assembled (tied_tree (source_of p.now))) }
     ensures runs { IfOk result (λ s. (l : Limits) (w : List Bool) → InRange l →
-        Answers (run_of s.instrs s.vars s.loops l w) (run_on (source_of p.now) l w)) }
+        Answers (code_run s l w) (run_on (source_of p.now) l w)) }
     ensures weighs { IfOk result (λ s. (l : Limits) → InRange l → WeighsExactly (code_answer s l) (source_of p.now) l) }
     ensures cost { IfOk result (λ _. (l : Limits) → MayPass (source_of p.now) l → LimitsCost (source_of p.now) l) }
 {
