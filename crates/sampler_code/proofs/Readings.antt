@@ -27,11 +27,13 @@ go_on k f failed w = f w
 go_on k f (fault x) w = gives (outcome.Fault x) w
 go_on k f (limit x) w = gives (outcome.Limit x) w
 
-pub after_after : {A B C : Type 0} (x : Reading A) (h : A → List Bool → Reading B) (g : B → List Bool → Reading C) → after (after x h) g ≡ after x (λ a w. after (h a w) g)
+pub after_after : {A B C : Type 0} (x : Reading A) (h : A → List Bool → Reading B) (g : B → List Bool → Reading C) →
+    after (after x h) g ≡ after x (λ a w. after (h a w) g)
 after_after (gives a w) h g = refl
 after_after more_bits h g = refl
 
-pub after_end : (x : Reading End) (h : State → List Bool → Reading End) (k : State → List Bool → Reading Outcome) (f : List Bool → Reading Outcome) → after (after x (λ e rest. by_end (λ e. gives e rest) e (λ s. h s rest))) (go_on k f) ≡ after x (go_on (λ s rest. after (h s rest) (go_on k f)) f)
+pub after_end : (x : Reading End) (h : State → List Bool → Reading End) (k : State → List Bool → Reading Outcome) (f : List Bool → Reading Outcome) →
+    after (after x (λ e rest. by_end (λ e. gives e rest) e (λ s. h s rest))) (go_on k f) ≡ after x (go_on (λ s rest. after (h s rest) (go_on k f)) f)
 after_end (gives (on s) w) h k f = refl
 after_end (gives failed w) h k f = refl
 after_end (gives (fault x) w) h k f = refl
@@ -52,7 +54,8 @@ abbrev Undecided : Flips → Type 0
 Undecided (leaf x) = Unit {0}
 Undecided (flip l r) = only_leaf (flip l r) ≡ None
 
-undecided_flip : (l r : Flips) → equal_leaves l r ≡ false → Undecided l → Undecided r → leaf_of_both (only_leaf l) (only_leaf r) ≡ None
+undecided_flip : (l r : Flips) → equal_leaves l r ≡ false → Undecided l → Undecided r →
+    leaf_of_both (only_leaf l) (only_leaf r) ≡ None
 undecided_flip (leaf x) (leaf y) e a b = no_two x y e
 undecided_flip (leaf x) (flip c d) e a b = ap (leaf_of_both (Some x)) b ∙ agree_none (Some x)
 undecided_flip (flip c d) r e a b = ap (λ o. leaf_of_both o (only_leaf r)) a
@@ -61,7 +64,8 @@ undecided : (d : Flips) → IsCoalesced d → Undecided d
 undecided (leaf x) c = tt
 undecided (flip l r) c = undecided_flip l r c.0 (undecided l c.1) (undecided r c.2)
 
-read_same : (f g h i : List Bool → Reading (Option ℕ)) (w : List Bool) → ((w : List Bool) → f w ≡ g w) → ((w : List Bool) → h w ≡ i w) → by_bit f h w ≡ by_bit g i w
+read_same : (f g h i : List Bool → Reading (Option ℕ)) (w : List Bool) → ((w : List Bool) → f w ≡ g w) →
+    ((w : List Bool) → h w ≡ i w) → by_bit f h w ≡ by_bit g i w
 read_same f g h i [] p q = refl
 read_same f g h i (false ∷ w) p q = p w
 read_same f g h i (true ∷ w) p q = q w

@@ -49,30 +49,41 @@ module _ (code : List Instruction) (l : Limits) (T V L R : ℕ) where
   pub record Cont (d pc c : ℕ) (ts : List ℕ) (k : State → List Bool → Reading Outcome) : Type 0 where
     pub by : (s : State) (us : List ℕ) (tr : ℕ) (w : List Bool) → Fit s us w → Keeps c ts us → To d pc s us tr w (k s w)
 
-  cont_longer : (d d' pc pc' c c' : ℕ) (ts us : List ℕ) (k : State → List Bool → Reading Outcome) → d ≤ d' → pc ≡ pc' → c ≤ c' → Keeps c ts us → Cont d pc c ts k → Cont d' pc' c' us k
+  cont_longer : (d d' pc pc' c c' : ℕ) (ts us : List ℕ) (k : State → List Bool → Reading Outcome) → d ≤ d' → pc ≡ pc' → c ≤ c' →
+      Keeps c ts us → Cont d pc c ts k → Cont d' pc' c' us k
   cont_longer d d' pc pc' c c' ts us k le e lt h q = record {
     by = λ s vs tr w fit kept. ends_longer code l T d d' _ w (k s w) le (subst (λ p. To d p s vs tr w (k s w)) e (q.by s vs tr w fit (keeps_on c c' ts us vs lt h kept)));
   }
 
   -- a failed round, wherever it fails: d steps and the reading f
   pub record Back (d : ℕ) (f : List Bool → Reading Outcome) : Type 0 where
-    pub by : (pc : ℕ) (s : State) (ts : List ℕ) (tr : ℕ) (w : List Bool) → Fit s ts w → slice_get code pc ≡ Some Fail → To d pc s ts tr w (f w)
+    pub by : (pc : ℕ) (s : State) (ts : List ℕ) (tr : ℕ) (w : List Bool) → Fit s ts w → slice_get code pc ≡ Some Fail →
+        To d pc s ts tr w (f w)
 
-  at_place : (pc : ℕ) (i : Instruction) (s : State) (ts : List ℕ) (tr : ℕ) (w : List Bool) → slice_get code pc ≡ Some i → step code l (here pc s ts tr w) ≡ act l (Some i) (here pc s ts tr w)
+  at_place : (pc : ℕ) (i : Instruction) (s : State) (ts : List ℕ) (tr : ℕ) (w : List Bool) → slice_get code pc ≡ Some i →
+      step code l (here pc s ts tr w) ≡ act l (Some i) (here pc s ts tr w)
   at_place pc i s ts tr w h = ap (λ o. act l o (here pc s ts tr w)) h
 
   -- a value, or a fault
-  by_val : (j : ℕ) (m : Machine) (w : List Bool) (v : Value) (go : ℤ → Next) (g : ℤ → Reading End) (k : State → List Bool → Reading Outcome) (f : List Bool → Reading Outcome) → 1 ≤ j → m.used ≡ capped (T - length w) → step code l m ≡ with_value v go → ((x : ℤ) → v ≡ Ok x → step code l m ≡ go x → Ends code l T j m w (after (g x) (go_on k f))) → Ends code l T j m w (after (by_value (λ x. gives (fault x) w) v g) (go_on k f))
+  by_val : (j : ℕ) (m : Machine) (w : List Bool) (v : Value) (go : ℤ → Next) (g : ℤ → Reading End) (k : State → List Bool → Reading Outcome) (f : List Bool → Reading Outcome) →
+      1 ≤ j → m.used ≡ capped (T - length w) → step code l m ≡ with_value v go →
+      ((x : ℤ) → v ≡ Ok x → step code l m ≡ go x → Ends code l T j m w (after (g x) (go_on k f))) →
+      Ends code l T j m w (after (by_value (λ x. gives (fault x) w) v g) (go_on k f))
   by_val j m w (Ok x) go g k f le u e h = h x refl e
   by_val j m w (Err x) go g k f le u e h = ends_now code l T j m w (outcome.Fault x) le e u
 
-  by_tru : (d j i t : ℕ) (x : ℤ) (m : Machine) (w : List Bool) (a b : Reading End) (g : End → List Bool → Reading Outcome) → suc d ≤ j → step code l m ≡ goes (at_index m (by_truth x i t)) → Ends code l T d (at_index m t) w (after b g) → Ends code l T d (at_index m i) w (after a g) → Ends code l T j m w (after (by_truth x a b) g)
+  by_tru : (d j i t : ℕ) (x : ℤ) (m : Machine) (w : List Bool) (a b : Reading End) (g : End → List Bool → Reading Outcome) →
+      suc d ≤ j → step code l m ≡ goes (at_index m (by_truth x i t)) → Ends code l T d (at_index m t) w (after b g) →
+      Ends code l T d (at_index m i) w (after a g) → Ends code l T j m w (after (by_truth x a b) g)
   by_tru d j i t (pos zero) m w a b g le e hb ha = ends_step code l T d j m (at_index m t) w (after b g) le e hb
   by_tru d j i t (pos (suc x)) m w a b g le e hb ha = ends_step code l T d j m (at_index m i) w (after a g) le e ha
   by_tru d j i t (negsuc x) m w a b g le e hb ha = ends_step code l T d j m (at_index m i) w (after a g) le e ha
 
   -- a bit is read, or there is none
-  read_runs : (d j pc t : ℕ) (s : State) (ts : List ℕ) (tr : ℕ) (w : List Bool) (p q : List Bool → Reading (Option ℕ)) (f : Option ℕ → List Bool → Reading Outcome) → suc d ≤ j → Fit s ts w → slice_get code pc ≡ Some (Flip t) → ((v : List Bool) → Fit s ts v → To d (pc + 1) s ts tr v (after (p v) f)) → ((v : List Bool) → Fit s ts v → To d t s ts tr v (after (q v) f)) → To j pc s ts tr w (after (by_bit p q w) f)
+  read_runs : (d j pc t : ℕ) (s : State) (ts : List ℕ) (tr : ℕ) (w : List Bool) (p q : List Bool → Reading (Option ℕ)) (f : Option ℕ → List Bool → Reading Outcome) →
+      suc d ≤ j → Fit s ts w → slice_get code pc ≡ Some (Flip t) →
+      ((v : List Bool) → Fit s ts v → To d (pc + 1) s ts tr v (after (p v) f)) →
+      ((v : List Bool) → Fit s ts v → To d t s ts tr v (after (q v) f)) → To j pc s ts tr w (after (by_bit p q w) f)
   read_runs d j pc t s ts tr [] p q f le fit at hp hq =
       let m = here pc s ts tr [] in
       let u : capped (T - length {A = Bool} []) ≡ capped T = ap capped (omega arith) in
@@ -95,7 +106,11 @@ module _ (code : List Instruction) (l : Limits) (T V L R : ℕ) where
       ends_read_one code l T d j m (with_bit m (pc + 1)) (with_bit m t) w (after (q w) f) le (at_place pc (Flip t) s ts tr (true ∷ w) at) there
 
   -- a draw, from its root to a leaf
-  walk_runs : (x : Flips) (d pc ld : ℕ) (start : ℕ → ℕ) (s : State) (ts : List ℕ) (tr : ℕ) (w : List Bool) (f : Option ℕ → List Bool → Reading Outcome) → HasAt code pc (flips_code ld start x pc) → Fit s ts w → ((i : ℕ) (v : List Bool) → Fit s ts v → To d (start i) s ts tr v (f (Some i) v)) → ((p : ℕ) (v : List Bool) → Fit s ts v → slice_get code p ≡ Some (Again ld) → To (d + 1) p s ts tr v (f None v)) → To (d + flips_size x) pc s ts tr w (after (walk_on x w) f)
+  walk_runs : (x : Flips) (d pc ld : ℕ) (start : ℕ → ℕ) (s : State) (ts : List ℕ) (tr : ℕ) (w : List Bool) (f : Option ℕ → List Bool → Reading Outcome) →
+      HasAt code pc (flips_code ld start x pc) → Fit s ts w →
+      ((i : ℕ) (v : List Bool) → Fit s ts v → To d (start i) s ts tr v (f (Some i) v)) →
+      ((p : ℕ) (v : List Bool) → Fit s ts v → slice_get code p ≡ Some (Again ld) → To (d + 1) p s ts tr v (f None v)) →
+      To (d + flips_size x) pc s ts tr w (after (walk_on x w) f)
   walk_runs (leaf (Some i)) d pc ld start s ts tr w f has fit at_label at_again =
       ends_step code l T d (d + 1) _ _ w (f (Some i) w) (omega arith) (at_place pc (Goto (start i)) s ts tr w has.0) (at_label i w fit)
   walk_runs (leaf None) d pc ld start s ts tr w f has fit at_label at_again = at_again pc w fit has.0
@@ -113,13 +128,17 @@ module _ (code : List Instruction) (l : Limits) (T V L R : ℕ) where
     abbrev drawn : ℕ → Option ℕ → List Bool → Reading Outcome
     drawn k y rest = after (elim y [ Some i ↦ gives (Some i) rest | None ↦ draw_by x k rest ]) g
 
-    again_runs : (k p : ℕ) (w : List Bool) → Fit s ts w → slice_get code p ≡ Some (Again ld) → ((j : ℕ) (v : List Bool) → suc j ≡ k → Fit s ts v → To (d + k * (flips_size x + 1)) ld s ts (suc j) v (after (draw_by x (suc j) v) g)) → To (d + k * (flips_size x + 1) + 1) p s ts (suc k) w (after (draw_by x k w) g)
+    again_runs : (k p : ℕ) (w : List Bool) → Fit s ts w → slice_get code p ≡ Some (Again ld) →
+        ((j : ℕ) (v : List Bool) → suc j ≡ k → Fit s ts v → To (d + k * (flips_size x + 1)) ld s ts (suc j) v (after (draw_by x (suc j) v) g)) →
+        To (d + k * (flips_size x + 1) + 1) p s ts (suc k) w (after (draw_by x k w) g)
     again_runs zero p w fit at more =
         subst (λ y. To (d + 0 * (flips_size x + 1) + 1) p s ts 1 w y) (sym (none w)) (ends_now code l T (d + 0 * (flips_size x + 1) + 1) (here p s ts 1 w) w (outcome.Limit Attempts) (omega arith) (at_place p (Again ld) s ts 1 w at) refl)
     again_runs (suc k) p w fit at more =
         ends_step code l T (d + suc k * (flips_size x + 1)) (d + suc k * (flips_size x + 1) + 1) _ _ w _ (omega arith) (at_place p (Again ld) s ts (suc (suc k)) w at) (more k w refl fit)
 
-    draw_step : (k : ℕ) (w : List Bool) → Fit s ts w → ((j : ℕ) (v : List Bool) → suc j ≡ k → Fit s ts v → To (d + k * (flips_size x + 1)) ld s ts (suc j) v (after (draw_by x (suc j) v) g)) → To (d + suc k * (flips_size x + 1)) ld s ts (suc k) w (after (draw_by x (suc k) w) g)
+    draw_step : (k : ℕ) (w : List Bool) → Fit s ts w →
+        ((j : ℕ) (v : List Bool) → suc j ≡ k → Fit s ts v → To (d + k * (flips_size x + 1)) ld s ts (suc j) v (after (draw_by x (suc j) v) g)) →
+        To (d + suc k * (flips_size x + 1)) ld s ts (suc k) w (after (draw_by x (suc k) w) g)
     draw_step k w fit more =
         let D = d + k * (flips_size x + 1) in
         let q = walk_runs x D ld ld start s ts (suc k) w (drawn k) has fit
@@ -129,7 +148,8 @@ module _ (code : List Instruction) (l : Limits) (T V L R : ℕ) where
         after_after (attempt_by x w) (λ y rest. elim y [ Some i ↦ gives (Some i) rest | None ↦ draw_by x k rest ]) g ∙ ap (λ y. after y (drawn k)) (attempt_walk x w fine) in
         subst (λ y. To (d + suc k * (flips_size x + 1)) ld s ts (suc k) w y) (sym e) (ends_longer code l T (D + flips_size x) _ _ w _ (omega arith) q)
 
-    pub draw_runs : (k : ℕ) (w : List Bool) → Fit s ts w → To (d + suc k * (flips_size x + 1)) ld s ts (suc k) w (after (draw_by x (suc k) w) g)
+    pub draw_runs : (k : ℕ) (w : List Bool) → Fit s ts w →
+        To (d + suc k * (flips_size x + 1)) ld s ts (suc k) w (after (draw_by x (suc k) w) g)
     draw_runs zero w fit = draw_step zero w fit (λ j v e ok. absurd (cc))
     draw_runs (suc k) w fit = draw_step (suc k) w fit (λ j v e ok. subst (λ i. To (d + suc k * (flips_size x + 1)) ld s ts (suc i) v (after (draw_by x (suc i) v) g)) (cc) (draw_runs k v ok))
 
@@ -138,7 +158,9 @@ module _ (code : List Instruction) (l : Limits) (T V L R : ℕ) where
   abbrev pub busy : ℕ → State → List ℕ → ℕ → ℕ → ℕ → ℕ → List Bool → Machine
   busy pc s ts tr b k low w = record { index = pc; vars = s; turns = ts; tries = tr; rounds = R; used = capped (T - length w); drawing = below b k low }
 
-  by_bool : (c : Bool) (j : ℕ) (m : Machine) (w : List Bool) (x y : Next) (a b : Reading (Option ℕ)) (h : Option ℕ → List Bool → Reading Outcome) → step code l m ≡ (if c then x else y) → (c ≡ true → step code l m ≡ x → Ends code l T j m w (after a h)) → (step code l m ≡ y → Ends code l T j m w (after b h)) → Ends code l T j m w (after (if c then a else b) h)
+  by_bool : (c : Bool) (j : ℕ) (m : Machine) (w : List Bool) (x y : Next) (a b : Reading (Option ℕ)) (h : Option ℕ → List Bool → Reading Outcome) →
+      step code l m ≡ (if c then x else y) → (c ≡ true → step code l m ≡ x → Ends code l T j m w (after a h)) →
+      (step code l m ≡ y → Ends code l T j m w (after b h)) → Ends code l T j m w (after (if c then a else b) h)
   by_bool true j m w x y a b h e p q = p refl e
   by_bool false j m w x y a b h e p q = q e
 
@@ -146,7 +168,12 @@ module _ (code : List Instruction) (l : Limits) (T V L R : ℕ) where
     at_busy : (tr k low : ℕ) (w : List Bool) → step code l (busy pc s ts tr b k low w) ≡ draws (busy pc s ts tr b k low w) x b k low
     at_busy tr k low w = ap (λ o. act l o (busy pc s ts tr b k low w)) at
 
-    read_number : (d j tr k low : ℕ) (w : List Bool) (p q : List Bool → Reading (Option ℕ)) (h : Option ℕ → List Bool → Reading Outcome) → suc d ≤ j → Fit s ts w → step code l (busy pc s ts tr b (suc k) low w) ≡ asks (narrowed (busy pc s ts tr b (suc k) low w) b k (2 * low)) (narrowed (busy pc s ts tr b (suc k) low w) b k (2 * low + 1)) → ((v : List Bool) → Fit s ts v → Ends code l T d (busy pc s ts tr b k (2 * low) v) v (after (p v) h)) → ((v : List Bool) → Fit s ts v → Ends code l T d (busy pc s ts tr b k (2 * low + 1) v) v (after (q v) h)) → Ends code l T j (busy pc s ts tr b (suc k) low w) w (after (by_bit p q w) h)
+    read_number : (d j tr k low : ℕ) (w : List Bool) (p q : List Bool → Reading (Option ℕ)) (h : Option ℕ → List Bool → Reading Outcome) →
+        suc d ≤ j → Fit s ts w →
+        step code l (busy pc s ts tr b (suc k) low w) ≡ asks (narrowed (busy pc s ts tr b (suc k) low w) b k (2 * low)) (narrowed (busy pc s ts tr b (suc k) low w) b k (2 * low + 1)) →
+        ((v : List Bool) → Fit s ts v → Ends code l T d (busy pc s ts tr b k (2 * low) v) v (after (p v) h)) →
+        ((v : List Bool) → Fit s ts v → Ends code l T d (busy pc s ts tr b k (2 * low + 1) v) v (after (q v) h)) →
+        Ends code l T j (busy pc s ts tr b (suc k) low w) w (after (by_bit p q w) h)
     read_number d j tr k low [] p q h le fit st hp hq =
         let u : capped (T - length {A = Bool} []) ≡ capped T = ap capped (omega arith) in
         ends_dry code l T j (busy pc s ts tr b (suc k) low []) _ _ (omega arith) st u
@@ -165,7 +192,10 @@ module _ (code : List Instruction) (l : Limits) (T V L R : ℕ) where
         ends_read_one code l T d j m (narrowed m b k (2 * low)) (narrowed m b k (2 * low + 1)) w (after (q w) h) le st
         (subst (λ n. Ends code l T d (record { index = pc; vars = s; turns = ts; tries = tr; rounds = R; used = n; drawing = below b k (2 * low + 1) }) w (after (q w) h)) u (hq w short))
 
-    number_runs : (k d low tr : ℕ) (w : List Bool) (h : Option ℕ → List Bool → Reading Outcome) → Fit s ts w → ((i : ℕ) (v : List Bool) → i < b → Fit s ts v → To d (pc + 1) (slice_set s x (pos i)) ts tr v (h (Some i) v)) → ((k low : ℕ) (v : List Bool) → Fit s ts v → step code l (busy pc s ts tr b k low v) ≡ retry (busy pc s ts tr b k low v) b tr → Ends code l T (d + 1) (busy pc s ts tr b k low v) v (h None v)) → Ends code l T (d + 1 + k) (busy pc s ts tr b k low w) w (after (number_on b k low w) h)
+    number_runs : (k d low tr : ℕ) (w : List Bool) (h : Option ℕ → List Bool → Reading Outcome) → Fit s ts w →
+        ((i : ℕ) (v : List Bool) → i < b → Fit s ts v → To d (pc + 1) (slice_set s x (pos i)) ts tr v (h (Some i) v)) →
+        ((k low : ℕ) (v : List Bool) → Fit s ts v → step code l (busy pc s ts tr b k low v) ≡ retry (busy pc s ts tr b k low v) b tr → Ends code l T (d + 1) (busy pc s ts tr b k low v) v (h None v)) →
+        Ends code l T (d + 1 + k) (busy pc s ts tr b k low w) w (after (number_on b k low w) h)
     number_runs zero d low tr w h fit found lost =
         by_bool (nat_lt low b) (d + 1 + 0) (busy pc s ts tr b 0 low w) w _ _ (gives (Some low) w) (gives None w) h (at_busy tr 0 low w)
         (λ t st. ends_step code l T d (d + 1 + 0) _ _ w (h (Some low) w) (omega arith) st (found low w (ltb-true low b t) fit))
@@ -180,13 +210,18 @@ module _ (code : List Instruction) (l : Limits) (T V L R : ℕ) where
       abbrev cut : ℕ → Option ℕ → List Bool → Reading Outcome
       cut t o rest = after (elim o [ Some i ↦ gives (Some i) rest | None ↦ numbers_on b t rest ]) g
 
-      retry_runs : (t k low : ℕ) (w : List Bool) → Fit s ts w → step code l (busy pc s ts (suc t) b k low w) ≡ retry (busy pc s ts (suc t) b k low w) b (suc t) → ((j : ℕ) (v : List Bool) → suc j ≡ t → Fit s ts v → Ends code l T (d + t * (bits_for b + 1)) (busy pc s ts (suc j) b (bits_for b) 0 v) v (after (numbers_on b (suc j) v) g)) → Ends code l T (d + t * (bits_for b + 1) + 1) (busy pc s ts (suc t) b k low w) w (after (numbers_on b t w) g)
+      retry_runs : (t k low : ℕ) (w : List Bool) → Fit s ts w →
+          step code l (busy pc s ts (suc t) b k low w) ≡ retry (busy pc s ts (suc t) b k low w) b (suc t) →
+          ((j : ℕ) (v : List Bool) → suc j ≡ t → Fit s ts v → Ends code l T (d + t * (bits_for b + 1)) (busy pc s ts (suc j) b (bits_for b) 0 v) v (after (numbers_on b (suc j) v) g)) →
+          Ends code l T (d + t * (bits_for b + 1) + 1) (busy pc s ts (suc t) b k low w) w (after (numbers_on b t w) g)
       retry_runs zero k low w fit st more =
           subst (λ y. Ends code l T (d + 0 * (bits_for b + 1) + 1) (busy pc s ts 1 b k low w) w y) (sym (none w)) (ends_now code l T (d + 0 * (bits_for b + 1) + 1) (busy pc s ts 1 b k low w) w (outcome.Limit Attempts) (omega arith) st refl)
       retry_runs (suc t) k low w fit st more =
           ends_step code l T (d + suc t * (bits_for b + 1)) (d + suc t * (bits_for b + 1) + 1) _ _ w _ (omega arith) st (more t w refl fit)
 
-      numbers_step : (t : ℕ) (w : List Bool) → Fit s ts w → ((j : ℕ) (v : List Bool) → suc j ≡ t → Fit s ts v → Ends code l T (d + t * (bits_for b + 1)) (busy pc s ts (suc j) b (bits_for b) 0 v) v (after (numbers_on b (suc j) v) g)) → Ends code l T (d + suc t * (bits_for b + 1)) (busy pc s ts (suc t) b (bits_for b) 0 w) w (after (numbers_on b (suc t) w) g)
+      numbers_step : (t : ℕ) (w : List Bool) → Fit s ts w →
+          ((j : ℕ) (v : List Bool) → suc j ≡ t → Fit s ts v → Ends code l T (d + t * (bits_for b + 1)) (busy pc s ts (suc j) b (bits_for b) 0 v) v (after (numbers_on b (suc j) v) g)) →
+          Ends code l T (d + suc t * (bits_for b + 1)) (busy pc s ts (suc t) b (bits_for b) 0 w) w (after (numbers_on b (suc t) w) g)
       numbers_step t w fit more =
           let D = d + t * (bits_for b + 1) in
           let q = number_runs (bits_for b) D 0 (suc t) w (cut t) fit
@@ -195,7 +230,8 @@ module _ (code : List Instruction) (l : Limits) (T V L R : ℕ) where
           subst (λ y. Ends code l T (d + suc t * (bits_for b + 1)) (busy pc s ts (suc t) b (bits_for b) 0 w) w y) (sym (after_after (number_on b (bits_for b) 0 w) (λ o rest. elim o [ Some i ↦ gives (Some i) rest | None ↦ numbers_on b t rest ]) g))
           (ends_longer code l T (D + 1 + bits_for b) _ _ w _ (omega arith) q)
 
-      pub numbers_run : (t : ℕ) (w : List Bool) → Fit s ts w → Ends code l T (d + suc t * (bits_for b + 1)) (busy pc s ts (suc t) b (bits_for b) 0 w) w (after (numbers_on b (suc t) w) g)
+      pub numbers_run : (t : ℕ) (w : List Bool) → Fit s ts w →
+          Ends code l T (d + suc t * (bits_for b + 1)) (busy pc s ts (suc t) b (bits_for b) 0 w) w (after (numbers_on b (suc t) w) g)
       numbers_run zero w fit = numbers_step zero w fit (λ j v e ok. absurd (cc))
       numbers_run (suc t) w fit = numbers_step (suc t) w fit (λ j v e ok. subst (λ i. Ends code l T (d + suc t * (bits_for b + 1)) (busy pc s ts (suc i) b (bits_for b) 0 v) v (after (numbers_on b (suc i) v) g)) (cc) (numbers_run t v ok))
 
@@ -215,14 +251,19 @@ module _ (code : List Instruction) (l : Limits) (T V L R : ℕ) where
       abbrev m' : State → List ℕ → ℕ → List Bool → Machine
       m' s us tr w = here lt s us tr w
 
-      loop_zero : (x : ℤ) (s : State) (us : List ℕ) (tr : ℕ) (w : List Bool) → Fit s us w → Keeps c ts us → slice_index us c ≡ 0 → step code l (m' s us tr w) ≡ by_truth x (turn (m' s us tr w) c pb (slice_index us c)) (goes (at_index (m' s us tr w) (lt + 1))) → To (d + 1) lt s us tr w (after (by_truth x (gives (limit Turns) w) (gives (on s) w)) (go_on k f))
+      loop_zero : (x : ℤ) (s : State) (us : List ℕ) (tr : ℕ) (w : List Bool) → Fit s us w → Keeps c ts us → slice_index us c ≡ 0 →
+          step code l (m' s us tr w) ≡ by_truth x (turn (m' s us tr w) c pb (slice_index us c)) (goes (at_index (m' s us tr w) (lt + 1))) →
+          To (d + 1) lt s us tr w (after (by_truth x (gives (limit Turns) w) (gives (on s) w)) (go_on k f))
       loop_zero (pos zero) s us tr w fit kept h st = ends_step code l T d (d + 1) _ _ w (k s w) (omega arith) st (exit.by s us tr w fit kept)
       loop_zero (pos (suc x)) s us tr w fit kept h st =
           ends_now code l T (d + 1) (m' s us tr w) w (outcome.Limit Turns) (omega arith) (st ∙ ap (turn (m' s us tr w) c pb) h) refl
       loop_zero (negsuc x) s us tr w fit kept h st =
           ends_now code l T (d + 1) (m' s us tr w) w (outcome.Limit Turns) (omega arith) (st ∙ ap (turn (m' s us tr w) c pb) h) refl
 
-      turn_runs : (t : ℕ) (s : State) (us : List ℕ) (tr : ℕ) (w : List Bool) → Fit s us w → Keeps c ts us → slice_index us c ≡ suc t → step code l (m' s us tr w) ≡ turn (m' s us tr w) c pb (slice_index us c) → ((s : State) (us : List ℕ) (tr : ℕ) (w : List Bool) → Fit s us w → Keeps c ts us → slice_index us c ≡ t → To (d + 1 + t * (cost n' r' a + 1)) lt s us tr w (after (loop_on (value_of e) (tree_on n' r' a) t s w) (go_on k f))) → To (d + 1 + suc t * (cost n' r' a + 1)) lt s us tr w (after (after (tree_on n' r' a s w) (λ e' rest. by_end (λ e'. gives e' rest) e' (λ s. loop_on (value_of e) (tree_on n' r' a) t s rest))) (go_on k f))
+      turn_runs : (t : ℕ) (s : State) (us : List ℕ) (tr : ℕ) (w : List Bool) → Fit s us w → Keeps c ts us →
+          slice_index us c ≡ suc t → step code l (m' s us tr w) ≡ turn (m' s us tr w) c pb (slice_index us c) →
+          ((s : State) (us : List ℕ) (tr : ℕ) (w : List Bool) → Fit s us w → Keeps c ts us → slice_index us c ≡ t → To (d + 1 + t * (cost n' r' a + 1)) lt s us tr w (after (loop_on (value_of e) (tree_on n' r' a) t s w) (go_on k f))) →
+          To (d + 1 + suc t * (cost n' r' a + 1)) lt s us tr w (after (after (tree_on n' r' a s w) (λ e' rest. by_end (λ e'. gives e' rest) e' (λ s. loop_on (value_of e) (tree_on n' r' a) t s rest))) (go_on k f))
       turn_runs t s us tr w fit kept h st more =
           let k' = λ (s : State) (rest : List Bool). after (loop_on (value_of e) (tree_on n' r' a) t s rest) (go_on k f) in
           let us' = slice_set us c t in
@@ -236,13 +277,18 @@ module _ (code : List Instruction) (l : Limits) (T V L R : ℕ) where
           subst (λ y. To (d + 1 + suc t * (cost n' r' a + 1)) lt s us tr w y) (sym (after_end (tree_on n' r' a s w) (λ s rest. loop_on (value_of e) (tree_on n' r' a) t s rest) k f))
           (ends_step code l T (d' + cost n' r' a) _ _ _ w _ (omega arith) (st ∙ ap (turn (m' s us tr w) c pb) h) q)
 
-      loop_suc : (t : ℕ) (x : ℤ) (s : State) (us : List ℕ) (tr : ℕ) (w : List Bool) → Fit s us w → Keeps c ts us → slice_index us c ≡ suc t → step code l (m' s us tr w) ≡ by_truth x (turn (m' s us tr w) c pb (slice_index us c)) (goes (at_index (m' s us tr w) (lt + 1))) → ((s : State) (us : List ℕ) (tr : ℕ) (w : List Bool) → Fit s us w → Keeps c ts us → slice_index us c ≡ t → To (d + 1 + t * (cost n' r' a + 1)) lt s us tr w (after (loop_on (value_of e) (tree_on n' r' a) t s w) (go_on k f))) → To (d + 1 + suc t * (cost n' r' a + 1)) lt s us tr w (after (by_truth x (after (tree_on n' r' a s w) (λ e' rest. by_end (λ e'. gives e' rest) e' (λ s. loop_on (value_of e) (tree_on n' r' a) t s rest))) (gives (on s) w)) (go_on k f))
+      loop_suc : (t : ℕ) (x : ℤ) (s : State) (us : List ℕ) (tr : ℕ) (w : List Bool) → Fit s us w → Keeps c ts us →
+          slice_index us c ≡ suc t →
+          step code l (m' s us tr w) ≡ by_truth x (turn (m' s us tr w) c pb (slice_index us c)) (goes (at_index (m' s us tr w) (lt + 1))) →
+          ((s : State) (us : List ℕ) (tr : ℕ) (w : List Bool) → Fit s us w → Keeps c ts us → slice_index us c ≡ t → To (d + 1 + t * (cost n' r' a + 1)) lt s us tr w (after (loop_on (value_of e) (tree_on n' r' a) t s w) (go_on k f))) →
+          To (d + 1 + suc t * (cost n' r' a + 1)) lt s us tr w (after (by_truth x (after (tree_on n' r' a s w) (λ e' rest. by_end (λ e'. gives e' rest) e' (λ s. loop_on (value_of e) (tree_on n' r' a) t s rest))) (gives (on s) w)) (go_on k f))
       loop_suc t (pos zero) s us tr w fit kept h st more =
           ends_step code l T d (d + 1 + suc t * (cost n' r' a + 1)) _ _ w (k s w) (omega arith) st (exit.by s us tr w fit kept)
       loop_suc t (pos (suc x)) s us tr w fit kept h st more = turn_runs t s us tr w fit kept h st more
       loop_suc t (negsuc x) s us tr w fit kept h st more = turn_runs t s us tr w fit kept h st more
 
-      loop_runs : (t : ℕ) (s : State) (us : List ℕ) (tr : ℕ) (w : List Bool) → Fit s us w → Keeps c ts us → slice_index us c ≡ t → To (d + 1 + t * (cost n' r' a + 1)) lt s us tr w (after (loop_on (value_of e) (tree_on n' r' a) t s w) (go_on k f))
+      loop_runs : (t : ℕ) (s : State) (us : List ℕ) (tr : ℕ) (w : List Bool) → Fit s us w → Keeps c ts us → slice_index us c ≡ t →
+          To (d + 1 + t * (cost n' r' a + 1)) lt s us tr w (after (loop_on (value_of e) (tree_on n' r' a) t s w) (go_on k f))
       loop_runs zero s us tr w fit kept h =
           by_val (d + 1 + 0 * (cost n' r' a + 1)) (m' s us tr w) w (value_of e s) _ _ k f (omega arith) refl (at_place lt (Loop c pb e) s us tr w at)
           (λ x is st. ends_longer code l T (d + 1) _ _ w _ (omega arith) (loop_zero x s us tr w fit kept h st))
@@ -250,16 +296,24 @@ module _ (code : List Instruction) (l : Limits) (T V L R : ℕ) where
           by_val (d + 1 + suc t * (cost n' r' a + 1)) (m' s us tr w) w (value_of e s) _ _ k f (omega arith) refl (at_place lt (Loop c pb e) s us tr w at)
           (λ x is st. loop_suc t x s us tr w fit kept h st (loop_runs t))
 
-    some_attempt : (x : Flips) (g : Option ℕ → List Bool → Reading Outcome) (d ld : ℕ) (s : State) (ts : List ℕ) (w : List Bool) (q : ℕ) → 1 ≤ q → ((k : ℕ) → To (d + suc k * (flips_size x + 1)) ld s ts (suc k) w (after (draw_by x (suc k) w) g)) → To (d + q * (flips_size x + 1)) ld s ts q w (after (draw_by x q w) g)
+    some_attempt : (x : Flips) (g : Option ℕ → List Bool → Reading Outcome) (d ld : ℕ) (s : State) (ts : List ℕ) (w : List Bool) (q : ℕ) →
+        1 ≤ q → ((k : ℕ) → To (d + suc k * (flips_size x + 1)) ld s ts (suc k) w (after (draw_by x (suc k) w) g)) →
+        To (d + q * (flips_size x + 1)) ld s ts q w (after (draw_by x q w) g)
     some_attempt x g d ld s ts w zero le h = absurd (omega arith)
     some_attempt x g d ld s ts w (suc q) le h = h q
 
-    first_try : (b pc : ℕ) (s : State) (ts : List ℕ) (w : List Bool) (g : Option ℕ → List Bool → Reading Outcome) (d q : ℕ) → 1 ≤ q → ((t : ℕ) → Ends code l T (d + suc t * (bits_for b + 1)) (busy pc s ts (suc t) b (bits_for b) 0 w) w (after (numbers_on b (suc t) w) g)) → Ends code l T (d + q * (bits_for b + 1)) (busy pc s ts q b (bits_for b) 0 w) w (after (numbers_on b q w) g)
+    first_try : (b pc : ℕ) (s : State) (ts : List ℕ) (w : List Bool) (g : Option ℕ → List Bool → Reading Outcome) (d q : ℕ) →
+        1 ≤ q →
+        ((t : ℕ) → Ends code l T (d + suc t * (bits_for b + 1)) (busy pc s ts (suc t) b (bits_for b) 0 w) w (after (numbers_on b (suc t) w) g)) →
+        Ends code l T (d + q * (bits_for b + 1)) (busy pc s ts q b (bits_for b) 0 w) w (after (numbers_on b q w) g)
     first_try b pc s ts w g d zero le h = absurd (omega arith)
     first_try b pc s ts w g d (suc q) le h = h q
 
     -- a draw below a bound, from its start
-    bound_runs : (x : ℕ) (e : Expression) (d pc c b : ℕ) (s : State) (ts : List ℕ) (tr : ℕ) (w : List Bool) (k : State → List Bool → Reading Outcome) → 1 ≤ l.attempts → slice_get code pc ≡ Some (Range x e) → b < 2 ^ 63 → Fit s ts w → Cont d (pc + 1) c ts k → step code l (here pc s ts tr w) ≡ goes (busy pc s ts l.attempts b (bits_for b) 0 w) → To (d + (1 + r' * 65)) pc s ts tr w (after (after (draw_on (uniform_ends b) r' w) (λ o rest. by_class (gives (limit Attempts) rest) o (λ i. gives (on (slice_set s x (pos i))) rest))) (go_on k f))
+    bound_runs : (x : ℕ) (e : Expression) (d pc c b : ℕ) (s : State) (ts : List ℕ) (tr : ℕ) (w : List Bool) (k : State → List Bool → Reading Outcome) →
+        1 ≤ l.attempts → slice_get code pc ≡ Some (Range x e) → b < 2 ^ 63 → Fit s ts w → Cont d (pc + 1) c ts k →
+        step code l (here pc s ts tr w) ≡ goes (busy pc s ts l.attempts b (bits_for b) 0 w) →
+        To (d + (1 + r' * 65)) pc s ts tr w (after (after (draw_on (uniform_ends b) r' w) (λ o rest. by_class (gives (limit Attempts) rest) o (λ i. gives (on (slice_set s x (pos i))) rest))) (go_on k f))
     bound_runs x e d pc c b s ts tr w k low at lt fit q st =
         let g = λ (o : Option ℕ) (rest : List Bool). after (by_class (gives (limit Attempts) rest) o (λ i. gives (on (slice_set s x (pos i))) rest)) (go_on k f) in
         let small = bits_small b lt in
@@ -271,13 +325,17 @@ module _ (code : List Instruction) (l : Limits) (T V L R : ℕ) where
         subst (λ y. To (d + (1 + r' * 65)) pc s ts tr w y) (sym (ap (λ y. after (after y (λ o rest. by_class (gives (limit Attempts) rest) o (λ i. gives (on (slice_set s x (pos i))) rest))) (go_on k f)) (uniform_same b r' w) ∙ after_after (numbers_on b r' w) (λ o rest. by_class (gives (limit Attempts) rest) o (λ i. gives (on (slice_set s x (pos i))) rest)) (go_on k f)))
         (ends_step code l T (d + r' * (bits_for b + 1)) (d + (1 + r' * 65)) (here pc s ts tr w) _ w _ (omega (arith, few)) st drawn)
 
-    range_runs : (x : ℕ) (e : Expression) (d pc c : ℕ) (v : ℤ) (s : State) (ts : List ℕ) (tr : ℕ) (w : List Bool) (k : State → List Bool → Reading Outcome) → 1 ≤ l.attempts → slice_get code pc ≡ Some (Range x e) → IsTrue (fits_64 v) → Fit s ts w → Cont d (pc + 1) c ts k → step code l (here pc s ts tr w) ≡ by_bound v (ends (outcome.Fault BadBound)) (λ b. goes (busy pc s ts l.attempts b (bits_for b) 0 w)) → To (d + (1 + r' * 65)) pc s ts tr w (after (uniform_on r' x v s w) (go_on k f))
+    range_runs : (x : ℕ) (e : Expression) (d pc c : ℕ) (v : ℤ) (s : State) (ts : List ℕ) (tr : ℕ) (w : List Bool) (k : State → List Bool → Reading Outcome) →
+        1 ≤ l.attempts → slice_get code pc ≡ Some (Range x e) → IsTrue (fits_64 v) → Fit s ts w → Cont d (pc + 1) c ts k →
+        step code l (here pc s ts tr w) ≡ by_bound v (ends (outcome.Fault BadBound)) (λ b. goes (busy pc s ts l.attempts b (bits_for b) 0 w)) →
+        To (d + (1 + r' * 65)) pc s ts tr w (after (uniform_on r' x v s w) (go_on k f))
     range_runs x e d pc c (pos zero) s ts tr w k low at fits fit q st = ends_now code l T _ (here pc s ts tr w) w (outcome.Fault BadBound) (omega arith) st refl
     range_runs x e d pc c (negsuc v) s ts tr w k low at fits fit q st = ends_now code l T _ (here pc s ts tr w) w (outcome.Fault BadBound) (omega arith) st refl
     range_runs x e d pc c (pos (suc v)) s ts tr w k low at fits fit q st = bound_runs x e d pc c (suc v) s ts tr w k low at (bound_small (suc v) fits) fit q st
 
     -- after an arm: on to le, by a jump where another arm follows
-    leave_runs : (b : BitTrees) (d c le p : ℕ) (ts : List ℕ) (k : State → List Bool → Reading Outcome) (is : List Instruction) → HasAt code p (goto_end b le ++ is) → p + gap b + arms_size b ≡ le → Cont d le c ts k → Cont (d + gap b) p c ts k
+    leave_runs : (b : BitTrees) (d c le p : ℕ) (ts : List ℕ) (k : State → List Bool → Reading Outcome) (is : List Instruction) →
+        HasAt code p (goto_end b le ++ is) → p + gap b + arms_size b ≡ le → Cont d le c ts k → Cont (d + gap b) p c ts k
     leave_runs done d c le p ts k is has e q = cont_longer d (d + 0) le p c c ts ts k (omega arith) (omega arith) (omega arith) (keeps_all c ts) q
     leave_runs (t ▸ b) d c le p ts k is has e q = record {
       by = λ s us tr w fit kept. ends_step code l T d (d + 1) _ _ w (k s w) (omega arith) (at_place p (Goto le) s us tr w has.0) (q.by s us tr w fit kept);
@@ -285,7 +343,9 @@ module _ (code : List Instruction) (l : Limits) (T V L R : ℕ) where
 
     module _ (tries_from : 1 ≤ l.attempts) where
       mutual
-        pub one_runs : (t : BitTree) (d pc c : ℕ) (s : State) (ts : List ℕ) (tr : ℕ) (w : List Bool) (k : State → List Bool → Reading Outcome) → d0 ≤ d → IsRunnable t → HasAt code pc (tree_code t pc c) → c + loops t ≤ L → Fit s ts w → Cont d (pc + size t) c ts k → One t d pc c s ts tr w k
+        pub one_runs : (t : BitTree) (d pc c : ℕ) (s : State) (ts : List ℕ) (tr : ℕ) (w : List Bool) (k : State → List Bool → Reading Outcome) →
+            d0 ≤ d → IsRunnable t → HasAt code pc (tree_code t pc c) → c + loops t ≤ L → Fit s ts w → Cont d (pc + size t) c ts k →
+            One t d pc c s ts tr w k
         one_runs fail d pc c s ts tr w k deep fine has within fit q =
             ends_longer code l T d0 _ _ w (f w) (omega arith) (back.by pc s ts tr w fit has.0)
         one_runs (store x e) d pc c s ts tr w k deep fine has within fit q =
@@ -354,7 +414,9 @@ module _ (code : List Instruction) (l : Limits) (T V L R : ℕ) where
             let jump = ends_step code l T d2 (d2 + 1) (here (pc + 1) s us tr w) (here lt s us tr w) w _ (omega arith) (at_place (pc + 1) (Goto lt) s us tr w has.1.0) run in
             ends_step code l T (d2 + 1) (d + cost n' r' (fix e a)) (here pc s ts tr w) (here (pc + 1) s us tr w) w _ (omega arith) (at_place pc (Arm c) s ts tr w has.0) jump
 
-        pub all_runs : (b : BitTrees) (d pc c : ℕ) (s : State) (ts : List ℕ) (tr : ℕ) (w : List Bool) (k : State → List Bool → Reading Outcome) → d0 ≤ d → RowIsRunnable b → HasAt code pc (row_code b pc c) → c + row_loops b ≤ L → Fit s ts w → Cont d (pc + row_size b) c ts k → To (d + row_cost n' r' b) pc s ts tr w (after (row_on n' r' b s w) (go_on k f))
+        pub all_runs : (b : BitTrees) (d pc c : ℕ) (s : State) (ts : List ℕ) (tr : ℕ) (w : List Bool) (k : State → List Bool → Reading Outcome) →
+            d0 ≤ d → RowIsRunnable b → HasAt code pc (row_code b pc c) → c + row_loops b ≤ L → Fit s ts w →
+            Cont d (pc + row_size b) c ts k → To (d + row_cost n' r' b) pc s ts tr w (after (row_on n' r' b s w) (go_on k f))
         all_runs done d pc c s ts tr w k deep fine has within fit q =
             ends_longer code l T d (d + 0) _ w (k s w) (omega arith) (subst (λ p. To d p s ts tr w (k s w)) (omega arith) (q.by s ts tr w fit (keeps_all c ts)))
         all_runs (t ▸ b) d pc c s ts tr w k deep fine has within fit q =
@@ -373,7 +435,10 @@ module _ (code : List Instruction) (l : Limits) (T V L R : ℕ) where
             (ends_longer code l T (d' + cost n' r' t) _ _ w _ (omega arith) run)
 
         -- the arm i, of those that begin at pc and go on at le
-        pub arm_runs : (b : BitTrees) (i d pc c le : ℕ) (s : State) (ts : List ℕ) (tr : ℕ) (w : List Bool) (k : State → List Bool → Reading Outcome) → d0 ≤ d → RowIsRunnable b → HasAt code pc (arms_code b pc c le) → c + row_loops b ≤ L → Fit s ts w → pc + arms_size b ≡ le → Cont d le c ts k → To (d + arms_cost n' r' b) (arm_start b pc i) s ts tr w (after (arm_on n' r' b i s w) (go_on k f))
+        pub arm_runs : (b : BitTrees) (i d pc c le : ℕ) (s : State) (ts : List ℕ) (tr : ℕ) (w : List Bool) (k : State → List Bool → Reading Outcome) →
+            d0 ≤ d → RowIsRunnable b → HasAt code pc (arms_code b pc c le) → c + row_loops b ≤ L → Fit s ts w →
+            pc + arms_size b ≡ le → Cont d le c ts k →
+            To (d + arms_cost n' r' b) (arm_start b pc i) s ts tr w (after (arm_on n' r' b i s w) (go_on k f))
         arm_runs done i d pc c le s ts tr w k deep fine has within fit e q =
             ends_longer code l T d (d + 0) _ w (k s w) (omega arith) (subst (λ p. To d p s ts tr w (k s w)) (sym e ∙ (omega arith)) (q.by s ts tr w fit (keeps_all c ts)))
         arm_runs (t ▸ b) zero d pc c le s ts tr w k deep fine has within fit e q =

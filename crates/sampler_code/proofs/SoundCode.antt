@@ -31,7 +31,8 @@ module _ (n L V : ℕ) where
   sound_join [] b pc p e h i = sound_at p pc b (omega arith) i
   sound_join (x ∷ a) b pc p e h i = (h.0, sound_join a b (pc + 1) p (omega arith) h.1 i)
 
-  sound_get : (is : List Instruction) (pc k : ℕ) (i : Instruction) → SoundAt pc is → slice_get is k ≡ Some i → Knows L V i × Leads n (pc + k) i
+  sound_get : (is : List Instruction) (pc k : ℕ) (i : Instruction) → SoundAt pc is → slice_get is k ≡ Some i →
+      Knows L V i × Leads n (pc + k) i
   sound_get [] pc k i h e = absurd (cc)
   sound_get (x ∷ is) pc zero i h e =
       let same : x ≡ i = cc in
@@ -39,7 +40,8 @@ module _ (n L V : ℕ) where
   sound_get (x ∷ is) pc (suc k) i h e =
       subst (λ p. Knows L V i × Leads n p i) (omega arith) (sound_get is (pc + 1) k i h.1 e)
 
-  flips_sound : (ld : ℕ) (start : ℕ → ℕ) (d : Flips) (pc p : ℕ) → ld ≤ pc → pc + flips_size d ≤ p → p < n → ((i : ℕ) → (p ≤ start i) × (start i < n)) → SoundAt pc (flips_code ld start d pc)
+  flips_sound : (ld : ℕ) (start : ℕ → ℕ) (d : Flips) (pc p : ℕ) → ld ≤ pc → pc + flips_size d ≤ p → p < n →
+      ((i : ℕ) → (p ≤ start i) × (start i < n)) → SoundAt pc (flips_code ld start d pc)
   flips_sound ld start (leaf (Some i)) pc p low le lt at = ((tt, (let h = at i in omega arith, (at i).1)), tt)
   flips_sound ld start (leaf None) pc p low le lt at = ((tt, low), tt)
   flips_sound ld start (flip l r) pc p low le lt at = (
@@ -90,14 +92,16 @@ module _ (n L V : ℕ) where
       ),
     )
 
-    all_sound : (ts : BitTrees) (pc c : ℕ) → RowIsFine V ts → c + row_loops ts ≤ L → pc + row_size ts < n → SoundAt pc (row_code ts pc c)
+    all_sound : (ts : BitTrees) (pc c : ℕ) → RowIsFine V ts → c + row_loops ts ≤ L → pc + row_size ts < n →
+        SoundAt pc (row_code ts pc c)
     all_sound done pc c fine within lt = tt
     all_sound (t ▸ ts) pc c fine within lt =
         sound_join (tree_code t pc c) (row_code ts (pc + size t) (c + loops t)) pc (pc + size t) (ap (λ k. pc + k) (one_length t pc c))
         (one_sound t pc c fine.0 (omega arith) (omega arith))
         (all_sound ts (pc + size t) (c + loops t) fine.1 (omega arith) (omega arith))
 
-    arms_sound : (ts : BitTrees) (pc c le : ℕ) → RowIsFine V ts → c + row_loops ts ≤ L → pc + arms_size ts ≡ le → le < n → SoundAt pc (arms_code ts pc c le)
+    arms_sound : (ts : BitTrees) (pc c le : ℕ) → RowIsFine V ts → c + row_loops ts ≤ L → pc + arms_size ts ≡ le → le < n →
+        SoundAt pc (arms_code ts pc c le)
     arms_sound done pc c le fine within e lt = tt
     arms_sound (t ▸ ts) pc c le fine within e lt =
         let p = pc + size t + gap ts in

@@ -9,7 +9,9 @@ use Rattle.sampler_code.specs.Assembled.{Assembled, assembled}
 use Rattle.sampler_code.specs.Running.{Reached, Follows, Answers, run_of}
 use Rattle.sampler_run.specs.CodeWeight.{answer_reached, code_answer}
 
-pub compiled : (t : TiedTree) (c s : Assembled) (p : Source) → s ≡ c → c ≡ assembled t → Follows t c.instrs → ((l : Limits) (w : List Bool) → tied_on t l w ≡ run_on p l w) → (l : Limits) (w : List Bool) → InRange l → Answers (run_of s.instrs s.vars s.loops l w) (run_on p l w)
+pub compiled : (t : TiedTree) (c s : Assembled) (p : Source) → s ≡ c → c ≡ assembled t → Follows t c.instrs →
+    ((l : Limits) (w : List Bool) → tied_on t l w ≡ run_on p l w) → (l : Limits) (w : List Bool) → InRange l →
+    Answers (run_of s.instrs s.vars s.loops l w) (run_on p l w)
 compiled t c s p e f follows runs l w r =
     let g = subst (λ (c : Assembled). Follows t c.instrs) f follows in
     let a = g.answers l w r in (

@@ -32,14 +32,16 @@ silent code l (suc k) m = silent_after (step code l m) (silent code l k)
 pub steps_left : List Instruction → Limits → Machine → ℕ
 steps_left code l m = silent code l (most_steps code l) m
 
-silent_same : (x : Next) (m : Machine) (f : Machine → List Bool → Option Reached) (g h : Machine → ℕ) (a : Reached) → ((m : Machine) → f m [] ≡ Some a → g m ≡ h m) → follow x m f [] ≡ Some a → silent_after x g ≡ silent_after x h
+silent_same : (x : Next) (m : Machine) (f : Machine → List Bool → Option Reached) (g h : Machine → ℕ) (a : Reached) →
+    ((m : Machine) → f m [] ≡ Some a → g m ≡ h m) → follow x m f [] ≡ Some a → silent_after x g ≡ silent_after x h
 silent_same (goes n) m f g h a p e = ap suc (p n e)
 silent_same (asks n o) m f g h a p e = refl
 silent_same (ends x) m f g h a p e = refl
 silent_same stuck m f g h a p e = refl
 
 module _ (code : List Instruction) (l : Limits) where
-  silent_enough : (k j : ℕ) (m : Machine) (a : Reached) → k ≤ j → within_steps code l k m [] ≡ Some a → silent code l j m ≡ silent code l k m
+  silent_enough : (k j : ℕ) (m : Machine) (a : Reached) → k ≤ j → within_steps code l k m [] ≡ Some a →
+      silent code l j m ≡ silent code l k m
   unfolding within_steps silent
   silent_enough zero j m a le e = absurd (cc)
   silent_enough (suc k) zero m a le e = absurd (omega arith)
@@ -47,7 +49,8 @@ module _ (code : List Instruction) (l : Limits) where
       silent_same (step code l m) m (within_steps code l k) (silent code l j) (silent code l k) a (λ n f. silent_enough k j n a (omega arith) f) e
 
   -- one step less
-  step_less : (q : ℕ) (m n : Machine) (a : Reached) → step code l m ≡ goes n → within_steps code l q m [] ≡ Some a → silent code l q n < silent code l q m
+  step_less : (q : ℕ) (m n : Machine) (a : Reached) → step code l m ≡ goes n → within_steps code l q m [] ≡ Some a →
+      silent code l q n < silent code l q m
   unfolding within_steps silent
   step_less zero m n a e f = absurd (cc)
   step_less (suc q) m n a e f =
@@ -61,41 +64,49 @@ module _ (code : List Instruction) (l : Limits) where
   falls m n h e = step_less (most_steps code l) m n (h []).0 e (h []).1
 
   -- the rest of a run after a step
-  step_rest : (q : ℕ) (m n : Machine) (w : List Bool) (a : Reached) → step code l m ≡ goes n → within_steps code l q m w ≡ Some a → within_steps code l q n w ≡ Some a
+  step_rest : (q : ℕ) (m n : Machine) (w : List Bool) (a : Reached) → step code l m ≡ goes n → within_steps code l q m w ≡ Some a →
+      within_steps code l q n w ≡ Some a
   unfolding within_steps
   step_rest zero m n w a e f = absurd (cc)
   step_rest (suc q) m n w a e f =
       longer code l q (suc q) n w a (omega arith) (ap (λ x. follow x m (within_steps code l q) w) (sym e) ∙ f)
 
-  pub step_same : (m n : Machine) → Answered code l m → step code l m ≡ goes n → (w : List Bool) → rest_of code l n w ≡ rest_of code l m w
+  pub step_same : (m n : Machine) → Answered code l m → step code l m ≡ goes n → (w : List Bool) →
+      rest_of code l n w ≡ rest_of code l m w
   step_same m n h e w = step_rest (most_steps code l) m n w (h w).0 e (h w).1 ∙ sym (h w).1
 
   -- and after a bit
-  side_rest : (q : ℕ) (x : Next) (m : Machine) (b : Bool) (w : List Bool) (a : Reached) → Asks x → follow x m (within_steps code l q) (b ∷ w) ≡ Some a → within_steps code l q (side x b m) w ≡ Some a
+  side_rest : (q : ℕ) (x : Next) (m : Machine) (b : Bool) (w : List Bool) (a : Reached) → Asks x →
+      follow x m (within_steps code l q) (b ∷ w) ≡ Some a → within_steps code l q (side x b m) w ≡ Some a
   side_rest q (goes n) m b w a h f = absurd h
   side_rest q (asks n o) m false w a h f = f
   side_rest q (asks n o) m true w a h f = f
   side_rest q (ends x) m b w a h f = absurd h
   side_rest q stuck m b w a h f = absurd h
 
-  bit_rest : (q : ℕ) (m : Machine) (b : Bool) (w : List Bool) (a : Reached) → Asks (step code l m) → within_steps code l q m (b ∷ w) ≡ Some a → within_steps code l q (side (step code l m) b m) w ≡ Some a
+  bit_rest : (q : ℕ) (m : Machine) (b : Bool) (w : List Bool) (a : Reached) → Asks (step code l m) →
+      within_steps code l q m (b ∷ w) ≡ Some a → within_steps code l q (side (step code l m) b m) w ≡ Some a
   unfolding within_steps
   bit_rest zero m b w a h f = absurd (cc)
   bit_rest (suc q) m b w a h f = longer code l q (suc q) _ w a (omega arith) (side_rest q (step code l m) m b w a h f)
 
-  pub bit_same : (m n : Machine) (b : Bool) → Answered code l m → Asks (step code l m) → n ≡ side (step code l m) b m → (w : List Bool) → rest_of code l n w ≡ rest_of code l m (b ∷ w)
+  pub bit_same : (m n : Machine) (b : Bool) → Answered code l m → Asks (step code l m) → n ≡ side (step code l m) b m →
+      (w : List Bool) → rest_of code l n w ≡ rest_of code l m (b ∷ w)
   bit_same m n b h needs e w =
       ap (λ n. rest_of code l n w) e ∙ bit_rest (most_steps code l) m b w (h (b ∷ w)).0 needs (h (b ∷ w)).1 ∙ sym (h (b ∷ w)).1
 
   -- a machine whose rest is that of an answered one is answered
-  pub answered_as : (m n : Machine) → Answered code l m → ((w : List Bool) → rest_of code l n w ≡ rest_of code l m w) → Answered code l n
+  pub answered_as : (m n : Machine) → Answered code l m → ((w : List Bool) → rest_of code l n w ≡ rest_of code l m w) →
+      Answered code l n
   answered_as m n h e w = ((h w).0, e w ∙ (h w).1)
 
-  pub answered_bit : (m n : Machine) (b : Bool) → Answered code l m → ((w : List Bool) → rest_of code l n w ≡ rest_of code l m (b ∷ w)) → Answered code l n
+  pub answered_bit : (m n : Machine) (b : Bool) → Answered code l m →
+      ((w : List Bool) → rest_of code l n w ≡ rest_of code l m (b ∷ w)) → Answered code l n
   answered_bit m n b h e w = ((h (b ∷ w)).0, e w ∙ (h (b ∷ w)).1)
 
   -- it stands at an instruction
-  within_of : (q : ℕ) (m : Machine) (a : Reached) (o : Option Instruction) → slice_get code m.index ≡ o → within_steps code l q m [] ≡ Some a → m.index < length code
+  within_of : (q : ℕ) (m : Machine) (a : Reached) (o : Option Instruction) → slice_get code m.index ≡ o →
+      within_steps code l q m [] ≡ Some a → m.index < length code
   unfolding within_steps
   within_of zero m a o e f = absurd (cc)
   within_of (suc q) m a None e f = absurd (let g : None ≡ Some a = ap (λ o. follow (act l o m) m (within_steps code l q) []) (sym e) ∙ f in cc)
@@ -106,7 +117,8 @@ module _ (code : List Instruction) (l : Limits) where
 
 -- ---- a machine at rest
 
-rest_tells : (x : Next) (p : Progress) (m : Machine) (f : Machine → List Bool → Option Reached) → Rests x p → Tells (follow x m f []) p × UsedIs (follow x m f []) m.used × PlaceIs (follow x m f []) m.index
+rest_tells : (x : Next) (p : Progress) (m : Machine) (f : Machine → List Bool → Option Reached) → Rests x p →
+    Tells (follow x m f []) p × UsedIs (follow x m f []) m.used × PlaceIs (follow x m f []) m.index
 rest_tells (goes n) progress.NeedBit m f h = absurd h
 rest_tells (goes n) (progress.Ended o) m f h = absurd (cc)
 rest_tells (asks n o) progress.NeedBit m f h = (refl, refl, refl)
@@ -117,12 +129,14 @@ rest_tells stuck progress.NeedBit m f h = absurd h
 rest_tells stuck (progress.Ended o) m f h = absurd (cc)
 
 module _ (code : List Instruction) (l : Limits) where
-  rest_told : (q : ℕ) (p : Progress) (m : Machine) (a : Reached) → within_steps code l q m [] ≡ Some a → Rests (step code l m) p → Tells (within_steps code l q m []) p × UsedIs (within_steps code l q m []) m.used × PlaceIs (within_steps code l q m []) m.index
+  rest_told : (q : ℕ) (p : Progress) (m : Machine) (a : Reached) → within_steps code l q m [] ≡ Some a → Rests (step code l m) p →
+      Tells (within_steps code l q m []) p × UsedIs (within_steps code l q m []) m.used × PlaceIs (within_steps code l q m []) m.index
   unfolding within_steps
   rest_told zero p m a e h = absurd (cc)
   rest_told (suc q) p m a e h = rest_tells (step code l m) p m (within_steps code l q) h
 
-  pub at_rest : (p : Progress) (m : Machine) → Answered code l m → Rests (step code l m) p → Tells (rest_of code l m []) p × UsedIs (rest_of code l m []) m.used × PlaceIs (rest_of code l m []) m.index
+  pub at_rest : (p : Progress) (m : Machine) → Answered code l m → Rests (step code l m) p →
+      Tells (rest_of code l m []) p × UsedIs (rest_of code l m []) m.used × PlaceIs (rest_of code l m []) m.index
   at_rest p m h r = rest_told (most_steps code l) p m (h []).0 (h []).1 r
 
 tells_answer : (a : Answer) (p q : Progress) → TellsAnswer a p → TellsAnswer a q → p ≡ q
@@ -135,7 +149,8 @@ tells_one (Some a) p q h i = tells_answer a.answer p q h i
 
 -- ---- what a state that is kept tells
 
-pub kept_tells : (s : Held) (L V : ℕ) (p : Progress) → Kept s L V p → Tells (rest_on s []) p × UsedIs (rest_on s []) s.machine.used × PlaceIs (rest_on s []) s.machine.index
+pub kept_tells : (s : Held) (L V : ℕ) (p : Progress) → Kept s L V p →
+    Tells (rest_on s []) p × UsedIs (rest_on s []) s.machine.used × PlaceIs (rest_on s []) s.machine.index
 kept_tells s L V p k = at_rest s.code s.limits p s.machine k.answered k.rests
 
 is_some : {A : Type 0} (o : Option A) (a : A) → o ≡ Some a → IsSome o
@@ -150,7 +165,8 @@ pub kept_some : (s : Held) (L V : ℕ) (p : Progress) → Kept s L V p → (v : 
 kept_some s L V p k v = is_some (rest_on s v) (k.answered v).0 (k.answered v).1
 
 -- whatever is reached is the answer
-pub kept_only : (s : Held) (L V : ℕ) (p : Progress) → Kept s L V p → (v : List Bool) (a : Reached) → Reaches s.code s.limits s.machine v a → rest_on s v ≡ Some a
+pub kept_only : (s : Held) (L V : ℕ) (p : Progress) → Kept s L V p → (v : List Bool) (a : Reached) →
+    Reaches s.code s.limits s.machine v a → rest_on s v ≡ Some a
 kept_only s L V p k v a reached =
     let q = most_steps s.code s.limits in
     let h = k.answered v in
