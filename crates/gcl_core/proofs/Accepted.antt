@@ -2,6 +2,7 @@
 use Rattle.std.proofs.Common.{◌≡◌, ◌∙◌, ℕ, ◌+◌, ◌≤◌, Bool, true, false, ◌||◌, ◌==◌, nat_lt, if◌then◌else◌, List, [], ◌∷◌, ◌++◌, map, length, Option, Some, None, refl, sym, ap, subst, arith}
 use Rattle.std.proofs.lemmas.Bool.Decides.{nat_tests}
 use Rattle.std.proofs.Math.Path.{fun_ext}
+use Rattle.gcl_core.specs.declared.rules.TheConstants.{GREATEST_DENOMINATOR}
 use Rattle.gcl_core.specs.declared.syntax.Weight.{Weight}
 use Rattle.gcl_core.specs.declared.kinds.Kind.TheVariants.{Number}
 use Rattle.gcl_core.specs.Acceptance.{Flaw, zero_denominator, weight_above_one, too_fine, Refusal, too_many_names, expression_flaw, weight_flaw, statement_flaw, first_refusal, flaws_of, IsAccepted}
@@ -20,16 +21,16 @@ by_three false true c x y z e = absurd (cc)
 by_three false false true x y z e = absurd (cc)
 by_three false false false x y z e = (refl, refl, refl)
 
-flawless_weight : (w : Weight) → 1 ≤ w.den → w.num ≤ w.den → (lowest_terms w).den ≤ 256 → weight_flaw w ≡ None
+flawless_weight : (w : Weight) → 1 ≤ w.den → w.num ≤ w.den → (lowest_terms w).den ≤ GREATEST_DENOMINATOR → weight_flaw w ≡ None
 flawless_weight w positive at_most_one coarse =
     let a : (w.den == 0) ≡ false = grind (arith, nat_tests) in
     let b : nat_lt w.den w.num ≡ false = grind (arith, nat_tests) in
-    let c : nat_lt 256 (lowest_terms w).den ≡ false = grind (arith, nat_tests) in
+    let c : nat_lt GREATEST_DENOMINATOR (lowest_terms w).den ≡ false = grind (arith, nat_tests) in
     rw (a, b, c) refl
 
 module _ (w : Weight) (flawless : weight_flaw w ≡ None) where
-  tests : ((w.den == 0) ≡ false) × (nat_lt w.den w.num ≡ false) × (nat_lt 256 (lowest_terms w).den ≡ false)
-  tests = by_three (w.den == 0) (nat_lt w.den w.num) (nat_lt 256 (lowest_terms w).den) zero_denominator weight_above_one too_fine flawless
+  tests : ((w.den == 0) ≡ false) × (nat_lt w.den w.num ≡ false) × (nat_lt GREATEST_DENOMINATOR (lowest_terms w).den ≡ false)
+  tests = by_three (w.den == 0) (nat_lt w.den w.num) (nat_lt GREATEST_DENOMINATOR (lowest_terms w).den) zero_denominator weight_above_one too_fine flawless
 
   pub positive : 1 ≤ w.den
   positive = let t = tests.0 in grind (arith, nat_tests)
@@ -37,7 +38,7 @@ module _ (w : Weight) (flawless : weight_flaw w ≡ None) where
   at_most_one : w.num ≤ w.den
   at_most_one = let t = tests.1 in grind (arith, nat_tests)
 
-  coarse : (lowest_terms w).den ≤ 256
+  coarse : (lowest_terms w).den ≤ GREATEST_DENOMINATOR
   coarse = let t = tests.2 in grind (arith, nat_tests)
 
   lowest_is_weight : IsWeight (lowest_terms w)
@@ -45,7 +46,7 @@ module _ (w : Weight) (flawless : weight_flaw w ≡ None) where
 
   lowest_flawless : weight_flaw (lowest_terms w) ≡ None
   lowest_flawless =
-      flawless_weight (lowest_terms w) (lowest_positive w positive) (lowest_at_most_one w positive at_most_one) (subst (λ v. v.den ≤ 256) (sym (lowest_again w positive)) coarse)
+      flawless_weight (lowest_terms w) (lowest_positive w positive) (lowest_at_most_one w positive at_most_one) (subst (λ v. v.den ≤ GREATEST_DENOMINATOR) (sym (lowest_again w positive)) coarse)
 
 -- ---- no flaw in a list
 abbrev AllNone : List (Option Flaw) → Type 0

@@ -1,6 +1,7 @@
 -- Which programs are accepted, and the first refusal of one that is not. That weights are fractions up to 1, that numbers are no
 -- truths, that a name which is read is set somewhere, the two bounds and the order of refusals are this project's own rule.
 use Rattle.std.specs.Prelude.{◌≡◌, ℕ, ◌+◌, Bool, true, ◌&&◌, ◌==◌, nat_lt, if◌then◌else◌, List, [], ◌∷◌, ◌++◌, map, length, Option, Some, None}
+use Rattle.gcl_core.specs.declared.rules.TheConstants.{GREATEST_DENOMINATOR}
 use Rattle.gcl_core.specs.declared.syntax.Weight.{Weight}
 use Rattle.gcl_core.specs.declared.kinds.Kind.{Kind}
 use Rattle.gcl_core.specs.declared.kinds.Kind.TheVariants.{Number, Truth}
@@ -39,12 +40,12 @@ abbrev pub expression_flaw : (ℕ → Bool) → Kind → Expression → Option F
 expression_flaw known k e =
     if has_kind k e then (if reads_known known e then None else Some unknown_name) else Some kind_mismatch
 
--- a weight has to be a fraction, of at most 1, with a denominator in lowest terms of at most 256
+-- a weight has to be a fraction, of at most 1, with at most the greatest denominator in lowest terms
 abbrev pub weight_flaw : Weight → Option Flaw
 weight_flaw w =
     if w.den == 0 then Some zero_denominator
     else if nat_lt w.den w.num then Some weight_above_one
-    else if nat_lt 256 (lowest_terms w).den then Some too_fine
+    else if nat_lt GREATEST_DENOMINATOR (lowest_terms w).den then Some too_fine
     else None
 
 -- the first flaw of a statement itself, not of those in its blocks

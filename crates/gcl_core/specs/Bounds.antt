@@ -1,6 +1,7 @@
 -- Facts of all that a program names: its variables lie below a count, its numbers have 64 bits, and a fact of each weight.
 -- Programs of the code have numbers of 64 bits by their type.
 use Rattle.std.specs.Prelude.{ℕ, ◌<◌, ◌≤◌, IsTrue, length}
+use Rattle.gcl_core.specs.declared.rules.TheConstants.{GREATEST_DENOMINATOR}
 use Rattle.gcl_core.specs.declared.syntax.Weight.{Weight}
 use Rattle.gcl_core.specs.Syntax.{Expression, number, truth, variable, negative, opposite, binary, Statement, skip, assign, branch, loop, choice, uniform, observe, Statements, done, ◌▸◌, Source}
 use Rattle.gcl_core.specs.Value.{fits_64, Reads}
@@ -53,11 +54,11 @@ pub record NumbersFit (p : Source) : Type 0 where
   pub body : BlockFits p.body
   pub result : ExpressionFits p.result
 
--- a weight is at most 1, over a number from 1 to 256
+-- a weight is at most 1, over a number from 1 to the greatest denominator
 pub record IsWeight (w : Weight) : Type 0 where
   pub at_most_one : w.num ≤ w.den
   pub positive : 1 ≤ w.den
-  pub coarse : w.den ≤ 256
+  pub coarse : w.den ≤ GREATEST_DENOMINATOR
 
 -- a fact of each weight
 module _ (Fact : Weight → Type 0) where
