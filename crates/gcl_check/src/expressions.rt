@@ -11,7 +11,7 @@ ghost use Rattle.gcl_check.specs.Marks.{marked};
 ghost use Rattle.gcl_check.specs.Refused.{refusal_in};
 
 use crate::refusals::CheckError;
-use gcl_core::{Expr, Kind, Weight};
+use gcl_core::{Expr, GREATEST_DENOMINATOR, Kind, Weight};
 
 // A number is handed over, for what its type says of it.
 fn kind_of_number(number: i64) -> Kind
@@ -80,7 +80,7 @@ pub fn check_weight(weight: Weight, stmt: u32) -> Result<(), CheckError>
     }
     let mut lowest = weight;
     lowest.lowest();
-    if lowest.den > 256 {
+    if lowest.den > GREATEST_DENOMINATOR {
         return Err(CheckError::TooFine { stmt });
     }
     Ok(())

@@ -21,7 +21,7 @@ pub enum CheckError {
     /// A weight's numerator is above its denominator.
     #[error("weight above one in statement {stmt}")]
     WeightAboveOne { stmt: u32 },
-    /// A weight's denominator in lowest terms is above 256.
+    /// A weight's denominator in lowest terms is above `GREATEST_DENOMINATOR`.
     #[error("weight too fine in statement {stmt}")]
     TooFine { stmt: u32 },
 }

@@ -60,6 +60,12 @@ fn checked(
     }))
 }
 
+const FINEST: u64 = 4_611_686_018_427_387_904;
+
+fn weight(num: u64, den: u64) -> Weight {
+    Weight { num, den }
+}
+
 // The weight of the second statement.
 fn second_weight(program: &Program) -> Option<Weight> {
     match program.body.stmts.as_slice() {
@@ -73,14 +79,15 @@ fn second_weight(program: &Program) -> Option<Weight> {
 fn weights(rt: HostRuntime) -> Result<(), Fail> {
     let alloc = rt.alloc();
     let table = [
-        (2, 3, Ok(Some(Weight { num: 2, den: 3 }))),
-        (0, 5, Ok(Some(Weight { num: 0, den: 1 }))),
-        (4, 4, Ok(Some(Weight { num: 1, den: 1 }))),
-        (1, 256, Ok(Some(Weight { num: 1, den: 256 }))),
-        (2, 512, Ok(Some(Weight { num: 1, den: 256 }))),
+        (2, 3, Ok(Some(weight(2, 3)))),
+        (0, 5, Ok(Some(weight(0, 1)))),
+        (4, 4, Ok(Some(weight(1, 1)))),
+        (2, 514, Ok(Some(weight(1, 257)))),
+        (1, FINEST, Ok(Some(weight(1, FINEST)))),
+        (2, 2 * FINEST, Ok(Some(weight(1, FINEST)))),
         (5, 4, Err(CheckError::WeightAboveOne { stmt: 1 })),
         (1, 0, Err(CheckError::ZeroDenominator { stmt: 1 })),
-        (1, 257, Err(CheckError::TooFine { stmt: 1 })),
+        (1, FINEST + 1, Err(CheckError::TooFine { stmt: 1 })),
     ];
     for (num, den, want) in table {
         let choice = Stmt::Choice(Weight { num, den }, none(alloc), none(alloc));

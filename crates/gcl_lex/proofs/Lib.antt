@@ -4,5 +4,6 @@ pub mod OneCut
 pub mod PieceByPiece
 pub mod InOrder
 pub mod OneReading
+pub mod SomeReading
 pub mod Refusing
 pub mod OnePiece

@@ -1,6 +1,6 @@
 // From a text to its tokens.
 
-ghost use Rattle.std.specs.Prelude.{◌≡◌, ◌≤◌, ◌++◌, ℕ, List, length, IsTrue, IfOk, IfErr};
+ghost use Rattle.std.specs.Prelude.{◌≡◌, ◌≤◌, ◌++◌, ◌⊎◌, ℕ, List, length, IsTrue, IfOk, IfErr};
 ghost use Rattle.gcl_core.specs.declared.tokens.PieceKind.{PieceKind as TheKind};
 ghost use Rattle.gcl_core.specs.declared.tokens.Token.{Token as TheToken};
 ghost use Rattle.gcl_core.specs.Pieces.{is_piece, Longest, Piece, Pieces};
@@ -50,9 +50,10 @@ pub fn lex(alloc: Global, text: &[u8]) -> Result<Vec<Token>, LexError>
     }
 }
 
-/// A text is cut into pieces in at most one way. It has at most one list of tokens, or is refused for one reason at one place, and
-/// never both.
+/// Each list of bytes has exactly one list of tokens, or is refused for exactly one reason at one place, and never both. It is cut
+/// into pieces in at most one way.
 pub fn one_answer()
+    ensures some { (text : List ℕ) → ((ts : List TheToken) × IsLexed text ts) ⊎ ((r : LexRefusal) × IsRefused text r) }
     ensures pieces { (text : List ℕ) (ps qs : List Piece) → Pieces text ps → Pieces text qs → ps ≡ qs }
     ensures tokens { (text : List ℕ) (ts us : List TheToken) → IsLexed text ts → IsLexed text us → ts ≡ us }
     ensures refusal { (text : List ℕ) (r s : LexRefusal) → IsRefused text r → IsRefused text s → r ≡ s }

@@ -26,7 +26,7 @@ kinds_derive text tokens p =
     let d = by_kinds (words_of text tokens) (rw (kinds-words text tokens) p) in
     record { program = _; places = beginnings tokens; derives = derives text tokens refl refl d.2 refl }
 
-not_refused : (ks : List TokenKind) (i : ℕ) → RefusedAt ks i → IsProgram ks → ⊥
+pub not_refused : (ks : List TokenKind) (i : ℕ) → RefusedAt ks i → IsProgram ks → ⊥
 not_refused ks i r p =
     elim (eq-or-lt_of_le r.within) [ inl h ↦ r.short h p | inr h ↦ r.here h (record { rest = drop (suc i) ks; program = subst IsProgram (sym (take-append-drop (suc i) ks)) p }) ]
 

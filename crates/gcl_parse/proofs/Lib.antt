@@ -13,3 +13,7 @@ pub mod Placed
 pub mod Kept
 pub mod Programs
 pub mod Excludes
+pub mod FlawPlaces
+pub mod Reasons
+pub mod OneReading
+pub mod OneSpelling

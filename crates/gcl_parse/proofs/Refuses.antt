@@ -1,5 +1,5 @@
 -- Where the pushdown stops, the tokens are refused.
-use Rattle.std.proofs.Common.{◌≡◌, ℕ, suc, ◌<◌, ◌≤◌, ◌+◌, ◌-◌, ◌∙◌, refl, ap, sym, subst, arith, Bool, true, false, List, [], ◌∷◌, ◌++◌, length, map, take, drop, append_assoc, add-one, Option, Some, None, length-append}
+use Rattle.std.proofs.Common.{◌≡◌, ℕ, suc, ◌<◌, ◌≤◌, ◌+◌, ◌-◌, ◌∙◌, refl, ap, sym, subst, arith, Bool, true, false, List, [], ◌∷◌, ◌++◌, length, map, take, drop, append_assoc, add-one, Option, Some, None, ◌⊎◌, inl, inr, length-append}
 use Rattle.std.proofs.lemmas.List.{take-append-drop, take-append-le, map-append, length-map}
 use Rattle.std.proofs.Math.Seq.{take-append-add}
 use Rattle.gcl_core.specs.declared.tokens.TokenKind.{TokenKind}
@@ -216,3 +216,11 @@ kinds_back (v ∷ ts) s h = go (take_word v s) refl (kinds_back ts)
 
 pub by_kinds : (ts : List Word) → IsProgram (kinds ts) → (body : Statements) × (e : Expression) × ReadsProgram ts body e []
 by_kinds ts p = accepted_program ts (kinds_back ts whole (kinds_accepted p))
+
+-- the pushdown accepts or stops
+pub program_or_refused : (ks : List TokenKind) → IsProgram ks ⊎ ((index : ℕ) × RefusedAt ks index)
+program_or_refused ks = go (run (plains ks) whole) refl
+  where
+    go : (o : m.Outcome) → run (plains ks) whole ≡ o → IsProgram ks ⊎ ((index : ℕ) × RefusedAt ks index)
+    go accepts e = inl (subst IsProgram (kinds-plains ks) (accepted_kinds (plains ks) e))
+    go (stops r) e = inr (length (plains ks) - length r, subst (λ x. RefusedAt x (length (plains ks) - length r)) (kinds-plains ks) (refused (plains ks) r e))

@@ -5,3 +5,4 @@ pub mod Pushdown
 pub mod Parses
 pub mod Programs
 pub mod Beginnings
+pub mod OneReading

@@ -2,7 +2,6 @@
 
 ghost use Rattle.std.specs.Prelude.{◌≡◌, ◌<◌, length, IfOk, IsTrue, option_map};
 ghost use Rattle.gcl_core.specs.Grammar.{operator as operator_of};
-ghost use Rattle.gcl_core.specs.Levels.{above as tighter};
 ghost use Rattle.gcl_parse.specs.Parses.{Parses, operator_at, leaf_at, is_row};
 ghost use Rattle.gcl_parse.specs.Fronts.{first};
 ghost use Rattle.gcl_core.specs.Views.{expression_of};
@@ -11,21 +10,6 @@ ghost use Rattle.gcl_core.specs.Syntax.{opposite, negative, binary};
 use crate::parser::{Halt, Parser};
 use gcl_core::{BinOp, Expr, Key, Level, Sym, Word};
 use std::alloc::AllocError;
-
-/// The next tighter level.
-fn above(level: Level) -> Level
-    ensures { result ≡ tighter level }
-{
-    match level {
-        Level::Or => Level::And,
-        Level::And => Level::Not,
-        Level::Not => Level::Compare,
-        Level::Compare => Level::Sum,
-        Level::Sum => Level::Product,
-        Level::Product => Level::Sign,
-        Level::Sign | Level::Atom => Level::Atom,
-    }
-}
 
 /// The operator between two operands that a word is.
 fn operator(word: Word) -> Option<BinOp>
@@ -115,10 +99,10 @@ impl Parser<'_> {
         requires { IsTrue (is_row level) }
         ensures { Parses level self.old result self.new }
     {
-        let mut found = self.phrase(above(level))?;
+        let mut found = self.phrase(level.tighter())?;
         while let Some(op) = self.operator_here(level) {
             self.advance();
-            let right = self.phrase(above(level))?;
+            let right = self.phrase(level.tighter())?;
             found = self.binary(op, found, right)?;
         }
         Ok(found)

@@ -16,6 +16,6 @@ mod tests;
 mod wording;
 
 pub use error::ParseError;
-pub use laws::{kinds_decide, one_program, refused_once};
+pub use laws::{kinds_decide, one_program, one_reading, program_or_refused};
 pub use offsets::Places;
 pub use parsing::{Parsed, parse};

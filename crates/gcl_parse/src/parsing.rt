@@ -1,6 +1,6 @@
 // Reading programs.
 
-ghost use Rattle.std.specs.Prelude.{◌≡◌, ℕ, ◌<◌, ◌≤◌, List, length, IfOk, IsOk, IfErr, IsOkUnless};
+ghost use Rattle.std.specs.Prelude.{◌≡◌, ℕ, ◌+◌, ◌<◌, ◌≤◌, List, length, IfOk, IsOk, IfErr, IsOkUnless};
 ghost use Rattle.gcl_core.specs.Syntax.{Source};
 ghost use Rattle.gcl_core.specs.Views.{source_of};
 ghost use Rattle.gcl_core.specs.Bounds.{VariablesBelow};
@@ -41,7 +41,8 @@ fn place(text: &[u8], tokens: &[Token], i: usize) -> u32
     }
 }
 
-/// The program that the tokens of a text derive, with its names numbered in the order of their first appearance.
+/// The program that the tokens of a text derive, with its names numbered in the order of their first appearance, and a place for
+/// each statement and for `return`.
 ///
 /// `TooDeep` comes exactly where a token breaks the nesting rule, at the first that does, whatever else is wrong. Else
 /// `Unexpected` comes exactly where the tokens are no program, at the first with which they begin none, or at the end of the
@@ -57,6 +58,7 @@ pub fn parse(alloc: Global, text: &[u8], tokens: &[Token]) -> Result<Parsed, Par
     ensures nested { IsOk result → Nests (kinds_of tokens.now) }
     ensures variables { IfOk result (λ p. VariablesBelow (source_of p.program)) }
     ensures written { IfOk result (λ p. IsWritten (source_of p.program)) }
+    ensures places { IfOk result (λ p. length p.places ≡ count_all (source_of p.program).body + 1) }
     ensures statements { IfOk result (λ p. count_all (source_of p.program).body < length tokens.now) }
     ensures refused { IfErr result (λ e. IsRefused text.now tokens.now e) }
 {

@@ -1,6 +1,7 @@
 use Rattle.std.proofs.Common.{◌∙◌, sym, arith}
 use Rattle.gcl_parse.proofs.Excludes.{only_memory}
 use Rattle.gcl_parse.proofs.Programs.{words_in_range, derives, one_derivation, variables_below, is_written, few_statements, unexpected, left_within}
+use Rattle.gcl_parse.proofs.FlawPlaces.{places_count}
 use Rattle.gcl_parse.proofs.parsing.parse.Goals as goal
 
 pub new-parser-requires : goal.new-parser-requires
@@ -19,6 +20,9 @@ returns-in-Ok-clause-variables c = variables_below (returns-in-Ok-clause-program
 
 pub returns-in-Ok-clause-written : goal.returns-in-Ok-clause-written
 returns-in-Ok-clause-written c = is_written (returns-in-Ok-clause-program c)
+
+pub returns-in-Ok-clause-places : goal.returns-in-Ok-clause-places
+returns-in-Ok-clause-places c = places_count (returns-in-Ok-clause-program c)
 
 pub returns-in-Ok-clause-statements : goal.returns-in-Ok-clause-statements
 returns-in-Ok-clause-statements c = few_statements (returns-in-Ok-clause-program c)

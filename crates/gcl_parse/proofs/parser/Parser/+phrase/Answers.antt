@@ -107,12 +107,12 @@ pub row-returns-in_err-found : goal.row-returns-in_err-found
 row-returns-in_err-found t c =
     let r : c.from_residual.result ≡ Err c.in_err-found.field-0.0 = grind arith in
     let row = step.row_of c.args.level c.requires in
-    rw r (step.fails_through (phrase c.args.level ∷ []) (phrase (above c.args.level) ∷ []) _ _ _ _ (λ s. (more c.args.level ∷ s, step.row_begins row _ s)) (rw c.above.ensures at c.in_err-found.ensures))
+    rw r (step.fails_through (phrase c.args.level ∷ []) (phrase (above c.args.level) ∷ []) _ _ _ _ (λ s. (more c.args.level ∷ s, step.row_begins row _ s)) (rw c.tighter.ensures at c.in_err-found.ensures))
 
 pub row-loop-op-init : goal.row-loop-op-init
 row-loop-op-init t c =
     let row = step.row_of c.args.level c.requires in
-    let found = rw c.above.ensures at c.in_ok-found.ensures in
+    let found = rw c.tighter.ensures at c.in_ok-found.ensures in
     (found.2, λ e rest more. g.a_row row found.0 more, λ s. step.row_begins row _ s ∙ found.1.runs (more c.args.level ∷ s))
 
 pub row-returns-in_err-right : goal.row-returns-in_err-right
@@ -121,7 +121,7 @@ row-returns-in_err-right t c =
     let v = c.args.level in
     let row = step.row_of v c.requires in
     let op = step.operator_here v c.loop-op.self c.in-Some.op (grind arith) in
-    let right = rw c.above-in-Some.ensures at c.in_err-right.ensures in
+    let right = rw c.tighter-in-Some.ensures at c.in_err-right.ensures in
     let leads : (s : List Symbol) → run c.args.self.now (phrase v ∷ s) ≡ run c.advance.new.self (phrase (above v) ∷ more v ∷ s) =
     λ s. c.loop-op.invariant.2 s ∙ step.row_goes row op s ∙ ap (λ x. run x (phrase (above v) ∷ more v ∷ s)) (sym c.advance.ensures) in
     rw r (step.fails_through (phrase v ∷ []) (phrase (above v) ∷ []) _ _ _ _ (λ s. (more v ∷ s, leads s)) right)
@@ -131,7 +131,7 @@ row-loop-op-preserved t c =
     let v = c.args.level in
     let row = step.row_of v c.requires in
     let op = step.operator_here v c.loop-op.self c.in-Some.op (grind arith) in
-    let right = rw c.above-in-Some.ensures at c.in_ok-right.ensures in
+    let right = rw c.tighter-in-Some.ensures at c.in_ok-right.ensures in
     let made = c.in_ok-found-2.ensures in
     let front : c.loop-op.self ≡ op.word ∷ c.advance.new.self = op.front ∙ ap (λ x. op.word ∷ x) (sym c.advance.ensures) in
     let leads : (s : List Symbol) → run c.args.self.now (phrase v ∷ s) ≡ run c.advance.new.self (phrase (above v) ∷ more v ∷ s) =
