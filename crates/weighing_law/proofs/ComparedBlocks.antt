@@ -10,9 +10,10 @@ use Rattle.gcl_core.specs.Value.{State, Value, value_of, is_zero, fits_64}
 use Rattle.gcl_core.specs.Draw.{last_end}
 use Rattle.gcl_core.specs.Blocks.{End, on, failed, fault, limit, by_value, by_truth, by_class, by_side, by_end, choice_ends, uniform_ends}
 use Rattle.gcl_core.specs.WeightedEnds.{Weighted, sure, taken_on, weighted_classes, uniform_weighted, loop_weighted, statement_weighted, weighted_ends}
+use Rattle.gcl_core.specs.Fitting.{state_fits}
+use Rattle.gcl_core.proofs.FittingValues.{end_fits, value_fits, set_fits}
 use Rattle.weighing_law.proofs.Comparing.{Compared, cmp_sure, cmp_more, cmp_then, NoClass, cmp_draw}
 use Rattle.weighing_law.proofs.DrawMatching.{class_below}
-use Rattle.weighing_law.proofs.FittingValues.{state_fits, end_fits, value_fits, set_fits}
 use Rattle.weighing_law.proofs.Scales.{Scale, loop_scale, statement_scale, block_scale}
 use Rattle.weighing_law.proofs.Uniform.{range_ascends, uniform_last, uniform_length}
 

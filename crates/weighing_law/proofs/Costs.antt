@@ -17,10 +17,10 @@ use Rattle.gcl_core.specs.WeightedEnds.{weighted_ends}
 use Rattle.gcl_core.proofs.Accepted.{checked_weights}
 use Rattle.gcl_core.proofs.Trees.{worth, spread-add, spread-ext}
 use Rattle.gcl_core.proofs.TreeWeights.{chi}
+use Rattle.gcl_core.proofs.FittingValues.{zeros_fit}
 use Rattle.weighing_law.specs.LimitsCost.{is_cut_off, MayPass}
 use Rattle.weighing_law.proofs.ComparedBlocks.{CutOff, Pair, pair_block}
 use Rattle.weighing_law.proofs.EveryLength.{worth-all}
-use Rattle.weighing_law.proofs.FittingValues.{zeros_fit}
 use Rattle.weighing_law.proofs.Scales.{scale_of, scales, block_scale, block_scale_pos}
 use Rattle.weighing_law.proofs.Shares.{counts_sum, sum_pos, product_pos, cancel}
 use Rattle.weighing_law.proofs.WholeRuns.{all_bits, run_tree, run_within, event_mass, tree_share, mass_pos}

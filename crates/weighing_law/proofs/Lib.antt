@@ -1,7 +1,6 @@
 pub mod Passing
 pub mod WeightedLists
 pub mod Matching
-pub mod FittingValues
 pub mod DrawMatching
 pub mod Uniform
 pub mod BlockMatching
@@ -21,3 +20,9 @@ pub mod WorkedPrograms
 pub mod EntrySums
 pub mod ListedOutcomes
 pub mod StatedMasses
+pub mod RunTrees
+pub mod InOrder
+pub mod StringWeights
+pub mod EndedStrings
+pub mod JustReadStrings
+pub mod Counted

@@ -12,12 +12,13 @@ use Rattle.gcl_core.specs.Draw.{last_from, last_end}
 use Rattle.gcl_core.specs.Blocks.{End, on, failed, fault, limit, by_value, by_truth, by_class, by_side, by_end, choice_ends, uniform_ends}
 use Rattle.gcl_core.specs.OneDraw.{Ascends}
 use Rattle.gcl_core.specs.WeightedEnds.{Weighted, sure, taken_on, weighted_classes, uniform_weighted, loop_weighted, statement_weighted, weighted_ends}
+use Rattle.gcl_core.specs.Fitting.{state_fits}
 use Rattle.gcl_core.proofs.DrawTrees.{class_sum}
 use Rattle.gcl_core.proofs.TreeWeights.{chi}
+use Rattle.gcl_core.proofs.FittingValues.{end_fits, value_fits}
 use Rattle.weighing_law.proofs.Comparing.{counts_unlimited}
 use Rattle.weighing_law.proofs.ComparedBlocks.{pair_statement, pair_block}
 use Rattle.weighing_law.proofs.DrawMatching.{class_below, draw_entries}
-use Rattle.weighing_law.proofs.FittingValues.{state_fits, end_fits, value_fits}
 use Rattle.weighing_law.proofs.Scales.{Scale, loop_scale, statement_scale, block_scale}
 use Rattle.weighing_law.proofs.Uniform.{range_ascends, uniform_last}
 use Rattle.weighing_law.proofs.WeightedLists.{EachEntry, Counts, counts-more, counts_taken_on}

@@ -1,5 +1,5 @@
 -- The law at four programs, worked: what the strings weigh, and the masses.
-use Rattle.std.proofs.Common.{◌≡◌, ℕ, ◌*◌, ◌^◌, pos, [], ◌∷◌, refl}
+use Rattle.std.proofs.Common.{◌≡◌, ℕ, ◌*◌, ◌^◌, pos, true, false, [], ◌∷◌, refl}
 use Rattle.gcl_core.specs.declared.answers.Limit.TheVariants.{Turns, Attempts, Rounds}
 use Rattle.gcl_core.specs.declared.answers.Limits.{Limits}
 use Rattle.gcl_core.specs.declared.answers.Outcome.{Outcome}
@@ -13,6 +13,8 @@ use Rattle.gcl_core.specs.StringWeight.{outcome_weight}
 use Rattle.gcl_core.specs.Syntax.{number, variable, binary, assign, loop, choice, uniform, observe, done, ◌▸◌, Source}
 use Rattle.weighing_law.specs.Weighing.{limited_mass}
 use Rattle.weighing_law.specs.LimitsCost.{stated_mass, cut_off}
+use Rattle.weighing_law.specs.Prefixes.{is_just_read}
+use Rattle.weighing_law.specs.Counting.{ended_in, just_read_weight}
 
 abbrev limits : ℕ → ℕ → ℕ → Limits
 limits n r R = record { turns = n; attempts = r; rounds = R }
@@ -48,6 +50,19 @@ two_attempts_limit = (refl, refl)
 
 two_attempts_longest : longest 0 2 two_thirds.body ≡ 4
 two_attempts_longest = refl
+
+-- the string 0 is just read to 1, and 00 and 01 end in it
+short_just_read : is_just_read (run_on two_thirds (limits 0 1 1)) (outcome.Value (pos 1)) (false ∷ []) ≡ true
+short_just_read = refl
+
+longer_not : is_just_read (run_on two_thirds (limits 0 1 1)) (outcome.Value (pos 1)) (false ∷ true ∷ []) ≡ false
+longer_not = refl
+
+two_end : ended_in (run_on two_thirds (limits 0 1 1)) (outcome.Value (pos 1)) 2 ≡ 2
+two_end = refl
+
+one_counts_two : just_read_weight (run_on two_thirds (limits 0 1 1)) (outcome.Value (pos 1)) 2 ≡ 2
+one_counts_two = refl
 
 -- 2/3 is stated, and 1/16 is cut off
 two_thirds_stated : let m = stated_mass two_thirds (limits 0 2 1) (outcome.Value (pos 1)) in m.0 * 3 ≡ 2 * m.1
