@@ -2,6 +2,7 @@
 #![tactic(auto)]
 
 mod calls;
+mod copying;
 mod faults;
 mod file_bits;
 mod gate;
@@ -9,8 +10,11 @@ mod host;
 mod list_bits;
 mod mem_files;
 mod mem_sink;
+mod null_sink;
+mod one_file;
 mod outside;
 mod source;
+mod stream_bits;
 mod writing;
 
 pub use file_bits::FileBits;
@@ -19,8 +23,11 @@ pub use host::{HostFiles, HostSink};
 pub use list_bits::ListBits;
 pub use mem_files::MemFiles;
 pub use mem_sink::MemSink;
+pub use null_sink::NullSink;
+pub use one_file::OneFile;
 pub use outside::{Bits, Failed, Files, OpenError, Sink};
 pub use source::{MOST_BYTES, SourceError, read_source};
+pub use stream_bits::{StreamBits, streams_begin_as_published};
 pub use writing::put;
 
 #[cfg(test)]
