@@ -2,6 +2,8 @@ pub mod LeastPower
 pub mod Halves
 pub mod Merged
 pub mod Completed
+pub mod FewFlips
+pub mod SmallClasses
 pub mod Attempts
 pub mod OneDraw
 pub mod Shortest

@@ -2,7 +2,9 @@
 #![tactic(auto)]
 
 mod complete;
+mod deciding;
 mod laws;
+mod leaves;
 mod merging;
 #[cfg(test)]
 mod tests;
@@ -11,7 +13,8 @@ mod walking;
 mod widths;
 
 pub use complete::perfect;
-pub use laws::{one_decided_draw, shortest_string_decides};
+pub use deciding::direct;
+pub use laws::{decided_draws_are_small, one_decided_draw, shortest_string_decides};
 pub use merging::coalesce;
 pub use tree::{Attempt, Draw};
 pub use walking::attempt;

@@ -1,9 +1,10 @@
 // Attempts and widths that were worked by hand.
 
-ghost use Rattle.std.specs.Prelude.{◌≤◌, ◌<◌, ◌^◌, length};
+ghost use Rattle.std.specs.Prelude.{◌≤◌, ◌<◌, length};
+ghost use Rattle.gcl_core.specs.declared.rules.TheConstants.{GREATEST_DENOMINATOR};
 ghost use Rattle.gcl_core.specs.Draw.{last_end};
 
-use crate::{Attempt, Draw, attempt, bits_for, coalesce, perfect};
+use crate::{Attempt, Draw, attempt, bits_for, coalesce, direct, perfect};
 use std::alloc::{AllocError, Global};
 use std::test::Fail;
 
@@ -51,10 +52,52 @@ fn attempts_on_coalesced_draws(rt: HostRuntime) -> Result<(), Fail> {
 
 #[test]
 fn widths(rt: HostRuntime) {
-    let rows = [(1, 0), (2, 1), (256, 8), (257, 9), (1 << 63, 63)];
-    assert!(rt;
-        rows.iter().all(|(bound, bits)| 1 <= *bound
-            && *bound <= 1 << 63
-            && bits_for(*bound) == *bits)
-    );
+    let rows = [(0, 0), (1, 0), (2, 1), (256, 8), (257, 9), (1 << 63, 63)];
+    assert!(rt; rows.iter().all(|(bound, bits)| *bound <= 1 << 63 && bits_for(*bound) == *bits));
+}
+
+fn same(a: &Draw, b: &Draw) -> bool {
+    match (a, b) {
+        (Draw::Label(i), Draw::Label(j)) => i == j,
+        (Draw::Again, Draw::Again) => true,
+        (Draw::Flip(l, r), Draw::Flip(m, s)) => same(l, m) && same(r, s),
+        _ => false,
+    }
+}
+
+// Both ways to the draw of a choice give the same.
+fn agree(alloc: Global, a: u64, b: u64) -> Result<bool, AllocError>
+    requires { b ≤ 256 }
+{
+    let ends = [a, b];
+    Ok(same(&direct(alloc, &ends)?, &coalesced(alloc, &ends)?))
+}
+
+#[test]
+fn direct_draws_are_coalesced_perfect_draws(rt: HostRuntime) -> Result<(), Fail> {
+    for b in 0..257 {
+        for a in 0..b + 1 {
+            assert!(rt; agree(rt.alloc(), a, b)?);
+        }
+    }
+    Ok(())
+}
+
+// The draw of one number among many.
+fn one_of(alloc: Global, bound: u64) -> Result<Draw, AllocError>
+    requires { bound ≤ GREATEST_DENOMINATOR }
+{
+    direct(alloc, &[1, bound])
+}
+
+#[test]
+fn a_fine_draw_is_small(rt: HostRuntime) -> Result<(), Fail> {
+    let fine = one_of(rt.alloc(), 1 << 62)?;
+    let rows: [(&[bool], Attempt); 3] = [
+        (&[true], Attempt::Class(1, 1)),
+        (&[false, true], Attempt::Class(1, 2)),
+        (&[false, false, false], Attempt::MoreBits),
+    ];
+    assert!(rt; attempts_are(&fine, &rows));
+    Ok(())
 }
