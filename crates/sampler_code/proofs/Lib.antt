@@ -1,4 +1,3 @@
-pub mod Numbers
 pub mod Uniform
 pub mod Steps
 pub mod Sizes

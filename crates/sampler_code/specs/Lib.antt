@@ -10,3 +10,4 @@ pub mod Assembled
 pub mod Models
 pub mod Assemble
 pub mod Listing
+pub mod inner

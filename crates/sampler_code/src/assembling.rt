@@ -10,9 +10,8 @@ ghost use Rattle.bit_tree.specs.Fine.{LabelsHaveArms, RowHasArms, TiedIsFine, co
 ghost use Rattle.sampler_code.specs.Instruction.{Instruction};
 ghost use Rattle.sampler_code.specs.Code.{tree_code, row_code, arms_code, arms_size, loops, row_loops};
 ghost use Rattle.sampler_code.specs.Assemble.{between, starts_of};
-ghost use Rattle.sampler_code.specs.Assembled.{assembled};
+ghost use Rattle.sampler_code.specs.Assembled.{assembled, Follows};
 ghost use Rattle.sampler_code.specs.Fits.{TreeFits, RowFits};
-ghost use Rattle.sampler_code.specs.Running.{Follows};
 
 use crate::code::Code;
 use crate::draws::{fill, reserve};
@@ -193,7 +192,7 @@ fn close(code: &mut Instructions, starts: &[usize], i: usize, end: usize)
 pub fn assemble(alloc: Global, t: &Tied) -> Result<Code, AllocError>
     requires fine { TiedIsFine (tied_tree_of t.now) }
     ensures code { IfOk result (λ c. c ≡ assembled (tied_tree_of t.now)) }
-    ensures follows { IfOk result (λ c. Follows (tied_tree_of t.now) c.instrs) }
+    ensures follows { IfOk result (λ c. Follows (tied_tree_of t.now) c) }
 {
     let mut instrs = Instructions::new(alloc);
     let mut loops = 0;

@@ -32,11 +32,11 @@ impl Model for Code {
 }
 
 impl Code {
-    ghost use Rattle.std.specs.Prelude.{◌≡◌, ◌<◌, ◌+◌, ◌^◌, Bool, List, Some, length, slice_get, IsSome};
+    ghost use Rattle.std.specs.Prelude.{◌≡◌, ◌<◌, ◌+◌, ◌^◌, Bool, List, Some, length, slice_get};
     ghost use Rattle.gcl_core.specs.Runs.{InRange};
-    ghost use Rattle.sampler_code.specs.Running.{Follows};
+    ghost use Rattle.sampler_code.specs.Running.{Reached};
     ghost use Rattle.sampler_code.specs.Sound.{Sound};
-    ghost use Rattle.sampler_code.specs.Assembled.{IsCode, code_run};
+    ghost use Rattle.sampler_code.specs.Assembled.{CodeReaches, Follows, IsCode};
     ghost use Rattle.sampler_code.specs.Views.{instruction_of};
 
     // What is the code of a tree.
@@ -55,9 +55,9 @@ impl Code {
     pub fn count(&self) -> usize
         ensures value { result ≡ length self.now.instrs }
         ensures tree { IsCode self.now }
-        ensures follows { (code : IsCode self.now) → Follows code.tree self.now.instrs }
+        ensures follows { (code : IsCode self.now) → Follows code.tree self.now }
         ensures sound { Sound self.now.instrs self.now.loops self.now.vars }
-        ensures answers { (l : Limits) (w : List Bool) → InRange l → IsSome (code_run self.now l w) }
+        ensures answers { (l : Limits) (w : List Bool) → InRange l → (a : Reached) × CodeReaches self.now l w a }
     {
         self.instrs.count()
     }
@@ -79,10 +79,11 @@ impl Code {
         self.loops
     }
 
-    /// The number of variables. Each variable of an instruction is below it. A run over so many has an answer.
+    /// The number of variables. Each variable of an instruction is below it. A run over so many reaches an answer.
     pub fn vars(&self) -> u32
         ensures value { result ≡ self.now.vars }
-        ensures answers { (l : Limits) (w : List Bool) → InRange l → IsSome (code_run self.now l w) }
+        ensures tree { IsCode self.now }
+        ensures answers { (l : Limits) (w : List Bool) → InRange l → (a : Reached) × CodeReaches self.now l w a }
     {
         self.vars
     }

@@ -11,143 +11,90 @@ ghost use Rattle.sampler_code.specs.Views.{instruction_of};
 use crate::code::Code;
 use crate::instructions::Instr;
 use gcl_core::{Expr, Names};
-use gcl_print::print_expr;
-use itoa::Buffer;
+use gcl_print::Text;
 use std::alloc::{AllocError, Global};
 
-fn push(text: &mut Vec<u8>, bytes: &[u8]) -> Result<(), AllocError>
-    ensures { OnOk result (text.new.items ≡ text.old.items ++ bytes.now) }
-{
-    text.extend_from_slice(bytes)
-}
-
-fn digits(text: &mut Vec<u8>, n: usize) -> Result<(), AllocError>
-    ensures { OnOk result (text.new.items ≡ text.old.items ++ decimal n) }
-{
-    push(text, Buffer::new().format(n).as_bytes())
-}
-
-fn name(text: &mut Vec<u8>, names: &Names, x: u32) -> Result<(), AllocError>
-    requires { x < length names.now }
-    ensures { OnOk result (text.new.items ≡ text.old.items ++ slice_index_or names.now x []) }
-{
-    push(text, names.get(x))
-}
-
-fn expression(alloc: Global, text: &mut Vec<u8>, names: &Names, e: &Expr) -> Result<(), AllocError>
-    requires { Reads (expression_of e.now) (length names.now) }
-    ensures { OnOk result (text.new.items ≡ text.old.items ++ expression_text names.now (expression_of e.now)) }
-{
-    let piece = print_expr(alloc, e, names)?;
-    push(text, &piece)
-}
-
 // A word and a number.
-fn numbered(text: &mut Vec<u8>, word: &[u8], n: usize) -> Result<(), AllocError>
-    ensures { OnOk result (text.new.items ≡ text.old.items ++ (word.now ++ decimal n)) }
+fn numbered(text: &mut Text, word: &[u8], n: usize) -> Result<(), AllocError>
+    ensures { OnOk result (text.new ≡ text.old ++ (word.now ++ decimal n)) }
 {
-    push(text, word)?;
-    digits(text, n)
+    text.push(word)?;
+    text.digits(n as u64)
 }
 
 // A word, a variable and an expression.
-fn stored(
-    alloc: Global,
-    text: &mut Vec<u8>,
-    names: &Names,
-    word: &[u8],
-    x: u32,
-    e: &Expr,
-) -> Result<(), AllocError>
+fn stored(text: &mut Text, names: &Names, word: &[u8], x: u32, e: &Expr) -> Result<(), AllocError>
     requires place { x < length names.now }
     requires reads { Reads (expression_of e.now) (length names.now) }
-    ensures { OnOk result (text.new.items ≡ text.old.items ++ (word.now ++ (slice_index_or names.now x [] ++ (codes " " ++ expression_text names.now (expression_of e.now))))) }
+    ensures { OnOk result (text.new ≡ text.old ++ (word.now ++ (slice_index_or names.now x [] ++ (codes " " ++ expression_text names.now (expression_of e.now))))) }
 {
-    push(text, word)?;
-    name(text, names, x)?;
-    push(text, b" ")?;
-    expression(alloc, text, names, e)
+    text.push(word)?;
+    text.name(names, x)?;
+    text.push(b" ")?;
+    text.expression(names, e)
 }
 
-fn unless(
-    alloc: Global,
-    text: &mut Vec<u8>,
-    names: &Names,
-    e: &Expr,
-    target: usize,
-) -> Result<(), AllocError>
+fn unless(text: &mut Text, names: &Names, e: &Expr, target: usize) -> Result<(), AllocError>
     requires { Reads (expression_of e.now) (length names.now) }
-    ensures { OnOk result (text.new.items ≡ text.old.items ++ (codes "unless " ++ (expression_text names.now (expression_of e.now) ++ (codes " goto " ++ decimal target)))) }
+    ensures { OnOk result (text.new ≡ text.old ++ (codes "unless " ++ (expression_text names.now (expression_of e.now) ++ (codes " goto " ++ decimal target)))) }
 {
-    push(text, b"unless ")?;
-    expression(alloc, text, names, e)?;
+    text.push(b"unless ")?;
+    text.expression(names, e)?;
     numbered(text, b" goto ", target)
 }
 
 fn repeated(
-    alloc: Global,
-    text: &mut Vec<u8>,
+    text: &mut Text,
     names: &Names,
     counter: usize,
     target: usize,
     e: &Expr,
 ) -> Result<(), AllocError>
     requires { Reads (expression_of e.now) (length names.now) }
-    ensures { OnOk result (text.new.items ≡ text.old.items
+    ensures { OnOk result (text.new ≡ text.old
         ++ (codes "loop " ++ (decimal counter ++ (codes " " ++ (decimal target ++ (codes " " ++ expression_text names.now (expression_of e.now))))))) }
 {
     numbered(text, b"loop ", counter)?;
     numbered(text, b" ", target)?;
-    push(text, b" ")?;
-    expression(alloc, text, names, e)
+    text.push(b" ")?;
+    text.expression(names, e)
 }
 
-fn returned(alloc: Global, text: &mut Vec<u8>, names: &Names, e: &Expr) -> Result<(), AllocError>
+fn returned(text: &mut Text, names: &Names, e: &Expr) -> Result<(), AllocError>
     requires { Reads (expression_of e.now) (length names.now) }
-    ensures { OnOk result (text.new.items ≡ text.old.items ++ (codes "return " ++ expression_text names.now (expression_of e.now))) }
+    ensures { OnOk result (text.new ≡ text.old ++ (codes "return " ++ expression_text names.now (expression_of e.now))) }
 {
-    push(text, b"return ")?;
-    expression(alloc, text, names, e)
+    text.push(b"return ")?;
+    text.expression(names, e)
 }
 
-fn instruction(
-    alloc: Global,
-    text: &mut Vec<u8>,
-    names: &Names,
-    i: &Instr,
-) -> Result<(), AllocError>
+fn instruction(text: &mut Text, names: &Names, i: &Instr) -> Result<(), AllocError>
     requires { (loops : ℕ) × Knows loops (length names.now) (instruction_of i.now) }
-    ensures { OnOk result (text.new.items ≡ text.old.items ++ instruction_text names.now (instruction_of i.now)) }
+    ensures { OnOk result (text.new ≡ text.old ++ instruction_text names.now (instruction_of i.now)) }
 {
     match i {
-        Instr::Set(x, e) => stored(alloc, text, names, b"set ", *x, e),
-        Instr::Range(x, e) => stored(alloc, text, names, b"range ", *x, e),
-        Instr::Unless(e, target) => unless(alloc, text, names, e, *target),
+        Instr::Set(x, e) => stored(text, names, b"set ", *x, e),
+        Instr::Range(x, e) => stored(text, names, b"range ", *x, e),
+        Instr::Unless(e, target) => unless(text, names, e, *target),
         Instr::Goto(target) => numbered(text, b"goto ", *target),
         Instr::Arm(counter) => numbered(text, b"arm ", *counter),
-        Instr::Loop(counter, target, e) => repeated(alloc, text, names, *counter, *target, e),
-        Instr::Tries => push(text, b"tries"),
+        Instr::Loop(counter, target, e) => repeated(text, names, *counter, *target, e),
+        Instr::Tries => text.push(b"tries"),
         Instr::Flip(target) => numbered(text, b"flip ", *target),
         Instr::Again(target) => numbered(text, b"again ", *target),
-        Instr::Fail => push(text, b"fail"),
-        Instr::Return(e) => returned(alloc, text, names, e),
+        Instr::Fail => text.push(b"fail"),
+        Instr::Return(e) => returned(text, names, e),
     }
 }
 
-fn line(
-    alloc: Global,
-    text: &mut Vec<u8>,
-    names: &Names,
-    index: usize,
-    i: &Instr,
-) -> Result<(), AllocError>
+fn line(text: &mut Text, names: &Names, index: usize, i: &Instr) -> Result<(), AllocError>
     requires { (loops : ℕ) × Knows loops (length names.now) (instruction_of i.now) }
-    ensures { OnOk result (text.new.items ≡ text.old.items ++ line_of names.now index (instruction_of i.now)) }
+    ensures { OnOk result (text.new ≡ text.old ++ line_of names.now index (instruction_of i.now)) }
 {
-    digits(text, index)?;
-    push(text, b" ")?;
-    instruction(alloc, text, names, i)?;
-    push(text, b"\n")
+    text.digits(index as u64)?;
+    text.push(b" ")?;
+    instruction(text, names, i)?;
+    text.push(b"\n")
 }
 
 /// The listing of code: a line for each instruction with its index and its text, where variables have these names.
@@ -157,9 +104,9 @@ pub fn list(alloc: Global, c: &Code, names: &Names) -> Result<Vec<u8>, AllocErro
     requires { c.now.vars ≤ length names.now }
     ensures { IfOk result (λ text. text.items ≡ listing names.now c.now.instrs) }
 {
-    let mut text = Vec::new(alloc);
+    let mut text = Text::new(alloc);
     for i in 0..c.count() {
-        line(alloc, &mut text, names, i, c.at(i))?;
+        line(&mut text, names, i, c.at(i))?;
     }
-    Ok(text)
+    Ok(text.into_bytes())
 }

@@ -1,7 +1,6 @@
 use Rattle.std.proofs.Common.{sym, subst, ◌∙◌}
 use Rattle.bit_tree.specs.Views.{tied_tree_of}
-use Rattle.sampler_code.specs.Assembled.{Assembled}
-use Rattle.sampler_code.specs.Running.{Follows}
+use Rattle.sampler_code.specs.Assembled.{Assembled, Follows}
 use Rattle.sampler_code.proofs.SoundCode.{tied_follows}
 use Rattle.sampler_code.proofs.Written.{has_arms, numbers_of, written}
 use Rattle.sampler_code.proofs.assembling.assemble.Goals as goal
@@ -21,4 +20,4 @@ pub returns-clause-follows : goal.returns-clause-follows
 returns-clause-follows c =
     let t = tied_tree_of c.args.t.now in
     let e = c.of.ensures ∙ written t _ _ _ _ _ c.new-instrs.ensures c.in_ok-emit.ensures.code c.in_ok-copy.ensures.same c.in_ok-put.ensures c.in_ok-emit.ensures.loops in
-    subst (λ (p : Assembled). Follows t p.instrs) (sym e) (tied_follows t c.requires.fine (numbers_of t _ c.in_ok-emit.ensures.fits c.in_ok-copy.ensures.same c.in_ok-copy.ensures.fits))
+    subst (λ (p : Assembled). Follows t p) (sym e) (tied_follows t c.requires.fine (numbers_of t _ c.in_ok-emit.ensures.fits c.in_ok-copy.ensures.same c.in_ok-copy.ensures.fits))

@@ -1,0 +1,61 @@
+use Rattle.std.proofs.Common.{[], OnErr, Result, Ok, Err, refl, subst, ◌∙◌}
+use Rattle.zar_io.specs.Bits.{Took}
+use Rattle.sampler_run.specs.declared.machine.Progress.TheVariants.{NeedBit, Ended}
+use Rattle.sampler_run.specs.Telling.{Tells}
+use Rattle.sampler_run.proofs.Taking.{told_reached, needs_told, needs_there, none_left, went_none, went_more, went_in_vain, went_reached}
+use Rattle.sampler_run.proofs.sampling.go_on.Goals as goal
+
+on_err : {A E : Type 0} (r : Result A E) (P : Type 0) → P → OnErr r P
+on_err (Ok a) P h = tt
+on_err (Err e) P h = h
+
+pub loop-outcome-init : goal.loop-outcome-init
+loop-outcome-init g c =
+    (refl, refl, refl, refl, refl, refl, refl, λ h. went_none c.args.state.now (g.B.Bits.left c.args.bits.now))
+
+pub returns-in-Ended-clause-answer : goal.returns-in-Ended-clause-answer
+returns-in-Ended-clause-answer g c = λ h.
+    let s = c.loop-outcome.state in
+    let told = subst (λ p. Tells s p) c.in-Ended.is c.progress.ensures.told in
+    let end = told_reached s (Ended c.in-Ended.outcome) c.used.result c.place.result told c.used.ensures c.place.ensures (c.progress.ensures.some []) in
+    went_reached c.args.state.now s (g.B.Bits.left c.args.bits.now) (g.B.Bits.left c.loop-outcome.bits) _ (c.loop-outcome.invariant.7 h)
+    ((c.progress.ensures.ended c.in-Ended.outcome told (g.B.Bits.left c.loop-outcome.bits) _).1 end)
+
+pub returns-in_err-next-in-NeedBit-clause-asked_in_vain :
+    goal.returns-in_err-next-in-NeedBit-clause-asked_in_vain
+returns-in_err-next-in-NeedBit-clause-asked_in_vain g c = on_err c.from_residual.result _ (λ h.
+    let s = c.loop-outcome.state in
+    let went = c.loop-outcome.invariant.7 h in
+    let told = subst (λ p. Tells s p) c.in-NeedBit.is c.progress.ensures.told in
+    went_in_vain c.args.state.now s (g.B.Bits.left c.args.bits.now) (g.B.Bits.left c.loop-outcome.bits) went
+    (needs_there c.args.state.now s went.asked.taken went.stands (needs_told s told (c.progress.ensures.some []))))
+
+pub returns-in-None-clause-answer : goal.returns-in-None-clause-answer
+returns-in-None-clause-answer g c = λ h.
+    let s = c.loop-outcome.state in
+    let told = subst (λ p. Tells s p) c.in-NeedBit.is c.progress.ensures.told in
+    let need = told_reached s NeedBit c.used-in-None.result c.place-in-None.result told c.used-in-None.ensures c.place-in-None.ensures (c.progress.ensures.some []) in
+    let took = subst (λ o. Took o (g.B.Bits.left c.loop-outcome.bits) (g.B.Bits.left c.next.new.self)) c.in-None.is (c.in_ok-next-in-NeedBit.ensures.bit h) in
+    went_reached c.args.state.now s (g.B.Bits.left c.args.bits.now) (g.B.Bits.left c.loop-outcome.bits) _ (c.loop-outcome.invariant.7 h)
+    (none_left s _ _ took.0 need)
+
+pub loop-outcome-preserved : goal.loop-outcome-preserved
+loop-outcome-preserved g c =
+    let s = c.loop-outcome.state in
+    let inv = c.loop-outcome.invariant in
+    let told = subst (λ p. Tells s p) c.in-NeedBit.is c.progress.ensures.told in
+    let e = c.in_ok-next-in-NeedBit.ensures in (
+      e.count ∙ inv.0,
+      (rw c.in-Some.is at e.ended) ∙ inv.1,
+      e.broken ∙ inv.2,
+      e.same_source ∙ inv.3,
+      e.same_files ∙ inv.4,
+      e.same_names ∙ inv.5,
+      c.take.ensures.same_start ∙ inv.6,
+      λ h.
+          let went = inv.7 h in
+          went_more c.args.state.now s c.take.new.self (g.B.Bits.left c.args.bits.now) (g.B.Bits.left c.loop-outcome.bits) (g.B.Bits.left c.next.new.self) c.in-Some.bit went
+          (subst (λ o. Took o (g.B.Bits.left c.loop-outcome.bits) (g.B.Bits.left c.next.new.self)) c.in-Some.is (e.bit h))
+          (needs_there c.args.state.now s went.asked.taken went.stands (needs_told s told (c.progress.ensures.some [])))
+          c.take.ensures.fed,
+    )

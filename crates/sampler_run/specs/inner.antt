@@ -1,0 +1,4 @@
+-- Words of proofs and of private contracts. No public definition or clause cites one.
+pub mod Resting
+pub mod Kept
+pub mod Coming
