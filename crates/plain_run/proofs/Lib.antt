@@ -1,4 +1,0 @@
-pub mod Readings
-pub mod Loops
-pub mod Rounds
-pub mod DrawnNumbers

@@ -1,3 +1,0 @@
-pub mod BitsRead
-pub mod Pace
-pub mod PlainRun
