@@ -1,0 +1,30 @@
+// The lines of counts.
+
+ghost use Rattle.std.specs.Prelude.{◌≡◌};
+ghost use Rattle.report_text.specs.Lines.{tally_text};
+
+use crate::line::Line;
+use crate::outcomes::outcome_line;
+use gcl_core::TallyKey;
+
+/// The line of how many streams have runs that end in an outcome, or that need more bits. It takes no memory.
+pub fn tally_line(key: &TallyKey, count: u64) -> Line
+    ensures { result ≡ tally_text key.now count }
+{
+    match key {
+        TallyKey::Outcome(outcome) => {
+            let mut line = outcome_line(outcome);
+            line.push(b" count ");
+            line.push_number(count);
+            line.push(b"\n");
+            line
+        }
+        TallyKey::MoreBits => {
+            let mut line = Line::new();
+            line.push(b"more bits count ");
+            line.push_number(count);
+            line.push(b"\n");
+            line
+        }
+    }
+}

@@ -1,0 +1,27 @@
+// The text of an outcome, with which most lines begin.
+
+ghost use Rattle.std.specs.Prelude.{◌≡◌, ◌≤◌, length};
+ghost use Rattle.report_text.specs.Lines.{outcome_text};
+
+use crate::line::Line;
+use gcl_core::{Fault, Limit, Outcome};
+
+pub fn outcome_line(outcome: &Outcome) -> Line
+    ensures text { result ≡ outcome_text outcome.now }
+    ensures within { length result ≤ 60 }
+{
+    let mut line = Line::new();
+    match outcome {
+        Outcome::Value(n) => {
+            line.push(b"value ");
+            line.push_number(*n);
+        }
+        Outcome::Fault(Fault::Overflow) => line.push(b"fault overflow"),
+        Outcome::Fault(Fault::ZeroDivisor) => line.push(b"fault zero divisor"),
+        Outcome::Fault(Fault::BadBound) => line.push(b"fault bad bound"),
+        Outcome::Limit(Limit::Turns) => line.push(b"limit turns"),
+        Outcome::Limit(Limit::Attempts) => line.push(b"limit attempts"),
+        Outcome::Limit(Limit::Rounds) => line.push(b"limit rounds"),
+    }
+    line
+}
