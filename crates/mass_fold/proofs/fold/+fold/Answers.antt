@@ -1,0 +1,266 @@
+use Rattle.std.proofs.Common.{rules, ◌≡◌, ◌+◌, ◌-◌, suc, arith, sym, ap, ◌∙◌, subst, length}
+use Rattle.gcl_core.specs.declared.syntax.Stmt.{the_lemmas}
+use Rattle.gcl_core.specs.Views.{expression_of, statement_of, statements_of, list_of}
+use Rattle.gcl_core.specs.Value.{value_of}
+use Rattle.mass_tables.specs.Tables.{block_flow, loop_flow}
+use Rattle.gcl_core.proofs.ViewLemmas.{skip_view, set_view, observe_view, if_view, while_view, choice_view, uniform_view}
+use Rattle.mass_fold.specs.Amounts.{Sized}
+use Rattle.mass_fold.specs.Fold.{FoldBlames}
+use Rattle.mass_fold.proofs.Fitting.{below_as, weights_as, folds_as, blames_as, list_step, below_next, weights_next, along_list, below_list, empty_of}
+use Rattle.mass_fold.proofs.Folds.{rest_next, blames_next, blames_here, rest_none, fold_empty, fold_skip, fold_assign, assign_blames, fold_observe, observe_blames, failed_blames, fold_branch, fold_draw, draw_blames}
+use Rattle.mass_fold.proofs.Folds as branches
+use Rattle.mass_fold.proofs.Loops.{loop_start, loop_dry, loop_turn, loop_end, guard_blames, exits_blame, body_blames, turns_blame, loops_at}
+use Rattle.mass_fold.proofs.Sides.{sides_blame, fold_choice}
+use Rattle.mass_fold.proofs.Sides as choices
+use Rattle.mass_fold.proofs.fold.+fold.Goals as goal
+
+pub fold_block-fold_stmt-requires : goal.fold_block-fold_stmt-requires
+fold_block-fold_stmt-requires t c =
+    let p = list_step c.deref-s-items.result.now c.loop-s.s-index c.s-item.result c.loop-s-test.true c.s-item.is in
+    let m = c.requires.fits.count in (
+      search (rules, the_lemmas),
+      (
+        record { count = m; fact = (below_next m _ _ _ p (c.loop-s.invariant.below m (below_list m _ _ c.deref-s-items.ensures.value c.requires.fits.fact))).0; sized = c.loop-s.invariant.sized m c.requires.fits.sized },
+        ((weights_next _ _ _ p (c.loop-s.invariant.weights (along_list _ _ c.deref-s-items.ensures.value c.requires.weights))).0, c.requires.some),
+      ),
+    )
+
+pub fold_block-returns-in-Err-clause-cause : goal.fold_block-returns-in-Err-clause-cause
+fold_block-returns-in-Err-clause-cause t c =
+    let p = list_step c.deref-s-items.result.now c.loop-s.s-index c.s-item.result c.loop-s-test.true c.s-item.is in
+    subst (λ z. FoldBlames (block_flow c.args.turns c.args.attempts (list_of z)) c.args.table.entries c.args.ended.now c.in-Err.error) c.deref-s-items.ensures.value
+    (blames_here c.args.turns c.args.attempts (block_flow c.args.turns c.args.attempts (list_of c.deref-s-items.result.now)) _ _ _ _ _ _ _ _ p c.loop-s.invariant.blames c.in-Err.ensures.cause)
+
+pub fold_block-loop-s-preserved : goal.fold_block-loop-s-preserved
+fold_block-loop-s-preserved t c =
+    let p = list_step c.deref-s-items.result.now c.loop-s.s-index c.s-item.result c.loop-s-test.true c.s-item.is in
+    let w = (weights_next _ _ _ p (c.loop-s.invariant.weights (along_list _ _ c.deref-s-items.ensures.value c.requires.weights))).0 in
+    record {
+      below = λ m h. (below_next m _ _ _ p (c.loop-s.invariant.below m h)).1;
+      weights = λ h. (weights_next _ _ _ p (c.loop-s.invariant.weights h)).1;
+      sized = λ m h. c.in-Ok.ensures.sized m (c.loop-s.invariant.sized m h);
+      so_far = rest_next c.args.turns c.args.attempts (block_flow c.args.turns c.args.attempts (list_of c.deref-s-items.result.now)) _ _ _ _ _ _ _ _ _ p c.loop-s.invariant.so_far c.in-Ok.ensures.ok;
+      blames = blames_next c.args.turns c.args.attempts (block_flow c.args.turns c.args.attempts (list_of c.deref-s-items.result.now)) _ _ _ _ _ _ _ _ _ p w c.loop-s.invariant.blames c.in-Ok.ensures.ok;
+    }
+
+pub fold_block-returns-clause-ok : goal.fold_block-returns-clause-ok
+fold_block-returns-clause-ok t c =
+    rest_none c.args.turns c.args.attempts c.deref-s-items.result.now c.args.b.now.stmts.items c.loop-s.s-index _ _ _ _ c.loop-s-test.false c.deref-s-items.ensures.value c.loop-s.invariant.so_far
+
+pub fold_loop-loop-init : goal.fold_loop-loop-init
+fold_loop-loop-init t c =
+    let e : c.args.turns ≡ c.args.turns - 0 = omega arith in
+    record {
+      now_sized = λ m h. h;
+      exits_sized = λ m h. subst (Sized m) (sym c.new-exits.ensures.empty) tt;
+      so_far = loops_at (loop_flow (value_of (expression_of c.args.e.now)) (block_flow c.args.turns c.args.attempts (statements_of c.args.body.now))) c.args.turns _ _ _ _ _ _ _ e (loop_start c.args.turns c.args.attempts (expression_of c.args.e.now) (statements_of c.args.body.now) c.args.table.entries c.args.ended.now c.new-exits.result.entries c.new-exits.ensures.empty);
+    }
+
+pub fold_loop-returns-then-len-eq0-clause-ok : goal.fold_loop-returns-then-len-eq0-clause-ok
+fold_loop-returns-then-len-eq0-clause-ok t c =
+    loop_dry c.args.turns c.args.attempts (expression_of c.args.e.now) (statements_of c.args.body.now) c.args.table.entries c.args.ended.now (c.args.turns - c.loop.counter) c.loop.now.entries c.loop.exits.entries c.loop.ended c.loop.invariant.so_far c.requires.weights (empty_of c.loop.now.entries (sym c.len.ensures.len ∙ c.if-len-eq0.true))
+
+pub fold_loop-split-requires : goal.fold_loop-split-requires
+fold_loop-split-requires t c =
+    record { count = c.requires.fits.count; fact = c.requires.fits.fact.0; sized = c.loop.invariant.now_sized c.requires.fits.count c.requires.fits.sized }
+
+pub fold_loop-split-requires-2 : goal.fold_loop-split-requires-2
+fold_loop-split-requires-2 t c =
+    record { count = c.requires.fits.count; fact = c.requires.fits.fact.0; sized = c.loop.invariant.now_sized c.requires.fits.count c.requires.fits.sized }
+
+pub fold_loop-fold_block-requires : goal.fold_loop-fold_block-requires
+fold_loop-fold_block-requires t c =
+    let m = c.requires.fits.count in
+    (search (rules, the_lemmas), (record { count = m; fact = c.requires.fits.fact.1; sized = c.in-Ok.ensures.first_sized m (c.loop.invariant.now_sized m c.requires.fits.sized) }, (c.requires.weights, c.requires.some)))
+
+pub fold_loop-returns-in-Err-merge-clause-cause : goal.fold_loop-returns-in-Err-merge-clause-cause
+fold_loop-returns-in-Err-merge-clause-cause t c =
+    exits_blame c.args.turns c.args.attempts (expression_of c.args.e.now) (statements_of c.args.body.now) c.args.table.entries c.args.ended.now (c.args.turns - c.loop.counter) c.loop.now.entries c.loop.exits.entries c.loop.ended c.loop.invariant.so_far _ _ _ c.in-Ok.ensures.first c.in-Ok.ensures.second _ c.requires.weights c.in-Err-merge.ensures.cause
+
+pub fold_loop-returns-in-Err-fold_block-clause-cause : goal.fold_loop-returns-in-Err-fold_block-clause-cause
+fold_loop-returns-in-Err-fold_block-clause-cause t c =
+    let e : c.args.turns - c.loop.counter ≡ suc (c.args.turns - (c.loop.counter + 1)) = omega arith in
+    let l = loops_at (loop_flow (value_of (expression_of c.args.e.now)) (block_flow c.args.turns c.args.attempts (statements_of c.args.body.now))) c.args.turns _ _ _ _ _ _ _ e c.loop.invariant.so_far in
+    body_blames c.args.turns c.args.attempts (expression_of c.args.e.now) (statements_of c.args.body.now) c.args.table.entries c.args.ended.now (c.args.turns - (c.loop.counter + 1)) c.loop.now.entries c.loop.exits.entries c.loop.ended l _ _ _ c.in-Ok.ensures.first c.in-Ok.ensures.second _ c.requires.weights c.in-Err-fold_block.ensures.cause
+
+pub fold_loop-returns-in-Err-clause-cause : goal.fold_loop-returns-in-Err-clause-cause
+fold_loop-returns-in-Err-clause-cause t c =
+    guard_blames c.args.turns c.args.attempts (expression_of c.args.e.now) (statements_of c.args.body.now) c.args.table.entries c.args.ended.now (c.args.turns - c.loop.counter) c.loop.now.entries c.loop.exits.entries c.loop.ended c.loop.invariant.so_far _ c.requires.weights c.in-Err.ensures.cause
+
+pub fold_loop-loop-preserved : goal.fold_loop-loop-preserved
+fold_loop-loop-preserved t c =
+    let e : c.args.turns - c.loop.counter ≡ suc (c.args.turns - (c.loop.counter + 1)) = omega arith in
+    let l = loops_at (loop_flow (value_of (expression_of c.args.e.now)) (block_flow c.args.turns c.args.attempts (statements_of c.args.body.now))) c.args.turns _ _ _ _ _ _ _ e c.loop.invariant.so_far in
+    record {
+      now_sized = λ m h. c.in-Ok-fold_block.ensures.sized m (c.in-Ok.ensures.first_sized m (c.loop.invariant.now_sized m h));
+      exits_sized = λ m h. c.in_default.ensures.sized m (c.loop.invariant.exits_sized m h) (c.in-Ok.ensures.second_sized m (c.loop.invariant.now_sized m h));
+      so_far = loop_turn c.args.turns c.args.attempts (expression_of c.args.e.now) (statements_of c.args.body.now) c.args.table.entries c.args.ended.now (c.args.turns - (c.loop.counter + 1)) c.loop.now.entries c.loop.exits.entries c.loop.ended l _ _ _ c.in-Ok.ensures.first c.in-Ok.ensures.second _ _ _ c.in_default.ensures.ok c.in-Ok-fold_block.ensures.ok;
+    }
+
+pub fold_loop-returns-in-Err-merge-2-clause-cause : goal.fold_loop-returns-in-Err-merge-2-clause-cause
+fold_loop-returns-in-Err-merge-2-clause-cause t c =
+    exits_blame c.args.turns c.args.attempts (expression_of c.args.e.now) (statements_of c.args.body.now) c.args.table.entries c.args.ended.now (c.args.turns - c.loop.counter) c.loop.now.entries c.loop.exits.entries c.loop.ended c.loop.invariant.so_far _ _ _ c.in-Ok-split.ensures.first c.in-Ok-split.ensures.second _ c.requires.weights c.in-Err-merge-2.ensures.cause
+
+pub fold_loop-returns-in-Ok-end_all-clause-ok : goal.fold_loop-returns-in-Ok-end_all-clause-ok
+fold_loop-returns-in-Ok-end_all-clause-ok t c =
+    let e : c.args.turns - c.loop.counter ≡ 0 = omega arith in
+    let l = loops_at (loop_flow (value_of (expression_of c.args.e.now)) (block_flow c.args.turns c.args.attempts (statements_of c.args.body.now))) c.args.turns _ _ _ _ _ _ _ e c.loop.invariant.so_far in
+    loop_end c.args.turns c.args.attempts (expression_of c.args.e.now) (statements_of c.args.body.now) c.args.table.entries c.args.ended.now c.loop.now.entries c.loop.exits.entries c.loop.ended l _ _ _ c.in-Ok-split.ensures.first c.in-Ok-split.ensures.second _ _ c.in_default-merge.ensures.ok c.in-Ok-end_all.ensures.ok
+
+pub fold_loop-returns-in-Ok-end_all-clause-sized : goal.fold_loop-returns-in-Ok-end_all-clause-sized
+fold_loop-returns-in-Ok-end_all-clause-sized t c =
+    λ m h. c.in_default-merge.ensures.sized m (c.loop.invariant.exits_sized m h) (c.in-Ok-split.ensures.second_sized m (c.loop.invariant.now_sized m h))
+
+pub fold_loop-returns-in-Err-end_all-clause-cause : goal.fold_loop-returns-in-Err-end_all-clause-cause
+fold_loop-returns-in-Err-end_all-clause-cause t c =
+    let e : c.args.turns - c.loop.counter ≡ 0 = omega arith in
+    let l = loops_at (loop_flow (value_of (expression_of c.args.e.now)) (block_flow c.args.turns c.args.attempts (statements_of c.args.body.now))) c.args.turns _ _ _ _ _ _ _ e c.loop.invariant.so_far in
+    turns_blame c.args.turns c.args.attempts (expression_of c.args.e.now) (statements_of c.args.body.now) c.args.table.entries c.args.ended.now c.loop.now.entries c.loop.exits.entries c.loop.ended l _ _ _ c.in-Ok-split.ensures.first c.in-Ok-split.ensures.second _ c.requires.weights c.in-Err-end_all.ensures.cause
+
+pub fold_loop-returns-in-Err-split-clause-cause : goal.fold_loop-returns-in-Err-split-clause-cause
+fold_loop-returns-in-Err-split-clause-cause t c =
+    guard_blames c.args.turns c.args.attempts (expression_of c.args.e.now) (statements_of c.args.body.now) c.args.table.entries c.args.ended.now (c.args.turns - c.loop.counter) c.loop.now.entries c.loop.exits.entries c.loop.ended c.loop.invariant.so_far _ c.requires.weights c.in-Err-split.ensures.cause
+
+pub fold_stmt-returns-then-len-eq0-clause-ok : goal.fold_stmt-returns-then-len-eq0-clause-ok
+fold_stmt-returns-then-len-eq0-clause-ok t c =
+    fold_empty c.args.turns c.args.attempts _ c.args.table.entries c.args.ended.now c.requires.weights (empty_of c.args.table.entries (sym c.len.ensures.len ∙ c.if-len-eq0.true))
+
+pub fold_stmt-returns-in-Skip-clause-ok : goal.fold_stmt-returns-in-Skip-clause-ok
+fold_stmt-returns-in-Skip-clause-ok t c = folds_as c.args.turns c.args.attempts _ _ _ _ _ _ (ap statement_of c.in-Skip.is ∙ skip_view) (fold_skip c.args.turns c.args.attempts c.args.table.entries c.args.ended.now)
+
+pub fold_stmt-returns-in-Ok-clause-ok : goal.fold_stmt-returns-in-Ok-clause-ok
+fold_stmt-returns-in-Ok-clause-ok t c =
+    folds_as c.args.turns c.args.attempts _ _ _ _ _ _ (ap statement_of c.in-Set.is ∙ set_view c.in-Set.x c.in-Set.e)
+    (fold_assign c.args.turns c.args.attempts c.in-Set.x (expression_of c.in-Set.e) c.args.table.entries c.args.ended.now _ _ c.in-Ok.ensures.ok)
+
+pub fold_stmt-returns-in-Set-clause-cause : goal.fold_stmt-returns-in-Set-clause-cause
+fold_stmt-returns-in-Set-clause-cause t c =
+    blames_as c.args.turns c.args.attempts _ _ _ _ _ (ap statement_of c.in-Set.is ∙ set_view c.in-Set.x c.in-Set.e)
+    (assign_blames c.args.turns c.args.attempts c.in-Set.x (expression_of c.in-Set.e) c.args.table.entries c.args.ended.now _ c.in-Err.ensures.cause)
+
+pub fold_stmt-returns-in-Ok-draw-clause-ok : goal.fold_stmt-returns-in-Ok-draw-clause-ok
+fold_stmt-returns-in-Ok-draw-clause-ok t c =
+    folds_as c.args.turns c.args.attempts _ _ _ _ _ _ (ap statement_of c.in-Uniform.is ∙ uniform_view c.in-Uniform.x c.in-Uniform.e)
+    (fold_draw c.args.turns c.args.attempts c.in-Uniform.x (expression_of c.in-Uniform.e) c.args.table.entries c.args.ended.now c.len.ensures.ordered _ _ c.in-Ok-draw.ensures.ok)
+
+pub fold_stmt-returns-in-Uniform-clause-cause : goal.fold_stmt-returns-in-Uniform-clause-cause
+fold_stmt-returns-in-Uniform-clause-cause t c =
+    blames_as c.args.turns c.args.attempts _ _ _ _ _ (ap statement_of c.in-Uniform.is ∙ uniform_view c.in-Uniform.x c.in-Uniform.e)
+    (draw_blames c.args.turns c.args.attempts c.in-Uniform.x (expression_of c.in-Uniform.e) c.args.table.entries c.args.ended.now c.len.ensures.ordered _ c.in-Err-draw.ensures.cause)
+
+pub fold_stmt-returns-in-Ok-end_all-clause-ok : goal.fold_stmt-returns-in-Ok-end_all-clause-ok
+fold_stmt-returns-in-Ok-end_all-clause-ok t c =
+    folds_as c.args.turns c.args.attempts _ _ _ _ _ _ (ap statement_of c.in-Observe.is ∙ observe_view c.in-Observe.e)
+    (fold_observe c.args.turns c.args.attempts (expression_of c.in-Observe.e) c.args.table.entries c.args.ended.now _ _ _ _ c.in-Ok-split.ensures.first c.in-Ok-split.ensures.second c.in-Ok-end_all.ensures.ok)
+
+pub fold_stmt-returns-in-Ok-split-clause-cause : goal.fold_stmt-returns-in-Ok-split-clause-cause
+fold_stmt-returns-in-Ok-split-clause-cause t c =
+    blames_as c.args.turns c.args.attempts _ _ _ _ _ (ap statement_of c.in-Observe.is ∙ observe_view c.in-Observe.e)
+    (failed_blames c.args.turns c.args.attempts (expression_of c.in-Observe.e) c.args.table.entries _ _ c.args.ended.now _ _ c.in-Ok-split.ensures.first c.in-Ok-split.ensures.second c.in-Err-end_all.ensures.cause)
+
+pub fold_stmt-returns-in-Observe-clause-cause : goal.fold_stmt-returns-in-Observe-clause-cause
+fold_stmt-returns-in-Observe-clause-cause t c =
+    blames_as c.args.turns c.args.attempts _ _ _ _ _ (ap statement_of c.in-Observe.is ∙ observe_view c.in-Observe.e)
+    (observe_blames c.args.turns c.args.attempts (expression_of c.in-Observe.e) c.args.table.entries c.args.ended.now _ c.in-Err-split.ensures.cause)
+
+pub fold_stmt-fold_block-requires : goal.fold_stmt-fold_block-requires
+fold_stmt-fold_block-requires t c =
+    let m = c.requires.fits.count in
+    let q = (ap statement_of c.in-If.is ∙ if_view c.in-If.e c.in-If.a c.in-If.c) in
+    (search (rules, the_lemmas), (record { count = m; fact = (below_as m _ _ q c.requires.fits.fact).1; sized = c.in-Ok-split-2.ensures.first_sized m c.requires.fits.sized }, ((weights_as _ _ q c.requires.weights).0, c.requires.some)))
+
+pub fold_stmt-fold_block-requires-in-Ok-fold_block : goal.fold_stmt-fold_block-requires-in-Ok-fold_block
+fold_stmt-fold_block-requires-in-Ok-fold_block t c =
+    let m = c.requires.fits.count in
+    let q = (ap statement_of c.in-If.is ∙ if_view c.in-If.e c.in-If.a c.in-If.c) in
+    (search (rules, the_lemmas), (record { count = m; fact = (below_as m _ _ q c.requires.fits.fact).2; sized = c.in-Ok-split-2.ensures.second_sized m c.requires.fits.sized }, ((weights_as _ _ q c.requires.weights).1, c.requires.some)))
+
+pub fold_stmt-returns-in-Ok-merge-clause-ok : goal.fold_stmt-returns-in-Ok-merge-clause-ok
+fold_stmt-returns-in-Ok-merge-clause-ok t c =
+    folds_as c.args.turns c.args.attempts _ _ _ _ _ _ (ap statement_of c.in-If.is ∙ if_view c.in-If.e c.in-If.a c.in-If.c)
+    (fold_branch c.args.turns c.args.attempts (expression_of c.in-If.e) (statements_of c.in-If.a) (statements_of c.in-If.c) c.args.table.entries _ _ c.args.ended.now _ c.in-Ok-split-2.ensures.first c.in-Ok-split-2.ensures.second _ _ _ _ _ c.in-Ok-fold_block.ensures.ok c.in-Ok-fold_block-2.ensures.ok c.in-Ok-merge.ensures.ok)
+
+pub fold_stmt-returns-in-Ok-merge-clause-sized : goal.fold_stmt-returns-in-Ok-merge-clause-sized
+fold_stmt-returns-in-Ok-merge-clause-sized t c =
+    λ m h. c.in-Ok-merge.ensures.sized m (c.in-Ok-fold_block.ensures.sized m (c.in-Ok-split-2.ensures.first_sized m h)) (c.in-Ok-fold_block-2.ensures.sized m (c.in-Ok-split-2.ensures.second_sized m h))
+
+pub fold_stmt-returns-in-Ok-fold_block-2-clause-cause : goal.fold_stmt-returns-in-Ok-fold_block-2-clause-cause
+fold_stmt-returns-in-Ok-fold_block-2-clause-cause t c =
+    blames_as c.args.turns c.args.attempts _ _ _ _ _ (ap statement_of c.in-If.is ∙ if_view c.in-If.e c.in-If.a c.in-If.c)
+    (let ws = weights_as _ _ (ap statement_of c.in-If.is ∙ if_view c.in-If.e c.in-If.a c.in-If.c) c.requires.weights in branches.both_blame c.args.turns c.args.attempts (expression_of c.in-If.e) (statements_of c.in-If.a) (statements_of c.in-If.c) c.args.table.entries _ _ c.args.ended.now _ c.in-Ok-split-2.ensures.first c.in-Ok-split-2.ensures.second _ _ c.in-Ok-fold_block.ensures.ok ws.0 _ _ _ ws.1 c.in-Ok-fold_block-2.ensures.ok c.in-Err-merge.ensures.cause)
+
+pub fold_stmt-returns-in-Ok-fold_block-clause-cause : goal.fold_stmt-returns-in-Ok-fold_block-clause-cause
+fold_stmt-returns-in-Ok-fold_block-clause-cause t c =
+    blames_as c.args.turns c.args.attempts _ _ _ _ _ (ap statement_of c.in-If.is ∙ if_view c.in-If.e c.in-If.a c.in-If.c)
+    (let ws = weights_as _ _ (ap statement_of c.in-If.is ∙ if_view c.in-If.e c.in-If.a c.in-If.c) c.requires.weights in branches.second_blames c.args.turns c.args.attempts (expression_of c.in-If.e) (statements_of c.in-If.a) (statements_of c.in-If.c) c.args.table.entries _ _ c.args.ended.now _ c.in-Ok-split-2.ensures.first c.in-Ok-split-2.ensures.second _ _ c.in-Ok-fold_block.ensures.ok ws.0 _ c.in-Err-fold_block-2.ensures.cause)
+
+pub fold_stmt-returns-in-Ok-split-2-clause-cause : goal.fold_stmt-returns-in-Ok-split-2-clause-cause
+fold_stmt-returns-in-Ok-split-2-clause-cause t c =
+    blames_as c.args.turns c.args.attempts _ _ _ _ _ (ap statement_of c.in-If.is ∙ if_view c.in-If.e c.in-If.a c.in-If.c)
+    (branches.first_blames c.args.turns c.args.attempts (expression_of c.in-If.e) (statements_of c.in-If.a) (statements_of c.in-If.c) c.args.table.entries _ _ c.args.ended.now _ c.in-Ok-split-2.ensures.first c.in-Ok-split-2.ensures.second _ c.in-Err-fold_block.ensures.cause)
+
+pub fold_stmt-returns-in-If-clause-cause : goal.fold_stmt-returns-in-If-clause-cause
+fold_stmt-returns-in-If-clause-cause t c =
+    blames_as c.args.turns c.args.attempts _ _ _ _ _ (ap statement_of c.in-If.is ∙ if_view c.in-If.e c.in-If.a c.in-If.c)
+    (branches.branch_blames c.args.turns c.args.attempts (expression_of c.in-If.e) (statements_of c.in-If.a) (statements_of c.in-If.c) c.args.table.entries c.args.ended.now _ c.in-Err-split-2.ensures.cause)
+
+pub fold_stmt-fold_loop-requires : goal.fold_stmt-fold_loop-requires
+fold_stmt-fold_loop-requires t c =
+    let m = c.requires.fits.count in
+    let q = (ap statement_of c.in-While.is ∙ while_view c.in-While.e c.in-While.body) in
+    (search (rules, the_lemmas), (record { count = m; fact = below_as m _ _ q c.requires.fits.fact; sized = c.requires.fits.sized }, (weights_as _ _ q c.requires.weights, c.requires.some)))
+
+pub fold_stmt-returns-in-Ok-fold_loop-clause-ok : goal.fold_stmt-returns-in-Ok-fold_loop-clause-ok
+fold_stmt-returns-in-Ok-fold_loop-clause-ok t c =
+    folds_as c.args.turns c.args.attempts _ _ _ _ _ _ (ap statement_of c.in-While.is ∙ while_view c.in-While.e c.in-While.body)
+    (c.in-Ok-fold_loop.ensures.ok)
+
+pub fold_stmt-returns-in-While-clause-cause : goal.fold_stmt-returns-in-While-clause-cause
+fold_stmt-returns-in-While-clause-cause t c =
+    blames_as c.args.turns c.args.attempts _ _ _ _ _ (ap statement_of c.in-While.is ∙ while_view c.in-While.e c.in-While.body)
+    (c.in-Err-fold_loop.ensures.cause)
+
+pub fold_stmt-sides-requires-clause-weight : goal.fold_stmt-sides-requires-clause-weight
+fold_stmt-sides-requires-clause-weight t c =
+    (weights_as _ _ (ap statement_of c.in-Choice.is ∙ choice_view c.in-Choice.p c.in-Choice.a c.in-Choice.c) c.requires.weights).0
+
+pub fold_stmt-fold_block-requires-in-Ok-sides : goal.fold_stmt-fold_block-requires-in-Ok-sides
+fold_stmt-fold_block-requires-in-Ok-sides t c =
+    let m = c.requires.fits.count in
+    let q = (ap statement_of c.in-Choice.is ∙ choice_view c.in-Choice.p c.in-Choice.a c.in-Choice.c) in
+    (search (rules, the_lemmas), (record { count = m; fact = (below_as m _ _ q c.requires.fits.fact).0; sized = c.in-Ok-sides.ensures.first_sized m c.requires.fits.sized }, ((weights_as _ _ q c.requires.weights).1, c.requires.some)))
+
+pub fold_stmt-fold_block-requires-in-Ok-fold_block-3 : goal.fold_stmt-fold_block-requires-in-Ok-fold_block-3
+fold_stmt-fold_block-requires-in-Ok-fold_block-3 t c =
+    let m = c.requires.fits.count in
+    let q = (ap statement_of c.in-Choice.is ∙ choice_view c.in-Choice.p c.in-Choice.a c.in-Choice.c) in
+    (search (rules, the_lemmas), (record { count = m; fact = (below_as m _ _ q c.requires.fits.fact).1; sized = c.in-Ok-sides.ensures.second_sized m c.requires.fits.sized }, ((weights_as _ _ q c.requires.weights).2, c.requires.some)))
+
+pub fold_stmt-returns-in-Ok-merge-2-clause-ok : goal.fold_stmt-returns-in-Ok-merge-2-clause-ok
+fold_stmt-returns-in-Ok-merge-2-clause-ok t c =
+    folds_as c.args.turns c.args.attempts _ _ _ _ _ _ (ap statement_of c.in-Choice.is ∙ choice_view c.in-Choice.p c.in-Choice.a c.in-Choice.c)
+    (let ws = weights_as _ _ (ap statement_of c.in-Choice.is ∙ choice_view c.in-Choice.p c.in-Choice.a c.in-Choice.c) c.requires.weights in fold_choice c.args.turns c.args.attempts c.in-Choice.p (statements_of c.in-Choice.a) (statements_of c.in-Choice.c) ws.0 c.args.table.entries c.args.ended.now _ _ _ c.in-Ok-sides.ensures.ok _ _ _ _ _ c.in-Ok-fold_block-3.ensures.ok c.in-Ok-fold_block-4.ensures.ok c.in-Ok-merge-2.ensures.ok)
+
+pub fold_stmt-returns-in-Ok-merge-2-clause-sized : goal.fold_stmt-returns-in-Ok-merge-2-clause-sized
+fold_stmt-returns-in-Ok-merge-2-clause-sized t c =
+    λ m h. c.in-Ok-merge-2.ensures.sized m (c.in-Ok-fold_block-3.ensures.sized m (c.in-Ok-sides.ensures.first_sized m h)) (c.in-Ok-fold_block-4.ensures.sized m (c.in-Ok-sides.ensures.second_sized m h))
+
+pub fold_stmt-returns-in-Ok-fold_block-4-clause-cause : goal.fold_stmt-returns-in-Ok-fold_block-4-clause-cause
+fold_stmt-returns-in-Ok-fold_block-4-clause-cause t c =
+    blames_as c.args.turns c.args.attempts _ _ _ _ _ (ap statement_of c.in-Choice.is ∙ choice_view c.in-Choice.p c.in-Choice.a c.in-Choice.c)
+    (let ws = weights_as _ _ (ap statement_of c.in-Choice.is ∙ choice_view c.in-Choice.p c.in-Choice.a c.in-Choice.c) c.requires.weights in choices.both_blame c.args.turns c.args.attempts c.in-Choice.p (statements_of c.in-Choice.a) (statements_of c.in-Choice.c) ws.0 c.args.table.entries c.args.ended.now _ _ _ c.in-Ok-sides.ensures.ok _ _ c.in-Ok-fold_block-3.ensures.ok ws.1 _ _ _ ws.2 c.in-Ok-fold_block-4.ensures.ok c.in-Err-merge-2.ensures.cause)
+
+pub fold_stmt-returns-in-Ok-fold_block-3-clause-cause : goal.fold_stmt-returns-in-Ok-fold_block-3-clause-cause
+fold_stmt-returns-in-Ok-fold_block-3-clause-cause t c =
+    blames_as c.args.turns c.args.attempts _ _ _ _ _ (ap statement_of c.in-Choice.is ∙ choice_view c.in-Choice.p c.in-Choice.a c.in-Choice.c)
+    (let ws = weights_as _ _ (ap statement_of c.in-Choice.is ∙ choice_view c.in-Choice.p c.in-Choice.a c.in-Choice.c) c.requires.weights in choices.second_blames c.args.turns c.args.attempts c.in-Choice.p (statements_of c.in-Choice.a) (statements_of c.in-Choice.c) ws.0 c.args.table.entries c.args.ended.now _ _ _ c.in-Ok-sides.ensures.ok _ _ c.in-Ok-fold_block-3.ensures.ok ws.1 _ c.in-Err-fold_block-4.ensures.cause)
+
+pub fold_stmt-returns-in-Ok-sides-clause-cause : goal.fold_stmt-returns-in-Ok-sides-clause-cause
+fold_stmt-returns-in-Ok-sides-clause-cause t c =
+    blames_as c.args.turns c.args.attempts _ _ _ _ _ (ap statement_of c.in-Choice.is ∙ choice_view c.in-Choice.p c.in-Choice.a c.in-Choice.c)
+    (let ws = weights_as _ _ (ap statement_of c.in-Choice.is ∙ choice_view c.in-Choice.p c.in-Choice.a c.in-Choice.c) c.requires.weights in choices.first_blames c.args.turns c.args.attempts c.in-Choice.p (statements_of c.in-Choice.a) (statements_of c.in-Choice.c) ws.0 c.args.table.entries c.args.ended.now _ _ _ c.in-Ok-sides.ensures.ok _ c.in-Err-fold_block-3.ensures.cause)
+
+pub fold_stmt-returns-clause-cause : goal.fold_stmt-returns-clause-cause
+fold_stmt-returns-clause-cause t c =
+    blames_as c.args.turns c.args.attempts _ _ _ _ _ (ap statement_of c.in-Choice.is ∙ choice_view c.in-Choice.p c.in-Choice.a c.in-Choice.c)
+    (let ws = weights_as _ _ (ap statement_of c.in-Choice.is ∙ choice_view c.in-Choice.p c.in-Choice.a c.in-Choice.c) c.requires.weights in sides_blame c.args.turns c.args.attempts c.in-Choice.p (statements_of c.in-Choice.a) (statements_of c.in-Choice.c) ws.0 c.args.table.entries c.args.ended.now _ (λ e. c.if-len-eq0.false (c.len.ensures.len ∙ ap length e)) c.in-Err-sides.ensures.cause)

@@ -1,0 +1,25 @@
+use Rattle.std.proofs.Common.{◌-◌, ℕ, drop}
+use Rattle.gcl_core.specs.Bounds.{IsWeight, BlockWeights, BlockBelow}
+use Rattle.gcl_core.specs.Views.{list_of, expression_of, statements_of}
+use Rattle.gcl_core.specs.Value.{value_of}
+use Rattle.mass_tables.specs.Tables.{block_flow, loop_flow}
+use Rattle.mass_fold.specs.Amounts.{SameSize}
+use Rattle.mass_fold.specs.Fold.{LoopsOn}
+use Rattle.mass_fold.proofs.Folds.{FoldsOn, BlamesOn}
+use Rattle.mass_fold.proofs.fold.+fold.Given as goal
+
+abbrev pub invariant-fold_block-loop-s : goal.invariant-fold_block-loop-s
+invariant-fold_block-loop-s l = record {
+  below : (m : ℕ) → BlockBelow m (list_of l.s-items) → BlockBelow m (list_of (drop l.s-index l.s-items));
+  weights : BlockWeights IsWeight (list_of l.s-items) → BlockWeights IsWeight (list_of (drop l.s-index l.s-items));
+  sized : SameSize l.fn.table.entries l.now.entries;
+  so_far : FoldsOn l.turns l.attempts (block_flow l.turns l.attempts (list_of l.s-items)) (list_of (drop l.s-index l.s-items)) l.fn.table.entries l.fn.ended l.now.entries l.ended;
+  blames : BlamesOn l.turns l.attempts (block_flow l.turns l.attempts (list_of l.s-items)) (list_of (drop l.s-index l.s-items)) l.fn.table.entries l.fn.ended l.now.entries l.ended;
+}
+
+abbrev pub invariant-fold_loop-loop : goal.invariant-fold_loop-loop
+invariant-fold_loop-loop l = record {
+  now_sized : SameSize l.fn.table.entries l.now.entries;
+  exits_sized : SameSize l.fn.table.entries l.exits.entries;
+  so_far : LoopsOn (loop_flow (value_of (expression_of l.e)) (block_flow l.turns l.attempts (statements_of l.body))) l.turns (l.turns - l.counter) l.fn.table.entries l.fn.ended l.now.entries l.exits.entries l.ended;
+}

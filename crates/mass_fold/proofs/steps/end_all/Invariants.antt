@@ -1,0 +1,12 @@
+use Rattle.std.proofs.Common.{[]}
+use Rattle.mass_fold.specs.Ended.{end_of}
+use Rattle.mass_fold.specs.Steps.{StepsOn}
+use Rattle.mass_tables.specs.Counts.{none_kept, all_stopped}
+use Rattle.mass_fold.proofs.steps.end_all.Given as goal
+
+abbrev pub invariant-loop-f : goal.invariant-loop-f
+invariant-loop-f l = record {
+  next : (goal.iterator-loop-f).can_next l.f-iterator;
+  finite : (goal.iterator-loop-f).is_finite l.f-iterator;
+  so_far : StepsOn none_kept (all_stopped (end_of l.x)) [] l.fn.table.entries l.fn.ended [] l.ended l.f-iterator;
+}

@@ -1,0 +1,262 @@
+// Draws on a table.
+
+ghost use Rattle.std.specs.Prelude.{◌≡◌, ◌<◌, ◌≤◌, ◌^◌, ℕ, List, [], length, IfOk, OnOk, IfErr, IfSome, IfNone};
+ghost use Rattle.frac128.specs.Fraction.{InLowest};
+ghost use Rattle.gcl_core.specs.Blocks.{limit};
+ghost use Rattle.gcl_core.specs.declared.answers.Limit.TheVariants as limit_kind;
+ghost use Rattle.gcl_core.specs.Fractions.{power};
+ghost use Rattle.gcl_core.specs.WeightedEnds.{class_weight, no_class_weight};
+ghost use Rattle.gcl_core.specs.Views.{expression_of};
+ghost use Rattle.gcl_core.specs.Value.{value_of, Reads};
+ghost use Rattle.mass_tables.specs.Counts.{part_at, rest_at, drawn, undrawn, all_kept, none_kept, all_stopped, none_stopped};
+ghost use Rattle.mass_fold.specs.declared.ended.Ended.{Ended};
+ghost use Rattle.mass_fold.specs.Ended.{end_of};
+ghost use Rattle.mass_fold.specs.Amounts.{Fits, SameSize, Sized};
+ghost use Rattle.mass_fold.specs.Steps.{DrawsTo, DrawBlames, IsParts, PartsBlame, IsPower, PowerBlames, SpreadGives, SpreadBlames, AddedBy, StoppedBy, BlamedBy, at_numbers};
+
+use crate::ended::{Ended, Gone};
+use crate::error::MassError;
+use crate::state::State;
+use crate::steps::gone;
+use crate::table::put;
+use draw_tree::bits_for;
+use frac128::Frac;
+use gcl_core::{Expr, eval};
+use std::alloc::Global;
+use std::collections::BTreeMap;
+
+/// The power of a fraction of at most 1; none where it does not fit.
+pub fn power(base: &Frac, count: u64) -> Option<Frac>
+    requires { base.now.0 ≤ base.now.1 }
+    ensures value { IfSome result (IsPower base.now count) }
+    ensures cause { IfNone result (PowerBlames base.now count) }
+{
+    let _low = base.num();
+    let mut product = Frac::of(1, 1);
+    for _ in 0..count {
+        match product.mul(base) {
+            Some(next) => product = next,
+            None => return None,
+        }
+    }
+    Some(product)
+}
+
+/// The weights of one number of a draw with so many numbers, and of none of them, under a limit of attempts or none.
+pub fn parts(bound: u64, attempts: Option<u64>) -> Result<(Frac, Frac), MassError>
+    requires least { 1 ≤ bound }
+    requires most { bound ≤ 2 ^ 63 }
+    requires some { IfSome attempts (λ r. 1 ≤ r) }
+    ensures ok { IfOk result (λ t. IsParts bound attempts t.0 t.1) }
+    ensures cause { IfErr result (PartsBlame bound attempts) }
+{
+    let nothing = Frac::of(0, 1);
+    let wide = u128::from(bound);
+    match attempts {
+        None => Ok((Frac::of(1, wide), nothing)),
+        Some(r) => {
+            let all = 2u128.pow(bits_for(bound));
+            let again = Frac::of(all - wide, all);
+            if again.num() == 0 {
+                return Ok((Frac::of(1, wide), nothing));
+            }
+            match power(&again, r) {
+                None => Err(MassError::TooWide),
+                Some(rest) => {
+                    let given = Frac::of(rest.den() - rest.num(), rest.den());
+                    match given.mul(&Frac::of(1, wide)) {
+                        None => Err(MassError::TooWide),
+                        Some(part) => Ok((part, rest)),
+                    }
+                }
+            }
+        }
+    }
+}
+
+/// The table with each weight multiplied.
+pub fn scale(
+    alloc: Global,
+    w: &Frac,
+    table: &BTreeMap<State, Frac>,
+) -> Result<BTreeMap<State, Frac>, MassError>
+    requires { 1 ≤ w.now.0 }
+    ensures ok { IfOk result (λ t. (E : Ended) → DrawsTo (λ s. w.now) (λ s. w.now) all_kept none_stopped table.now.entries E t.entries E) }
+    ensures sized { IfOk result (λ t. SameSize table.now.entries t.entries) }
+    ensures cause { IfErr result (λ e. (E : Ended) → DrawBlames (λ s. w.now) (λ s. w.now) all_kept none_stopped table.now.entries E e) }
+{
+    let _low = w.num();
+    let mut next = BTreeMap::new(alloc);
+    for (s, f) in table {
+        match f.mul(w) {
+            None => return Err(MassError::TooWide),
+            Some(h) => match s.copy(alloc) {
+                Err(_) => return Err(MassError::OutOfMemory),
+                Ok(t) => {
+                    if let Err(error) = put(&mut next, t, h) {
+                        return Err(error);
+                    }
+                }
+            },
+        }
+    }
+    Ok(next)
+}
+
+/// All entries end in one way, with each weight multiplied.
+pub fn end_part(
+    x: Gone,
+    w: &Frac,
+    table: &BTreeMap<State, Frac>,
+    ended: &mut Ended,
+) -> Result<(), MassError>
+    ensures ok { OnOk result (DrawsTo (λ s. w.now) (λ s. w.now) none_kept (all_stopped (end_of x)) table.now.entries ended.old [] ended.new) }
+    ensures cause { IfErr result (DrawBlames (λ s. w.now) (λ s. w.now) none_kept (all_stopped (end_of x)) table.now.entries ended.old) }
+{
+    let _low = w.num();
+    for (_, f) in table {
+        match f.mul(w) {
+            None => return Err(MassError::TooWide),
+            Some(h) => {
+                if let Err(error) = ended.add(x, &h) {
+                    return Err(error);
+                }
+            }
+        }
+    }
+    Ok(())
+}
+
+// The state with x set to each number below a bound, each with the same weight.
+fn spread(
+    alloc: Global,
+    x: u32,
+    bound: u64,
+    s: &State,
+    h: Frac,
+    next: &mut BTreeMap<State, Frac>,
+) -> Result<(), MassError>
+    requires place { x < length s.now }
+    requires most { bound < 2 ^ 63 }
+    ensures ok { OnOk result (SpreadGives next.old.entries next.new.entries x bound s.now h) }
+    ensures sized { OnOk result ((m : ℕ) → length s.now ≡ m → Sized m next.old.entries → Sized m next.new.entries) }
+    ensures cause { IfErr result (λ e. SpreadBlames e next.old.entries x bound s.now h) }
+{
+    for i in 0..bound {
+        match s.copy(alloc) {
+            Err(_) => return Err(MassError::OutOfMemory),
+            Ok(t) => {
+                let mut t = t;
+                t.set(x, i as i64);
+                if let Err(error) = put(next, t, h) {
+                    return Err(error);
+                }
+            }
+        }
+    }
+    Ok(())
+}
+
+// The draw of one state of weight f, with so many numbers.
+fn draw_state(
+    alloc: Global,
+    x: u32,
+    bound: u64,
+    attempts: Option<u64>,
+    s: &State,
+    f: &Frac,
+    next: &mut BTreeMap<State, Frac>,
+    ended: &mut Ended,
+) -> Result<(), MassError>
+    requires place { x < length s.now }
+    requires least { 1 ≤ bound }
+    requires most { bound < 2 ^ 63 }
+    requires some { IfSome attempts (λ r. 1 ≤ r) }
+    ensures added { OnOk result (AddedBy (class_weight bound attempts 1) next.old.entries next.new.entries f.now (at_numbers x bound s.now)) }
+    ensures stopped { OnOk result (StoppedBy (no_class_weight bound attempts) ended.old ended.new f.now (λ G. G (limit limit_kind.Attempts))) }
+    ensures sized { OnOk result ((m : ℕ) → length s.now ≡ m → Sized m next.old.entries → Sized m next.new.entries) }
+    ensures cause { IfErr result (BlamedBy (class_weight bound attempts 1) (no_class_weight bound attempts) next.old.entries ended.old f.now (at_numbers x bound s.now) (λ G. G (limit limit_kind.Attempts))) }
+{
+    match parts(bound, attempts) {
+        Err(error) => Err(error),
+        Ok((part, rest)) => match f.mul(&part) {
+            None => Err(MassError::TooWide),
+            Some(h) => match spread(alloc, x, bound, s, h, next) {
+                Err(error) => Err(error),
+                Ok(()) => match f.mul(&rest) {
+                    None => Err(MassError::TooWide),
+                    Some(g) => match ended.add(Gone::Attempts, &g) {
+                        Err(error) => Err(error),
+                        Ok(()) => Ok(()),
+                    },
+                },
+            },
+        },
+    }
+}
+
+// The draw of one state of weight f, with as many numbers as an expression says.
+fn draw_entry(
+    alloc: Global,
+    x: u32,
+    e: &Expr,
+    attempts: Option<u64>,
+    s: &State,
+    f: &Frac,
+    next: &mut BTreeMap<State, Frac>,
+    ended: &mut Ended,
+) -> Result<(), MassError>
+    requires place { x < length s.now }
+    requires reads { Reads (expression_of e.now) (length s.now) }
+    requires some { IfSome attempts (λ r. 1 ≤ r) }
+    ensures added { OnOk result (AddedBy (part_at (value_of (expression_of e.now)) attempts s.now) next.old.entries next.new.entries f.now (λ G. drawn x (value_of (expression_of e.now)) G s.now)) }
+    ensures stopped { OnOk result (StoppedBy (rest_at (value_of (expression_of e.now)) attempts s.now) ended.old ended.new f.now (λ G. undrawn (value_of (expression_of e.now)) G s.now)) }
+    ensures sized { OnOk result ((m : ℕ) → length s.now ≡ m → Sized m next.old.entries → Sized m next.new.entries) }
+    ensures cause { IfErr result (BlamedBy (part_at (value_of (expression_of e.now)) attempts s.now) (rest_at (value_of (expression_of e.now)) attempts s.now) next.old.entries ended.old f.now (λ G. drawn x (value_of (expression_of e.now)) G s.now) (λ G. undrawn (value_of (expression_of e.now)) G s.now)) }
+{
+    match eval(e, s.values()) {
+        Err(fault) => {
+            let kind = gone(fault);
+            match ended.add(kind, f) {
+                Err(error) => Err(error),
+                Ok(()) => Ok(()),
+            }
+        }
+        Ok(v) => {
+            if v < 1 {
+                return match ended.add(Gone::Bound, f) {
+                    Err(error) => Err(error),
+                    Ok(()) => Ok(()),
+                };
+            }
+            match draw_state(alloc, x, v as u64, attempts, s, f, next, ended) {
+                Err(error) => Err(error),
+                Ok(()) => Ok(()),
+            }
+        }
+    }
+}
+
+/// A uniform draw of a variable.
+pub fn draw(
+    alloc: Global,
+    x: u32,
+    e: &Expr,
+    attempts: Option<u64>,
+    table: BTreeMap<State, Frac>,
+    ended: &mut Ended,
+) -> Result<BTreeMap<State, Frac>, MassError>
+    requires fits { Fits (λ m. (x < m) × Reads (expression_of e.now) m) table.entries }
+    requires some { IfSome attempts (λ r. 1 ≤ r) }
+    ensures ok { IfOk result (λ t. DrawsTo (part_at (value_of (expression_of e.now)) attempts) (rest_at (value_of (expression_of e.now)) attempts) (drawn x (value_of (expression_of e.now))) (undrawn (value_of (expression_of e.now))) table.entries ended.old t.entries ended.new) }
+    ensures sized { IfOk result (λ t. SameSize table.entries t.entries) }
+    ensures cause { IfErr result (DrawBlames (part_at (value_of (expression_of e.now)) attempts) (rest_at (value_of (expression_of e.now)) attempts) (drawn x (value_of (expression_of e.now))) (undrawn (value_of (expression_of e.now))) table.entries ended.old) }
+{
+    let mut next = BTreeMap::new(alloc);
+    for (s, f) in table {
+        if let Err(error) = draw_entry(alloc, x, e, attempts, &s, &f, &mut next, ended) {
+            return Err(error);
+        }
+    }
+    Ok(next)
+}

@@ -1,0 +1,167 @@
+// A table through a block.
+
+ghost use Rattle.std.specs.Prelude.{◌≡◌, ◌<◌, ◌≤◌, IfOk, IfErr, IfSome};
+ghost use Rattle.gcl_core.specs.Bounds.{IsWeight, StatementWeights, BlockWeights, StatementBelow, BlockBelow};
+ghost use Rattle.gcl_core.specs.Views.{expression_of, statement_of, statements_of};
+ghost use Rattle.gcl_core.specs.Value.{value_of, Reads};
+ghost use Rattle.mass_tables.specs.Tables.{statement_flow, block_flow, loop_flow};
+ghost use Rattle.mass_fold.specs.Amounts.{Fits, SameSize};
+ghost use Rattle.mass_fold.specs.Fold.{FoldsTo, FoldBlames, FoldsOne, OneBlames};
+
+use crate::choosing::sides;
+use crate::draws::draw;
+use crate::ended::{Ended, Gone};
+use crate::error::MassError;
+use crate::state::State;
+use crate::steps::{assign, end_all, merge, split};
+use frac128::Frac;
+use gcl_core::{Block, Expr, Stmt};
+use std::alloc::Global;
+use std::collections::BTreeMap;
+
+/// The table after a block; what ended is added.
+#[cycle(fold)]
+pub fn fold_block(
+    alloc: Global,
+    b: &Block,
+    turns: u64,
+    attempts: Option<u64>,
+    table: BTreeMap<State, Frac>,
+    ended: &mut Ended,
+) -> Result<BTreeMap<State, Frac>, MassError>
+    requires fits { Fits (λ m. BlockBelow m (statements_of b.now)) table.entries }
+    requires weights { BlockWeights IsWeight (statements_of b.now) }
+    requires some { IfSome attempts (λ r. 1 ≤ r) }
+    ensures ok { IfOk result (λ t. FoldsTo (block_flow turns attempts (statements_of b.now)) table.entries ended.old t.entries ended.new) }
+    ensures sized { IfOk result (λ t. SameSize table.entries t.entries) }
+    ensures cause { IfErr result (FoldBlames (block_flow turns attempts (statements_of b.now)) table.entries ended.old) }
+{
+    let mut now = table;
+    for s in &b.stmts {
+        match fold_stmt(alloc, s, turns, attempts, now, ended) {
+            Ok(next) => now = next,
+            Err(error) => return Err(error),
+        }
+    }
+    Ok(now)
+}
+
+#[cycle(fold)]
+#[tactic(auto, using(gcl_core::proofs::ViewLemmas::views))]
+fn fold_stmt(
+    alloc: Global,
+    s: &Stmt,
+    turns: u64,
+    attempts: Option<u64>,
+    table: BTreeMap<State, Frac>,
+    ended: &mut Ended,
+) -> Result<BTreeMap<State, Frac>, MassError>
+    requires fits { Fits (λ m. StatementBelow m (statement_of s.now)) table.entries }
+    requires weights { StatementWeights IsWeight (statement_of s.now) }
+    requires some { IfSome attempts (λ r. 1 ≤ r) }
+    ensures ok { IfOk result (λ t. FoldsOne (statement_flow turns attempts (statement_of s.now)) table.entries ended.old t.entries ended.new) }
+    ensures sized { IfOk result (λ t. SameSize table.entries t.entries) }
+    ensures cause { IfErr result (OneBlames (statement_flow turns attempts (statement_of s.now)) table.entries ended.old) }
+{
+    if table.len() == 0 {
+        return Ok(table);
+    }
+    match s {
+        Stmt::Skip => Ok(table),
+        Stmt::Set(x, e) => match assign(alloc, *x, e, table, ended) {
+            Ok(next) => Ok(next),
+            Err(error) => Err(error),
+        },
+        Stmt::Uniform(x, e) => match draw(alloc, *x, e, attempts, table, ended) {
+            Ok(next) => Ok(next),
+            Err(error) => Err(error),
+        },
+        Stmt::Observe(e) => match split(alloc, e, table, ended) {
+            Ok((first, second)) => match end_all(Gone::Failed, second, ended) {
+                Ok(()) => Ok(first),
+                Err(error) => Err(error),
+            },
+            Err(error) => Err(error),
+        },
+        Stmt::If(e, a, c) => match split(alloc, e, table, ended) {
+            Ok((first, second)) => match fold_block(alloc, a, turns, attempts, first, ended) {
+                Ok(mut left) => match fold_block(alloc, c, turns, attempts, second, ended) {
+                    Ok(right) => match merge(&mut left, right) {
+                        Ok(()) => Ok(left),
+                        Err(error) => Err(error),
+                    },
+                    Err(error) => Err(error),
+                },
+                Err(error) => Err(error),
+            },
+            Err(error) => Err(error),
+        },
+        Stmt::While(e, body) => match fold_loop(alloc, body, e, turns, attempts, table, ended) {
+            Ok(next) => Ok(next),
+            Err(error) => Err(error),
+        },
+        Stmt::Choice(p, a, c) => match sides(alloc, *p, attempts, &table, ended) {
+            Ok((first, second)) => match fold_block(alloc, a, turns, attempts, first, ended) {
+                Ok(mut left) => match fold_block(alloc, c, turns, attempts, second, ended) {
+                    Ok(right) => match merge(&mut left, right) {
+                        Ok(()) => Ok(left),
+                        Err(error) => Err(error),
+                    },
+                    Err(error) => Err(error),
+                },
+                Err(error) => Err(error),
+            },
+            Err(error) => Err(error),
+        },
+    }
+}
+
+#[cycle(fold)]
+fn fold_loop(
+    alloc: Global,
+    body: &Block,
+    e: &Expr,
+    turns: u64,
+    attempts: Option<u64>,
+    table: BTreeMap<State, Frac>,
+    ended: &mut Ended,
+) -> Result<BTreeMap<State, Frac>, MassError>
+    requires fits { Fits (λ m. Reads (expression_of e.now) m × BlockBelow m (statements_of body.now)) table.entries }
+    requires weights { BlockWeights IsWeight (statements_of body.now) }
+    requires some { IfSome attempts (λ r. 1 ≤ r) }
+    ensures ok { IfOk result (λ t. FoldsOne (loop_flow (value_of (expression_of e.now)) (block_flow turns attempts (statements_of body.now)) turns) table.entries ended.old t.entries ended.new) }
+    ensures sized { IfOk result (λ t. SameSize table.entries t.entries) }
+    ensures cause { IfErr result (OneBlames (loop_flow (value_of (expression_of e.now)) (block_flow turns attempts (statements_of body.now)) turns) table.entries ended.old) }
+{
+    let mut now = table;
+    let mut exits = BTreeMap::new(alloc);
+    for _ in 0..turns {
+        if now.len() == 0 {
+            return Ok(exits);
+        }
+        match split(alloc, e, now, ended) {
+            Ok((first, second)) => {
+                if let Err(error) = merge(&mut exits, second) {
+                    return Err(error);
+                }
+                match fold_block(alloc, body, turns, attempts, first, ended) {
+                    Ok(next) => now = next,
+                    Err(error) => return Err(error),
+                }
+            }
+            Err(error) => return Err(error),
+        }
+    }
+    match split(alloc, e, now, ended) {
+        Ok((first, second)) => {
+            if let Err(error) = merge(&mut exits, second) {
+                return Err(error);
+            }
+            match end_all(Gone::Turns, first, ended) {
+                Ok(()) => Ok(exits),
+                Err(error) => Err(error),
+            }
+        }
+        Err(error) => Err(error),
+    }
+}

@@ -1,0 +1,104 @@
+// The masses of a program.
+
+ghost use Rattle.std.specs.Prelude.{◌≡◌, ◌≤◌, ℕ, Option, IfOk, IfErr, IfSome, IfNone};
+ghost use Rattle.frac128.specs.Fraction.{lowest};
+ghost use Rattle.gcl_core.specs.Fractions.{IsBelowOne};
+ghost use Rattle.gcl_core.specs.Mass.{round_mass, failed_mass, mass_of};
+ghost use Rattle.gcl_core.specs.Outcomes.{same_outcome};
+ghost use Rattle.gcl_core.specs.Views.{source_of};
+ghost use Rattle.mass_tables.specs.Width.{round_width, width_of};
+ghost use Rattle.mass_fold.specs.Masses.{RoundGives};
+ghost use Rattle.mass_fold.specs.Refused.{IsLimit, RoundRefused, MassRefused};
+ghost use Rattle.mass_fold.specs.Rows.{AreMasses};
+
+use crate::body::fold_body;
+use crate::error::MassError;
+use crate::outcomes::{add_ended, add_results};
+use crate::rounds::{in_rounds, over_rest};
+use crate::rows::{FracRows, Round};
+use frac128::Frac;
+use gcl_core::{Checked, Outcome};
+use std::alloc::Global;
+use std::collections::BTreeMap;
+
+// The outcomes of one round with their weights, and the weight of a failed one.
+fn one_round(
+    alloc: Global,
+    p: &Checked,
+    turns: u64,
+    attempts: Option<u64>,
+) -> Result<(BTreeMap<Outcome, Frac>, Frac), MassError>
+    requires { IfSome attempts (λ r. 1 ≤ r) }
+    ensures ok { IfOk result (λ t. RoundGives (source_of p.now) turns attempts t.0.entries t.1) }
+    ensures cause { IfErr result (λ e. RoundRefused e (source_of p.now) turns attempts) }
+    ensures wider { (R : Option ℕ) → round_width (source_of p.now) turns attempts ≤ width_of (source_of p.now) turns attempts R }
+{
+    let program = p.program();
+    let (table, ended) = fold_body(alloc, p, turns, attempts)?;
+    let mut rows = BTreeMap::new(alloc);
+    add_results(&program.result, &table, &mut rows)?;
+    add_ended(&ended, &mut rows)?;
+    Ok((rows, ended.failed))
+}
+
+/// The mass of each outcome in one round of a program, and that of a failed observation, by merged tables of states.
+///
+/// `turns` is the limit of turns for each entry of a loop, at most 10^9. `attempts` is that of attempts for each draw, from 1 to 10^9;
+/// where there is none, a draw takes as many as it needs.
+///
+/// `TooWide` comes only where the common denominator of the round is above 2^128 − 1, and `TooManyStates` only where some point of the
+/// program is reached with more than 65,536 states. `AllFailed` never comes, and `OutOfMemory` where memory is wanting.
+pub fn round(
+    alloc: Global,
+    p: &Checked,
+    turns: u64,
+    attempts: Option<u64>,
+) -> Result<Round, MassError>
+    requires turns { turns ≤ 1000000000 }
+    requires attempts { IfSome attempts IsLimit }
+    ensures rows { IfOk result (λ t. AreMasses (λ x. round_mass (source_of p.now) turns attempts (same_outcome x)) t.rows) }
+    ensures failed { IfOk result (λ t. t.failed ≡ lowest (failed_mass (source_of p.now) turns attempts)) }
+    ensures refused { IfErr result (λ e. RoundRefused e (source_of p.now) turns attempts) }
+{
+    let (table, failed) = one_round(alloc, p, turns, attempts)?;
+    let _low = failed.num();
+    Ok(Round {
+        rows: FracRows::of(alloc, table)?,
+        failed,
+    })
+}
+
+/// The mass of each outcome of a program, by merged tables of states.
+///
+/// `turns` and `attempts` are as for `round`. `rounds` is the limit of rounds, from 1 to 10^9; where there is none, what a round gives is
+/// taken to the whole of what does not fail.
+///
+/// `TooWide` comes only where the width of the program under these limits is above 2^128 − 1, and `TooManyStates` only where some point
+/// of the program is reached with more than 65,536 states. `AllFailed` comes only where rounds have no limit and each round fails; there
+/// no rows come. `OutOfMemory` comes where memory is wanting.
+pub fn mass(
+    alloc: Global,
+    p: &Checked,
+    turns: u64,
+    attempts: Option<u64>,
+    rounds: Option<u64>,
+) -> Result<FracRows, MassError>
+    requires turns { turns ≤ 1000000000 }
+    requires attempts { IfSome attempts IsLimit }
+    requires rounds { IfSome rounds IsLimit }
+    ensures rows { IfOk result (AreMasses (mass_of (source_of p.now) turns attempts rounds)) }
+    ensures passes { IfOk result (λ rows. IfNone rounds (IsBelowOne (failed_mass (source_of p.now) turns attempts))) }
+    ensures refused { IfErr result (λ e. MassRefused e (source_of p.now) turns attempts rounds) }
+{
+    let (table, failed) = one_round(alloc, p, turns, attempts)?;
+    let _low = failed.num();
+    match rounds {
+        Some(count) => FracRows::of(alloc, in_rounds(alloc, table, &failed, count)?),
+        None => {
+            if failed.num() == failed.den() {
+                return Err(MassError::AllFailed);
+            }
+            FracRows::of(alloc, over_rest(alloc, table, &failed)?)
+        }
+    }
+}

@@ -1,0 +1,88 @@
+// The outcomes of a round, each with its weight.
+
+ghost use Rattle.std.specs.Prelude.{◌≡◌, length, IfOk, OnOk, IfErr};
+ghost use Rattle.gcl_core.specs.Runs.{outcome_of};
+ghost use Rattle.gcl_core.specs.Value.{value_of, Reads};
+ghost use Rattle.gcl_core.specs.Views.{expression_of};
+ghost use Rattle.mass_fold.specs.Amounts.{SumAt, Fits};
+ghost use Rattle.mass_fold.specs.Outcomes.{AddGives, AddBlames, ResultsGive, ResultsBlame, EndedGive, EndedBlame};
+
+use crate::ended::Ended;
+use crate::error::MassError;
+use crate::state::State;
+use frac128::Frac;
+use gcl_core::{Expr, Fault, Limit, Outcome, eval, outcomes_are_ordered};
+use std::collections::BTreeMap;
+
+/// What a state of the body ends the run in: the value of the program's result, or its fault.
+fn outcome(e: &Expr, s: &State) -> Outcome
+    requires { Reads (expression_of e.now) (length s.now) }
+    ensures { result ≡ outcome_of (value_of (expression_of e.now) s.now) }
+{
+    match eval(e, s.values()) {
+        Ok(v) => Outcome::Value(v),
+        Err(fault) => Outcome::Fault(fault),
+    }
+}
+
+// What the outcome weighs once f is added.
+fn outcome_sum(rows: &BTreeMap<Outcome, Frac>, x: &Outcome, f: &Frac) -> Result<Frac, MassError>
+    ensures ok { IfOk result (λ v. SumAt ⟦<Outcome as Ord>⟧.cmp rows.now.entries x.now f.now v) }
+    ensures cause { IfErr result (λ e. AddBlames e rows.now.entries f.now) }
+{
+    let _low = f.num();
+    match rows.get(x) {
+        Some(g) => {
+            let _lower = g.num();
+            match g.add(f) {
+                Some(v) => Ok(v),
+                None => Err(MassError::TooWide),
+            }
+        }
+        None => Ok(*f),
+    }
+}
+
+/// Adds the weight of an outcome, where it is above 0.
+pub fn add(rows: &mut BTreeMap<Outcome, Frac>, x: Outcome, f: &Frac) -> Result<(), MassError>
+    ensures ok { OnOk result (AddGives rows.old.entries rows.new.entries x f.now) }
+    ensures cause { IfErr result (λ e. AddBlames e rows.old.entries f.now) }
+{
+    outcomes_are_ordered();
+    if f.num() == 0 {
+        return Ok(());
+    }
+    let sum = outcome_sum(rows, &x, f)?;
+    match rows.insert(x, sum) {
+        Ok(_) => Ok(()),
+        Err(_) => Err(MassError::OutOfMemory),
+    }
+}
+
+/// Adds the outcomes of the states that the body ends in.
+pub fn add_results(
+    e: &Expr,
+    table: &BTreeMap<State, Frac>,
+    rows: &mut BTreeMap<Outcome, Frac>,
+) -> Result<(), MassError>
+    requires { Fits (Reads (expression_of e.now)) table.now.entries }
+    ensures ok { OnOk result (ResultsGive (expression_of e.now) table.now.entries rows.old.entries rows.new.entries) }
+    ensures cause { IfErr result (λ error. ResultsBlame error table.now.entries rows.old.entries) }
+{
+    for (s, f) in table {
+        add(rows, outcome(e, s), f)?;
+    }
+    Ok(())
+}
+
+/// Adds the faults and the limits that the body ends in.
+pub fn add_ended(ended: &Ended, rows: &mut BTreeMap<Outcome, Frac>) -> Result<(), MassError>
+    ensures ok { OnOk result (EndedGive ended.now rows.old.entries rows.new.entries) }
+    ensures cause { IfErr result (λ error. EndedBlame error ended.now rows.old.entries) }
+{
+    add(rows, Outcome::Fault(Fault::Overflow), &ended.overflow)?;
+    add(rows, Outcome::Fault(Fault::ZeroDivisor), &ended.divisor)?;
+    add(rows, Outcome::Fault(Fault::BadBound), &ended.bound)?;
+    add(rows, Outcome::Limit(Limit::Turns), &ended.turns)?;
+    add(rows, Outcome::Limit(Limit::Attempts), &ended.attempts)
+}

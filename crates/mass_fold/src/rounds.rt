@@ -1,0 +1,91 @@
+// Rounds after the first.
+
+ghost use Rattle.std.specs.Prelude.{◌≡◌, ◌≤◌, ◌<◌, IfOk, IfErr, IfSome, IfNone};
+ghost use Rattle.mass_fold.specs.Rounds.{IsRepeated, RepeatBlames, InRounds, RoundsBlame, OverRest, OverRestBlames};
+ghost use Rattle.mass_fold.specs.Steps.{IsPower, PowerBlames};
+
+use crate::draws::power;
+use crate::error::MassError;
+use crate::outcomes::add;
+use frac128::Frac;
+use gcl_core::{Limit, Outcome};
+use std::alloc::Global;
+use std::collections::BTreeMap;
+
+// s + f s + .. for so many rounds; none where it does not fit. Where f is 0, one round is all.
+fn repeated(s: &Frac, f: &Frac, rounds: u64) -> Option<Frac>
+    requires { 1 ≤ rounds }
+    ensures value { IfSome result (IsRepeated s.now f.now rounds) }
+    ensures cause { IfNone result (RepeatBlames s.now f.now rounds) }
+{
+    let _low = s.num();
+    if f.num() == 0 {
+        return Some(*s);
+    }
+    let mut sum = *s;
+    for _ in 1..rounds {
+        sum = s.add(&f.mul(&sum)?)?;
+    }
+    Some(sum)
+}
+
+// f to the power of the rounds; none where it does not fit. Where f is 0 or 1 it is its power.
+fn all_failed(f: &Frac, rounds: u64) -> Option<Frac>
+    requires some { 1 ≤ rounds }
+    requires most { f.now.0 ≤ f.now.1 }
+    ensures value { IfSome result (IsPower f.now rounds) }
+    ensures cause { IfNone result (PowerBlames f.now rounds) }
+{
+    if f.num() == 0 || f.num() == f.den() {
+        return Some(*f);
+    }
+    power(f, rounds)
+}
+
+/// The weights of an outcome in so many rounds, from those in one: each further round gives it the same weight times that of all
+/// rounds before to fail. What fails in all of them is the limit of rounds.
+pub fn in_rounds(
+    alloc: Global,
+    table: BTreeMap<Outcome, Frac>,
+    failed: &Frac,
+    rounds: u64,
+) -> Result<BTreeMap<Outcome, Frac>, MassError>
+    requires some { 1 ≤ rounds }
+    requires most { failed.now.0 ≤ failed.now.1 }
+    ensures ok { IfOk result (λ masses. InRounds failed.now rounds table.entries masses.entries) }
+    ensures cause { IfErr result (λ e. RoundsBlame e failed.now rounds table.entries) }
+{
+    let mut masses = BTreeMap::new(alloc);
+    for (x, s) in table {
+        match repeated(&s, failed, rounds) {
+            Some(mass) => add(&mut masses, x, &mass)?,
+            None => return Err(MassError::TooWide),
+        }
+    }
+    match all_failed(failed, rounds) {
+        Some(mass) => add(&mut masses, Outcome::Limit(Limit::Rounds), &mass)?,
+        None => return Err(MassError::TooWide),
+    }
+    Ok(masses)
+}
+
+/// The weights of all rounds without a limit, from those in one: each taken to the whole of what does not fail.
+pub fn over_rest(
+    alloc: Global,
+    table: BTreeMap<Outcome, Frac>,
+    failed: &Frac,
+) -> Result<BTreeMap<Outcome, Frac>, MassError>
+    requires { failed.now.0 < failed.now.1 }
+    ensures ok { IfOk result (λ masses. OverRest failed.now table.entries masses.entries) }
+    ensures cause { IfErr result (λ e. OverRestBlames e failed.now table.entries) }
+{
+    let rest = Frac::of(failed.den() - failed.num(), failed.den());
+    let mut masses = BTreeMap::new(alloc);
+    for (x, s) in table {
+        match s.div(&rest) {
+            Some(mass) => add(&mut masses, x, &mass)?,
+            None => return Err(MassError::TooWide),
+        }
+    }
+    Ok(masses)
+}

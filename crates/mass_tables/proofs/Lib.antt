@@ -1,0 +1,10 @@
+pub mod Wholes
+pub mod Amounts
+pub mod Linear
+pub mod Denominators
+pub mod Draws
+pub mod Uniforms
+pub mod Kept
+pub mod Positive
+pub mod Paths
+pub mod AtWidth

@@ -1,0 +1,67 @@
+-- The weighted ends of a block have denominators of at least 1, and so has each sum of them.
+use Rattle.std.proofs.Common.{ℕ, zero, suc, ◌<◌, Bool, true, false, cond, [], ◌∷◌, Ok, Err, Option, None, Some, arith}
+use Rattle.gcl_core.specs.declared.answers.Limit.TheVariants.{Turns, Attempts}
+use Rattle.gcl_core.specs.Syntax.{Statement, skip, assign, branch, loop, choice, uniform, observe, Statements, done, ◌▸◌}
+use Rattle.gcl_core.specs.Bounds.{IsWeight, StatementWeights, BlockWeights}
+use Rattle.gcl_core.specs.Value.{State, Value, value_of, is_zero}
+use Rattle.gcl_core.specs.Blocks.{End, on, failed, fault, limit, by_value, by_truth, by_class, by_side, by_end, choice_ends}
+use Rattle.gcl_core.specs.Fractions.{plus}
+use Rattle.gcl_core.specs.Mass.{sum_of}
+use Rattle.gcl_core.specs.WeightedEnds.{Weighted, sure, class_weight, no_class_weight, classes_from, weighted_classes, loop_weighted, statement_weighted, weighted_ends}
+use Rattle.frac128.proofs.Divisors.{product_pos}
+use Rattle.mass_tables.proofs.Draws.{class_pos, no_class_pos}
+use Rattle.mass_tables.proofs.Positive.{Positive, p_append, p_taken, p_sure, p_classes, p_set, p_seen, p_drawn, alone}
+
+go_on : (e : End) (k : State → Weighted End) → ((s : State) → Positive (k s)) → Positive (by_end sure e k)
+go_on (on s) k h = h s
+go_on failed k h = alone
+go_on (fault f) k h = alone
+go_on (limit l) k h = alone
+
+by_test : (b : Bool) (m o : Weighted End) → Positive m → Positive o → Positive (cond b o m)
+by_test true m o h k = k
+by_test false m o h k = h
+
+by_guard : (v : Value) (m o : Weighted End) → Positive m → Positive o → Positive (by_value (λ f. sure (fault f)) v (λ z. by_truth z m o))
+by_guard (Ok z) m o h k = by_test (is_zero z) m o h k
+by_guard (Err f) m o h k = alone
+
+by_number : (i : ℕ) (m o : Weighted End) → Positive m → Positive o → Positive (by_side i m o)
+by_number zero m o h k = h
+by_number (suc i) m o h k = k
+
+by_classes : (class : Option ℕ) (m o : Weighted End) → Positive m → Positive o → Positive (by_class (sure (limit Attempts)) class (λ i. by_side i m o))
+by_classes None m o h k = alone
+by_classes (Some i) m o h k = by_number i m o h k
+
+module _ (n : ℕ) (r : Option ℕ) where
+  turns_positive : (v : State → Value) (body : State → Weighted End) → ((s : State) → Positive (body s)) → (t : ℕ) (s : State) → Positive (loop_weighted v body t s)
+  turns_positive v body h zero s = by_guard (v s) _ _ (p_sure (limit Turns)) (p_sure (on s))
+  turns_positive v body h (suc t) s =
+      by_guard (v s) _ _ (p_taken (body s) _ (h s) (λ e. go_on e (loop_weighted v body t) (turns_positive v body h t))) (p_sure (on s))
+
+  mutual
+    statement_positive : (st : Statement) (s : State) → StatementWeights IsWeight st → Positive (statement_weighted n r st s)
+    statement_positive skip s w = p_sure (on s)
+    statement_positive (assign x e) s w = p_set n r x (value_of e s) s
+    statement_positive (observe e) s w = p_seen n r (value_of e s) s
+    statement_positive (uniform x e) s w = p_drawn n r x (value_of e s) s
+    statement_positive (branch e a c) s w = by_guard (value_of e s) _ _ (ends_positive a s w.0) (ends_positive c s w.1)
+    statement_positive (choice q a c) s w =
+        let h : 0 < q.den = let o = w.0.positive in omega arith in
+        let none : Weighted (Option ℕ) = (no_class_weight q.den r, None) ∷ [] in
+        p_taken (weighted_classes (choice_ends q) r) _ (p_append (classes_from (class_weight q.den r) 0 0 (choice_ends q)) none (p_classes (class_weight q.den r) 0 0 (choice_ends q) (λ a. class_pos q.den r a h)) (no_class_pos q.den r, tt))
+        (λ class. by_classes class (weighted_ends n r a s) (weighted_ends n r c s) (ends_positive a s w.1) (ends_positive c s w.2))
+    statement_positive (loop e a) s w = turns_positive (value_of e) (weighted_ends n r a) (λ s. ends_positive a s w) n s
+
+    pub ends_positive : (b : Statements) (s : State) → BlockWeights IsWeight b → Positive (weighted_ends n r b s)
+    ends_positive done s w = p_sure (on s)
+    ends_positive (st ▸ b) s w = p_taken (statement_weighted n r st s) _ (statement_positive st s w.0) (λ e. go_on e (weighted_ends n r b) (λ s. ends_positive b s w.1))
+
+pub sum_positive : {A : Type 0} (is : A → Bool) (m : Weighted A) → Positive m → 0 < (sum_of is m).1
+sum_positive is [] h = omega arith
+sum_positive is (e ∷ m) h = by (is e.1) (sum_positive is m h.1)
+  where
+    by : (b : Bool) → 0 < (sum_of is m).1 → 0 < (cond b (plus e.0 (sum_of is m)) (sum_of is m)).1
+    by true i = product_pos e.0.1 (sum_of is m).1 h.0 i
+    by false i = i
