@@ -1,0 +1,7 @@
+pub mod Merging
+pub mod Rests
+pub mod Weights
+pub mod Counted
+pub mod Exact
+pub mod Decided
+pub mod Masses

@@ -1,0 +1,4 @@
+pub mod Rows
+pub mod Audited
+pub mod Laws
+pub mod inner

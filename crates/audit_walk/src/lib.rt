@@ -1,0 +1,15 @@
+//! Audits of samplers: how the bit strings of one length end.
+#![tactic(auto)]
+
+mod auditing;
+mod audits;
+mod laws;
+mod rows;
+#[cfg(test)]
+mod tests;
+mod walking;
+
+pub use auditing::audit;
+pub use audits::Audit;
+pub use laws::audits_show_masses;
+pub use rows::AuditRows;
