@@ -1,0 +1,7 @@
+use Rattle.gcl_core.specs.Runs.{run_on}
+use Rattle.sampler_run.specs.Held.{first_of}
+use Rattle.tally_range.proofs.Counting.{count_same, runs_agree}
+use Rattle.tally_range.proofs.laws.code_counts_as_program.Goals as goal
+
+pub returns : goal.returns
+returns c = λ code p l is run also r key. count_same run (run_on p l) r.seed r.budget r.from r.to key (runs_agree (first_of code l) run (run_on p l) also is)

@@ -1,0 +1,40 @@
+-- How many streams of a range have runs that end in each way. Which key a run has is this project's own rule.
+use Rattle.std.specs.Prelude.{ℕ, zero, suc, ◌+◌, ◌-◌, ◌*◌, ◌/◌, min, Bool, List}
+use Rattle.gcl_core.specs.declared.answers.Answer.{Answer}
+use Rattle.gcl_core.specs.declared.answers.Answer.TheVariants.{Ended}
+use Rattle.gcl_core.specs.declared.answers.Answer.TheVariants as answer
+use Rattle.gcl_core.specs.declared.answers.TallyKey.{TallyKey}
+use Rattle.gcl_core.specs.declared.answers.TallyKey.TheVariants.{Outcome, MoreBits}
+use Rattle.zar_io.specs.StreamBits.{stream_bits}
+use Rattle.tally_range.specs.Rows.{counted_at}
+
+-- the key of a run by its answer: the outcome, or that it needed more bits
+abbrev pub key_of : Answer → TallyKey
+key_of (Ended x used) = Outcome x
+key_of (answer.MoreBits used) = MoreBits
+
+-- f of each of the n numbers from a on, added up
+abbrev pub total_from : (ℕ → ℕ) → ℕ → ℕ → ℕ
+total_from f a zero = 0
+total_from f a (suc n) = f (a + n) + total_from f a n
+
+module _ (run : List Bool → Answer) (seed budget : ℕ) where
+  -- the key of the run on the first bits of a stream
+  abbrev pub key_on : ℕ → TallyKey
+  key_on stream = key_of (run (stream_bits seed stream budget))
+
+  -- 1 where this is the key of the run on a stream, and else 0
+  abbrev pub has_key : TallyKey → ℕ → ℕ
+  has_key key stream = counted_at (key_on stream) 1 key
+
+  -- how many of the streams from `from` up to but not including `to` have runs with this key
+  abbrev pub count_over : ℕ → ℕ → TallyKey → ℕ
+  count_over from to key = total_from (has_key key) from (to - from)
+
+  -- the same over the block number j of 64 streams, the last of which may be shorter
+  abbrev pub count_over_block : ℕ → ℕ → TallyKey → ℕ → ℕ
+  count_over_block from to key j = count_over (from + 64 * j) (min (from + 64 * j + 64) to) key
+
+-- how many blocks of 64 streams there are, the last of which may be shorter
+abbrev pub blocks_over : ℕ → ℕ → ℕ
+blocks_over from to = (to - from + 63) / 64

@@ -1,0 +1,5 @@
+pub mod Rows
+pub mod Counts
+pub mod Shares
+pub mod Laws
+pub mod inner

@@ -1,0 +1,20 @@
+//! Counts of how runs over seeded streams end, by several threads.
+#![tactic(auto)]
+
+mod laws;
+mod range;
+mod share;
+mod sharing;
+mod streams;
+mod table;
+mod tallying;
+#[cfg(test)]
+mod tests;
+mod working;
+
+pub use laws::{code_counts_as_program, ranges_add_up};
+pub use range::SeedRange;
+pub use share::Share;
+pub use table::Tally;
+pub use tallying::tally;
+pub use working::work;

@@ -1,0 +1,92 @@
+// Making shares, and taking them apart.
+
+ghost use Rattle.std.specs.Prelude.{◌≡◌, ◌<◌, ◌^◌, [], false, map, reverse, All, IfOk};
+ghost use Rattle.gcl_core.specs.declared.answers.TallyKey.{TallyKey};
+ghost use Rattle.number_lists.specs.Total.{total};
+ghost use Rattle.tally_range.specs.Rows.{count_in, IsTally};
+ghost use Rattle.tally_range.specs.Shares.{pass_of, table_of};
+ghost use Rattle.tally_range.specs.inner.Worked.{entry_pass, entry_table};
+
+use crate::share::{Entry, Share};
+use crate::table::Tally;
+use claim_board::Pass;
+use std::alloc::{AllocError, Global};
+
+impl Share {
+    /// This pass, and no counts. It takes no memory.
+    pub fn new(alloc: Global, pass: Pass) -> Share
+        ensures pass { pass_of result ≡ pass }
+        ensures empty { table_of result ≡ [] }
+    {
+        Share {
+            pass,
+            table: Tally::new(alloc),
+            alloc,
+        }
+    }
+
+    /// The pass and the table. It takes no memory.
+    pub fn parts(self) -> (Pass, Tally)
+        ensures pass { result.0 ≡ pass_of self }
+        ensures table { result.1 ≡ table_of self }
+    {
+        let Share {
+            pass,
+            table,
+            alloc: _alloc,
+        } = self;
+        (pass, table)
+    }
+}
+
+// A share for each pass, in the opposite order. An error comes only where memory is wanting.
+pub(crate) fn share_out(alloc: Global, mut passes: Vec<Pass>) -> Result<Vec<Entry>, AllocError>
+    ensures passes { IfOk result (λ entries. map entry_pass entries.items ≡ reverse passes.items) }
+    ensures empty { IfOk result (λ entries. All (λ e. entry_table e ≡ []) entries.items) }
+{
+    let mut entries = Vec::with_capacity(alloc, passes.len())?;
+    while let Some(pass) = passes.pop() {
+        entries.push(Entry {
+            share: Share::new(alloc, pass),
+            failed: false,
+        })?;
+    }
+    Ok(entries)
+}
+
+// The passes and the tables, in the opposite order. An error comes where memory is wanting, or where a worker found none.
+pub(crate) fn gather(
+    alloc: Global,
+    mut entries: Vec<Entry>,
+) -> Result<(Vec<Pass>, Vec<Tally>), AllocError>
+    ensures passes { IfOk result (λ r. reverse r.0.items ≡ map entry_pass entries.items) }
+    ensures tables { IfOk result (λ r. reverse r.1.items ≡ map entry_table entries.items) }
+    ensures worked { IfOk result (λ r. All (λ e. e.failed ≡ false) entries.items) }
+{
+    let mut passes = Vec::with_capacity(alloc, entries.len())?;
+    let mut tables = Vec::with_capacity(alloc, entries.len())?;
+    while let Some(entry) = entries.pop() {
+        let Entry { share, failed } = entry;
+        if failed {
+            return Err(AllocError);
+        }
+        let (pass, table) = share.parts();
+        passes.push(pass)?;
+        tables.push(table)?;
+    }
+    Ok((passes, tables))
+}
+
+// The counts of all tables. An error comes only where memory is wanting.
+pub(crate) fn add_up(alloc: Global, tables: &[Tally]) -> Result<Tally, AllocError>
+    requires fits { (key : TallyKey) → total (λ t. count_in t key) tables.now < 2 ^ 64 }
+    ensures counted { IfOk result (λ all. (key : TallyKey) → count_in all key ≡ total (λ t. count_in t key) tables.now) }
+    ensures tally { IfOk result IsTally }
+{
+    let mut all = Tally::new(alloc);
+    for table in tables {
+        all.add_all(table)?;
+    }
+    let _rows = all.count();
+    Ok(all)
+}

@@ -1,0 +1,91 @@
+// Runs on streams, and their counts.
+
+ghost use Rattle.std.specs.Prelude.{◌≡◌, ◌+◌, ◌-◌, ◌*◌, ◌<◌, ◌≤◌, ◌^◌, min, Bool, List, IfOk};
+ghost use Rattle.gcl_core.specs.declared.answers.Answer.{Answer};
+ghost use Rattle.gcl_core.specs.declared.answers.TallyKey.{TallyKey};
+ghost use Rattle.sampler_run.specs.Held.{IsRestOf, set_back};
+ghost use Rattle.tally_range.specs.Rows.{count_in};
+ghost use Rattle.tally_range.specs.Counts.{key_of, key_on, count_over, blocks_over};
+ghost use Rattle.tally_range.specs.Shares.{count_block};
+
+use crate::range::SeedRange;
+use crate::table::Tally;
+use gcl_core::{Answer, TallyKey};
+use sampler_run::{State, go_on};
+use std::alloc::AllocError;
+use zar_io::StreamBits;
+
+fn key_of_answer(answer: Answer) -> TallyKey
+    ensures { result ≡ key_of answer }
+{
+    match answer {
+        Answer::Ended(outcome, _used) => TallyKey::Outcome(outcome),
+        Answer::MoreBits(_used) => TallyKey::MoreBits,
+    }
+}
+
+// Runs from the start on the first bits of a stream.
+fn run_on_stream(state: &mut State<'_>, seed: u64, stream: u64, budget: u64) -> TallyKey
+    requires { budget ≤ 10 ^ 9 }
+    ensures key { (run : List Bool → Answer) → IsRestOf (set_back state.old) run → result ≡ key_on run seed budget stream }
+    ensures same_start { set_back state.new ≡ set_back state.old }
+{
+    state.restart();
+    let mut bits = StreamBits::new(seed, stream, budget);
+    match go_on(state, &mut bits) {
+        Ok(stop) => key_of_answer(stop.answer),
+        Err(_) => unreachable!(),
+    }
+}
+
+// Runs on some streams that follow one another, and counts the keys of the runs. An error comes only where memory is wanting.
+pub(crate) fn count_streams(
+    state: &mut State<'_>,
+    table: &mut Tally,
+    range: &SeedRange,
+    first: u64,
+    end: u64,
+) -> Result<(), AllocError>
+    requires order { first ≤ end }
+    requires budget { range.now.budget ≤ 10 ^ 9 }
+    requires fits { (key : TallyKey) → count_in table.old key + (end - first) < 2 ^ 64 }
+    ensures counted { IfOk result (λ _. (run : List Bool → Answer) → IsRestOf (set_back state.old) run → (key : TallyKey) →
+        count_in table.new key ≡ count_in table.old key + count_over run range.now.seed range.now.budget first end key) }
+    ensures few { IfOk result (λ _. (key : TallyKey) → count_in table.new key ≤ count_in table.old key + (end - first)) }
+    ensures same_start { set_back state.new ≡ set_back state.old }
+{
+    let mut at = first;
+    while at < end {
+        table.add(run_on_stream(state, range.seed, at, range.budget), 1)?;
+        at += 1;
+    }
+    Ok(())
+}
+
+// Where a block of the range ends.
+fn end_of_block(first: u64, to: u64) -> u64
+    requires { first ≤ to }
+    ensures { result ≡ min (first + 64) to }
+{
+    first + (to - first).min(64)
+}
+
+// Runs on the streams of a block, and counts the keys of the runs. An error comes only where memory is wanting.
+pub(crate) fn count_block(
+    state: &mut State<'_>,
+    table: &mut Tally,
+    range: &SeedRange,
+    block: u64,
+) -> Result<(), AllocError>
+    requires order { range.now.from ≤ range.now.to }
+    requires budget { range.now.budget ≤ 10 ^ 9 }
+    requires block { block < blocks_over range.now.from range.now.to }
+    requires fits { (key : TallyKey) → count_in table.old key + 64 < 2 ^ 64 }
+    ensures counted { IfOk result (λ _. (run : List Bool → Answer) → IsRestOf (set_back state.old) run → (key : TallyKey) →
+        count_in table.new key ≡ count_in table.old key + count_block run range.now key block) }
+    ensures few { IfOk result (λ _. (key : TallyKey) → count_in table.new key ≤ count_in table.old key + 64) }
+    ensures same_start { set_back state.new ≡ set_back state.old }
+{
+    let first = range.from + 64 * block;
+    count_streams(state, table, range, first, end_of_block(first, range.to))
+}

@@ -1,0 +1,202 @@
+// Tallies by real threads.
+
+ghost use Rattle.std.specs.Prelude.{◌≡◌};
+ghost use Rattle.tally_range.specs.Shares.{IsRange, IsWorkers};
+
+use crate::{SeedRange, Share, Tally, tally};
+use claim_board::Board;
+use gcl_check::check;
+use gcl_core::{Block, Checked, Expr, Limits, Names, Outcome, Program, Stmt, TallyKey};
+use sampler_run::{Sampler, compile};
+use std::alloc::{AllocError, Global};
+use std::marker::{Send, Sync};
+use std::sync::atomic::AtomicU64;
+use std::sync::atomic::Ordering::SeqCst;
+use std::test::Fail;
+use std::thread;
+use std::thread::Threads;
+use zar_io::{Gate, Open};
+
+const LIMITS: Limits = Limits {
+    turns: 1000,
+    attempts: 1000,
+    rounds: 1000,
+};
+
+// `return 7;`
+#[tactic(auto, using(gcl_core::proofs::ViewLemmas::views))]
+fn seven(alloc: Global) -> Result<Option<Checked>, AllocError> {
+    Ok(check(Program {
+        names: Names::new(alloc),
+        body: Block {
+            stmts: Vec::new(alloc),
+        },
+        result: Expr::Num(7),
+    })
+    .ok())
+}
+
+// `x ~ uniform(6); return x;`
+#[tactic(auto, using(gcl_core::proofs::ViewLemmas::views))]
+fn die(alloc: Global) -> Result<Option<Checked>, AllocError> {
+    let mut names = Names::new(alloc);
+    names.add(b"x")?;
+    let mut stmts = Vec::new(alloc);
+    stmts.push(Stmt::Uniform(0, Expr::Num(6)))?;
+    Ok(check(Program {
+        names,
+        body: Block { stmts },
+        result: Expr::Var(0),
+    })
+    .ok())
+}
+
+// Streams of seed 0.
+fn streams(from: u64, to: u64, budget: u64, workers: u32) -> SeedRange
+    ensures { result ≡ record { seed = 0; from = from; to = to; budget = budget; workers = workers } }
+{
+    SeedRange {
+        seed: 0,
+        from,
+        to,
+        budget,
+        workers,
+    }
+}
+
+// One row, of this key and count, and no other.
+fn has_just(counts: &Tally, key: TallyKey, count: u64) -> bool {
+    counts.count() == 1 && matches!(counts.iter().next(), Some((k, n)) if *k == key && *n == count)
+}
+
+// The sampler's tally has one row, of this key and count, and no other.
+fn counts_just<R: Threads + Sync>(
+    rt: &R,
+    alloc: Global,
+    s: &Sampler,
+    range: &SeedRange,
+    key: TallyKey,
+    count: u64,
+) -> Result<bool, AllocError>
+    requires range { IsRange range.now }
+    requires workers { IsWorkers range.now.workers }
+{
+    let counts = tally(rt, alloc, s, &LIMITS, range, &Open)?;
+    Ok(has_just(&counts, key, count))
+}
+
+const VALUE_7: TallyKey = TallyKey::Outcome(Outcome::Value(7));
+
+fn counts_sevens<R: Threads + Sync>(
+    rt: &R,
+    alloc: Global,
+    s: &Sampler,
+) -> Result<bool, AllocError> {
+    let by_one = counts_just(rt, alloc, s, &streams(0, 1000, 1000, 1), VALUE_7, 1000)?;
+    let by_three = counts_just(rt, alloc, s, &streams(0, 1000, 1000, 3), VALUE_7, 1000)?;
+    let by_64 = counts_just(rt, alloc, s, &streams(0, 1000, 1000, 64), VALUE_7, 1000)?;
+    let none = tally(rt, alloc, s, &LIMITS, &streams(5, 5, 1000, 1), &Open)?;
+    Ok(by_one && by_three && by_64 && none.count() == 0)
+}
+
+const FAR: u64 = 0x0200000000000000;
+
+// By words that RFC 8439 publishes: stream 0 begins with the bits 101, and stream 2^57 with the bits 001.
+fn counts_draws<R: Threads + Sync>(rt: &R, alloc: Global, s: &Sampler) -> Result<bool, AllocError> {
+    let five = TallyKey::Outcome(Outcome::Value(5));
+    let first = counts_just(rt, alloc, s, &streams(0, 1, 1000, 1), five, 1)?;
+    let cut = counts_just(rt, alloc, s, &streams(0, 1, 2, 1), TallyKey::MoreBits, 1)?;
+    let one = TallyKey::Outcome(Outcome::Value(1));
+    let far = counts_just(rt, alloc, s, &streams(FAR, FAR + 1, 3, 1), one, 1)?;
+    Ok(first && cut && far)
+}
+
+#[test]
+fn rows_of_streams(rt: HostRuntime) -> Result<(), Fail> {
+    let alloc = rt.alloc();
+    match (seven(alloc)?, die(alloc)?) {
+        (Some(seven), Some(die)) => {
+            assert!(rt; counts_sevens(&rt, alloc, &compile(alloc, &seven)?)?);
+            assert!(rt; counts_draws(&rt, alloc, &compile(alloc, &die)?)?);
+        }
+        _ => assert!(rt; false),
+    }
+    Ok(())
+}
+
+// Holds the block that is entered first until the three others were entered.
+#[derive(Drop)]
+struct Held {
+    blocks: [AtomicU64; 4],
+    entered: AtomicU64,
+    turns_spent: AtomicU64,
+}
+
+impl Gate for Held {
+    fn entered(&self, block: u64) {
+        if block < 4 {
+            self.blocks[block as usize].fetch_add(1, SeqCst);
+        }
+        if self.entered.fetch_add(1, SeqCst) != 0 {
+            return;
+        }
+        for _ in 0..1_000_000_000u64 {
+            if self.entered.load(SeqCst) >= 4 {
+                return;
+            }
+            thread::yield_now();
+        }
+        self.turns_spent.store(1, SeqCst);
+    }
+}
+
+// Each block was entered once, and the turns were not spent.
+fn each_entered_once(gate: &Held) -> bool {
+    for block in &gate.blocks {
+        if block.load(SeqCst) != 1 {
+            return false;
+        }
+    }
+    gate.turns_spent.load(SeqCst) == 0
+}
+
+#[test]
+fn two_workers_enter_four_blocks(rt: HostRuntime) -> Result<(), Fail> {
+    let gate = Held {
+        blocks: [
+            AtomicU64::new(0),
+            AtomicU64::new(0),
+            AtomicU64::new(0),
+            AtomicU64::new(0),
+        ],
+        entered: AtomicU64::new(0),
+        turns_spent: AtomicU64::new(0),
+    };
+    let alloc = rt.alloc();
+    match seven(alloc)? {
+        Some(program) => {
+            let sampler = compile(alloc, &program)?;
+            let range = streams(0, 256, 1000, 2);
+            let counts = tally(&rt, alloc, &sampler, &LIMITS, &range, &gate)?;
+            assert!(rt; each_entered_once(&gate));
+            assert!(rt; has_just(&counts, VALUE_7, 256));
+        }
+        None => assert!(rt; false),
+    }
+    Ok(())
+}
+
+fn lent<T: Sync>() {}
+
+fn handed<T: Send>() {}
+
+// A board and a tally may be lent to threads, and a share and a tally handed to one.
+#[test]
+fn threads_are_lent_boards_and_handed_shares(_rt: HostRuntime) -> Result<(), Fail> {
+    lent::<Board>();
+    lent::<Tally>();
+    lent::<SeedRange>();
+    handed::<Share>();
+    handed::<Tally>();
+    Ok(())
+}
