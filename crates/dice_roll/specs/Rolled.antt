@@ -1,0 +1,34 @@
+-- What a roll over a source of bits says of its answer and of the source. This project's own rule.
+use Rattle.std.specs.Prelude.{◌≡◌, ℕ, ◌<◌, ◌≤◌, Bool, true, List, take, Result, Ok, Err}
+use Rattle.zar_io.specs.declared.outside.Failed.{Failed}
+use Rattle.dice_roll.specs.declared.answers.Roll.{Roll}
+use Rattle.dice_roll.specs.declared.answers.Roll.TheVariants.{Label, Limit, MoreBits}
+use Rattle.dice_roll.specs.FastRoll.{fast_roll}
+
+-- the flips that were made
+abbrev pub flips_of : Roll → ℕ
+flips_of (Label c n) = n
+flips_of (Limit n) = n
+flips_of (MoreBits n) = n
+
+-- a roll among m labels with at most so many flips needs each bit of w that it reads: those before it give no label
+pub record NeedsEach (m flips : ℕ) (w : List Bool) : Type 0 where
+  pub needed : (k : ℕ) → k < flips_of (fast_roll m flips w) → fast_roll m flips (take k w) ≡ MoreBits k
+
+-- an answer of a roll among m labels with at most so many flips: a label is one of the m, the limit is reached at the
+-- last flip, and where bits are missing a flip was still to be made
+abbrev pub IsWithin : ℕ → ℕ → Roll → Type 0
+IsWithin m flips (Label c n) = (c < m) × (n ≤ flips)
+IsWithin m flips (Limit n) = n ≡ flips
+IsWithin m flips (MoreBits n) = n < flips
+
+-- the same by an answer
+abbrev ended_at : Roll → Bool → Bool
+ended_at (MoreBits n) had_ended = true
+ended_at (Label c n) had_ended = had_ended
+ended_at (Limit n) had_ended = had_ended
+
+-- the bits have ended where a flip needed one that was not there
+abbrev pub ended_by : Result Roll Failed → Bool → Bool
+ended_by (Ok r) had_ended = ended_at r had_ended
+ended_by (Err _) had_ended = had_ended

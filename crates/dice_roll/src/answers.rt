@@ -1,0 +1,12 @@
+//! The answers of a roll.
+
+/// What a roll gives, and after how many flips.
+#[derive(Clone, Copy, PartialEq, Eq, Debug)]
+pub enum Roll {
+    /// This label, after so many flips.
+    Label(u64, u64),
+    /// No label after as many flips as were allowed.
+    Limit(u64),
+    /// No label after so many flips, where the next bit was needed and there was none.
+    MoreBits(u64),
+}

@@ -1,0 +1,54 @@
+//! A draw by the Fast Dice Roller over a source of bits.
+ghost use Rattle.std.specs.Prelude.{◌≡◌, ◌<◌, ◌≤◌, ◌^◌, drop, IfOk, IsTrue};
+ghost use Rattle.zar_io.specs.Faults.{Counts};
+ghost use Rattle.zar_io.specs.Bits.{broken_after};
+ghost use Rattle.dice_roll.specs.FastRoll.{fast_roll};
+ghost use Rattle.dice_roll.specs.Fair.{IsFair};
+ghost use Rattle.dice_roll.specs.Rolled.{flips_of, NeedsEach, IsWithin, ended_by};
+
+use crate::answers::Roll;
+use zar_io::{Bits, Failed};
+
+/// Draws one of `m` labels, each as likely, by fair bits, of which it reads at most `flips`: the Fast Dice Roller
+/// (Lumbroso 2013). It takes no memory.
+///
+/// A bit is asked for only where the labels that are still possible need one. `MoreBits` comes where a bit was
+/// needed and there was none, `Limit` where `flips` bits gave no label. `Failed` comes only where a read of the bits
+/// failed, and then a fault was counted.
+#[tactic(auto, using(crate::proofs::Fairness::fair, crate::proofs::Fairness::needs_each))]
+pub fn roll<B: Bits>(m: u64, flips: u64, bits: &mut B) -> Result<Roll, Failed>
+    requires low { 2 ≤ m }
+    requires high { m ≤ 2 ^ 62 }
+    requires few { flips ≤ 10 ^ 9 }
+    ensures answer { IfOk result (λ r. IsTrue B.told → fast_roll m flips (B.left bits.old) ≡ r) }
+    ensures taken { IfOk result (λ r. IsTrue B.told → B.left bits.new ≡ drop (flips_of r) (B.left bits.old)) }
+    ensures needed { NeedsEach m flips (B.left bits.old) }
+    ensures within { IfOk result (IsWithin m flips) }
+    ensures ended { B.ended bits.new ≡ ended_by result (B.ended bits.old) }
+    ensures stays_ended { IsTrue (B.ended bits.old) → 0 < flips → result ≡ Ok (Roll.MoreBits 0) }
+    ensures count { Counts result (B.faults bits.old) (B.faults bits.new) }
+    ensures broken { B.broken bits.new ≡ broken_after result (B.broken bits.old) }
+    ensures same_source { B.source bits.new ≡ B.source bits.old }
+    ensures law { IsFair m }
+{
+    // A number below `range`, each as likely: the strings of the bits so far that have no label, numbered.
+    let mut range: u64 = 1;
+    let mut number: u64 = 0;
+    for read in 0..flips {
+        match bits.next()? {
+            None => return Ok(Roll::MoreBits(read)),
+            Some(bit) => {
+                range = 2 * range;
+                number = 2 * number + u64::from(bit);
+                if m <= range {
+                    if number < m {
+                        return Ok(Roll::Label(number, read + 1));
+                    }
+                    range -= m;
+                    number -= m;
+                }
+            }
+        }
+    }
+    Ok(Roll::Limit(flips))
+}

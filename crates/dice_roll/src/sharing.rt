@@ -1,0 +1,28 @@
+//! What the labels of a draw weigh.
+ghost use Rattle.std.specs.Prelude.{◌≡◌, ◌≤◌, ◌^◌};
+ghost use Rattle.dice_roll.specs.Fair.{IsFair};
+ghost use Rattle.dice_roll.specs.Shares.{shares_of};
+
+use frac128::Frac;
+
+/// The weight of each of `m` labels within so many bits, and the weight that is left to the limit, as fractions in
+/// lowest terms. `None` comes exactly where there are more than 127 bits.
+#[tactic(auto, using(crate::proofs::Fairness::fair))]
+pub fn share(m: u64, flips: u64) -> Option<(Frac, Frac)>
+    requires low { 2 ≤ m }
+    requires high { m ≤ 2 ^ 62 }
+    requires few { flips ≤ 10 ^ 9 }
+    ensures value { result ≡ shares_of m flips }
+    ensures law { IsFair m }
+{
+    if flips > 127 {
+        return None;
+    }
+    let whole: u128 = 1 << flips;
+    let labels = u128::from(m);
+    let each = whole / labels;
+    Some((
+        Frac::of(each, whole),
+        Frac::of(whole - labels * each, whole),
+    ))
+}
