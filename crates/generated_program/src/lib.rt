@@ -1,0 +1,11 @@
+//! The generated program of a number: a large program that is accepted.
+#![tactic(auto)]
+
+mod generating;
+mod laws;
+mod parts;
+#[cfg(test)]
+mod tests;
+
+pub use generating::{generate, generate_checked};
+pub use laws::{has_bytes, has_statements, is_checked, is_read_back};
