@@ -5,14 +5,9 @@ use std::alloc::{AllocError, Global};
 use std::process::ExitCode;
 use std::rt::Env;
 use std::{env, io};
+use zar_cli::statuses::{NO_WORDS, OUT_OF_MEMORY};
 use zar_cli::zar;
 use zar_io::{HostFiles, HostSink, Open};
-
-// Memory is wanting for the words.
-const OUT_OF_MEMORY: u8 = 5;
-
-// The system does not hand over the words.
-const NO_WORDS: u8 = 10;
 
 // The words after the program's name, or the status that says why there are none.
 fn words<R: Env + AllocGlobal>(rt: &R) -> Result<Vec<String>, u8> {

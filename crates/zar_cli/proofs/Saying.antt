@@ -1,0 +1,276 @@
+-- What a command says, from what its stages give.
+use Rattle.std.proofs.Common.{◌≡◌, ℕ, ◌<◌, ◌≤◌, ◌||◌, Bool, true, false, IsTrue, List, [], ◌∷◌, Option, Some, None, Result, Ok, Err, ◌⊎◌, inl, inr, refl, sym, ◌∙◌, ap, subst, arith}
+use Rattle.std.specs.List.{list_any}
+use Rattle.gcl_core.specs.declared.answers.Answer.{Answer}
+use Rattle.gcl_core.specs.declared.answers.Limits.{Limits}
+use Rattle.gcl_core.specs.declared.refusals.TheConstants.{TOO_FINE, ALL_FAILED}
+use Rattle.gcl_core.specs.Runs.{run_on}
+use Rattle.gcl_core.specs.Syntax.{Source}
+use Rattle.gcl_core.specs.Texts.{IsWrittenIn, IsRefusedText, Spells, SpellsNone}
+use Rattle.gcl_parse.specs.OneReading.{HasOneReadingAsWritten, HasOneReading}
+use Rattle.report_text.specs.declared.refusals.Refusal.{Refusal}
+use Rattle.report_text.specs.declared.refusals.Refusal.TheVariants.{Coded, Read, Write, Memory, NoFile}
+use Rattle.zar_io.specs.Faults.{CountsFault}
+use Rattle.zar_io.specs.FileBits.{file_bits}
+use Rattle.zar_cli.specs.declared.command.Command.{Command}
+use Rattle.zar_cli.specs.declared.command.Command.TheVariants.{Sample, Mass}
+use Rattle.zar_cli.specs.declared.command.Source.TheVariants.{File}
+use Rattle.zar_cli.specs.declared.said.Said.{Said}
+use Rattle.zar_cli.specs.declared.said.Said.TheVariants.{Answered}
+use Rattle.zar_cli.specs.Answer.{IsSaid}
+use Rattle.zar_cli.specs.Fits.{names_in, greatest_code, FitsSaid, FitsRefusal}
+use Rattle.zar_cli.specs.Output.{Output, HasOrRefuses, says, reading, written, spelled, IsOutput, Tells}
+use Rattle.zar_cli.specs.Readings.{InFile, NoneInFile, AnswersRun, GivesMasses}
+use Rattle.zar_cli.specs.Masses.{SaysMasses, too_wide, too_many_states, all_failed}
+use Rattle.zar_cli.specs.Seen.{FilesSeen, IsQuiet}
+use Rattle.zar_cli.specs.Stages.{CountsRead, MissesOneOf, IsStage}
+use Rattle.zar_cli.specs.Words.{Word}
+use Rattle.zar_cli.proofs.Refusals.{fits_more}
+
+-- a call that counted no fault refuses no read
+pub no_read : (old new : ℕ) (e : Refusal) → CountsRead (Some e) old new → IsQuiet old new → e ≡ Read → ⊥
+no_read old new e counts quiet is =
+    let fault = subst (λ x. CountsRead (Some x) old new) is counts in
+    let rose : old < new = fault.rose quiet.could in
+    let none : new ≡ old = quiet.none in
+    omega arith
+
+-- what is said of an equal output
+pub said_as : (command : Command) (files : FilesSeen) (output other : Output) → output ≡ other → IsSaid (Ok command) files other → IsSaid (Ok command) files output
+said_as command files output other same said = subst (IsSaid (Ok command) files) (sym same) said
+
+-- ---- texts
+
+module _ (text : List ℕ) (go : Source → Output → Type 0) (output : Output) where
+  spelled_ok : (p : Source) → HasOneReading text → Spells text p → go p output → spelled go text output
+  spelled_ok p one is gone = record {
+    right = inl (p, is, gone);
+    program = λ q other. subst (λ s. go s output) (one.one_program p q is other) gone;
+    refusal = λ code at none. absurd (one.apart p code at is none);
+  }
+
+  spelled_none : (code : ℕ) (at : Option ℕ) → HasOneReading text → SpellsNone text code at → output ≡ Err (Coded code at) → spelled go text output
+  spelled_none code at one none e = record {
+    right = inr (code, at, none, e);
+    program = λ q is. absurd (one.apart q code at is none);
+    refusal = λ other place refused.
+        let same = one.one_refusal code other at place none refused in
+        e ∙ ap (λ c. Err (Coded c at)) same.0 ∙ ap (λ a. Err (Coded other a)) same.1;
+  }
+
+  written_ok : (p : Source) (places : List ℕ) → HasOneReadingAsWritten text → IsWrittenIn text p places → go p output → written go text output
+  written_ok p places one is gone = record {
+    right = inl (p, (places, is), gone);
+    program = λ q other. subst (λ s. go s output) (one.one_program p q places other.0 is other.1).0 gone;
+    refusal = λ code at none. absurd (one.apart p places code at is none);
+  }
+
+  written_none : (code : ℕ) (at : Option ℕ) → HasOneReadingAsWritten text → IsRefusedText text code at → output ≡ Err (Coded code at) → written go text output
+  written_none code at one none e = record {
+    right = inr (code, at, none, e);
+    program = λ q is. absurd (one.apart q is.0 code at is.1 none);
+    refusal = λ other place refused.
+        let same = one.one_refusal code other at place none refused in
+        e ∙ ap (λ c. Err (Coded c at)) same.0 ∙ ap (λ a. Err (Coded other a)) same.1;
+  }
+
+-- ---- files
+
+-- an output, or memory has run out
+abbrev OrMemory : (Output → Type 0) → Output → Type 0
+OrMemory Is output = (output ≡ Err Memory) ⊎ Is output
+
+module _ (file : Option (List ℕ)) where
+  -- there is none
+  pub reading_none : (go : List ℕ → Output → Type 0) → file ≡ None → reading file go (Err NoFile)
+  reading_none go none = subst (λ f. reading f go (Err NoFile)) (sym none) refl
+
+  pub reading_bytes : (go : List ℕ → Output → Type 0) (output : Output) (bytes : List ℕ) → file ≡ Some bytes → go bytes output → reading file go output
+  reading_bytes go output bytes there gone = subst (λ f. reading f go output) (sym there) gone
+
+  module _ (go : Source → Output → Type 0) where
+    -- its text spells this program
+    pub checked_ok : (output : Output) (p : Source) → InFile file HasOneReading (λ text. Spells text p) → go p output → reading file (spelled go) output
+    checked_ok output p h gone = reading_bytes (spelled go) output h.text h.there (spelled_ok h.text go output p h.one h.is gone)
+
+    pub checked_refused : (greatest : ℕ) (e : Refusal) → NoneInFile HasOneReading SpellsNone file e → FitsRefusal greatest e → (e ≡ Read → ⊥)
+        → OrMemory (reading file (spelled go)) (Err e)
+    checked_refused greatest (Coded code at) none fits ne = inr (reading_bytes (spelled go) _ none.text none.there (spelled_none none.text go _ code at none.one none.is refl))
+    checked_refused greatest Read none fits ne = absurd (ne refl)
+    checked_refused greatest Write none fits ne = absurd fits
+    checked_refused greatest Memory none fits ne = inl refl
+    checked_refused greatest NoFile none fits ne = inr (reading_none (spelled go) none)
+
+    -- its text has this program
+    pub written_there : (output : Output) (p : Source) (places : List ℕ) → InFile file HasOneReadingAsWritten (λ text. IsWrittenIn text p places) → go p output
+        → reading file (written go) output
+    written_there output p places h gone = reading_bytes (written go) output h.text h.there (written_ok h.text go output p places h.one h.is gone)
+
+    pub written_refused : (greatest : ℕ) (e : Refusal) → NoneInFile HasOneReadingAsWritten IsRefusedText file e → FitsRefusal greatest e → (e ≡ Read → ⊥)
+        → OrMemory (reading file (written go)) (Err e)
+    written_refused greatest (Coded code at) none fits ne = inr (reading_bytes (written go) _ none.text none.there (written_none none.text go _ code at none.one none.is refl))
+    written_refused greatest Read none fits ne = absurd (ne refl)
+    written_refused greatest Write none fits ne = absurd fits
+    written_refused greatest Memory none fits ne = inl refl
+    written_refused greatest NoFile none fits ne = inr (reading_none (written go) none)
+
+-- ---- stages
+
+-- a name of fewer is one of more
+pub misses_more : (few more : List Word) (may : Word → Bool) (r : Option Refusal) → (list_any may few ≡ true → list_any may more ≡ true)
+    → MissesOneOf few may r → MissesOneOf more may r
+misses_more few more may (Some NoFile) h misses = grind (arith, h)
+misses_more few more may (Some Read) h misses = tt
+misses_more few more may (Some (Coded code at)) h misses = tt
+misses_more few more may (Some Write) h misses = tt
+misses_more few more may (Some Memory) h misses = tt
+misses_more few more may None h misses = tt
+
+-- a stage that refuses by fewer codes
+pub stage_more : (names : List Word) (few more : ℕ) (files : FilesSeen) (r : Option Refusal) → few ≤ more → IsStage names few files r → IsStage names more files r
+stage_more names few more files None le stage = record { counts = stage.counts; closes = stage.closes; misses = stage.misses; fits = tt }
+stage_more names few more files (Some e) le stage = record { counts = stage.counts; closes = stage.closes; misses = stage.misses; fits = fits_more few more e le stage.fits }
+
+-- what a stage refuses is said
+pub said_refused : (command : Command) (files : FilesSeen) (names : List Word) (e : Refusal) → IsStage names (greatest_code command) files (Some e)
+    → (list_any files.may_be_missing names ≡ true → list_any files.may_be_missing (names_in command) ≡ true)
+    → (IsTrue files.told → IsQuiet files.faults files.faults_now → Tells files.file command (Err e)) → IsSaid (Ok command) files (Err e)
+said_refused command files names e stage more tells = record {
+  fits = stage.fits;
+  counts = stage.counts;
+  closes = stage.closes;
+  misses = misses_more names (names_in command) files.may_be_missing (Some e) more stage.misses;
+  tells = tells;
+}
+
+-- what is said where no stage gave up
+pub said_all : (command : Command) (files : FilesSeen) (said : Said) → FitsSaid command said → files.faults_now ≡ files.faults
+    → (IsTrue files.told → Tells files.file command (Ok said)) → IsSaid (Ok command) files (Ok said)
+said_all command files said fits counts tells = record { fits = fits; counts = counts; closes = tt; misses = tt; tells = λ told quiet. tells told }
+
+-- a call that was refused for want of memory
+pub said_memory : (command : Command) (files : FilesSeen) → files.faults_now ≡ files.faults → IsSaid (Ok command) files (Err Memory)
+said_memory command files counts = record { fits = tt; counts = counts; closes = tt; misses = tt; tells = λ told quiet. inl refl }
+
+-- ---- a command that takes an accepted program
+
+or_output : (file : Word → Option (List ℕ)) (command : Command) (Is : Output → Type 0) (output : Output) → (Is output → IsOutput file command output)
+    → OrMemory Is output → Tells file command output
+or_output file command Is output is (inl memory) = inl memory
+or_output file command Is output is (inr h) = inr (is h)
+
+module _ (command : Command) (files : FilesSeen) (name program : Word) (go : Source → Output → Type 0) (same : name ≡ program) where
+  pub refused_checked : (e : Refusal) → IsStage (name ∷ []) (greatest_code command) files (Some e)
+      → (IsTrue files.told → NoneInFile HasOneReading SpellsNone (files.file name) e)
+      → (list_any files.may_be_missing (program ∷ []) ≡ true → list_any files.may_be_missing (names_in command) ≡ true)
+      → (reading (files.file program) (spelled go) (Err e) → IsOutput files.file command (Err e)) → IsSaid (Ok command) files (Err e)
+  refused_checked e stage none more is =
+      said_refused command files (name ∷ []) e stage
+      (subst (λ n. list_any files.may_be_missing (n ∷ []) ≡ true → list_any files.may_be_missing (names_in command) ≡ true) (sym same) more)
+      (λ told quiet. or_output files.file command (reading (files.file program) (spelled go)) (Err e) is
+      (checked_refused (files.file program) go (greatest_code command) e (subst (λ n. NoneInFile HasOneReading SpellsNone (files.file n) e) same (none told)) stage.fits
+      (no_read files.faults files.faults_now e stage.counts quiet)))
+
+  pub said_checked : (p : Source) (said : Said) → FitsSaid command said → files.faults_now ≡ files.faults
+      → (IsTrue files.told → InFile (files.file name) HasOneReading (λ text. Spells text p)) → go p (Ok said)
+      → (reading (files.file program) (spelled go) (Ok said) → IsOutput files.file command (Ok said)) → IsSaid (Ok command) files (Ok said)
+  said_checked p said fits counts there gone is =
+      said_all command files said fits counts
+      (λ told. inr (is (checked_ok (files.file program) go (Ok said) p (subst (λ n. InFile (files.file n) HasOneReading (λ text. Spells text p)) same (there told)) gone)))
+
+-- ---- a command that takes a program as it is written
+
+module _ (command : Command) (files : FilesSeen) (name program : Word) (go : Source → Output → Type 0) (same : name ≡ program) where
+  pub refused_written : (e : Refusal) → IsStage (name ∷ []) (greatest_code command) files (Some e)
+      → (IsTrue files.told → NoneInFile HasOneReadingAsWritten IsRefusedText (files.file name) e)
+      → (list_any files.may_be_missing (program ∷ []) ≡ true → list_any files.may_be_missing (names_in command) ≡ true)
+      → (reading (files.file program) (written go) (Err e) → IsOutput files.file command (Err e)) → IsSaid (Ok command) files (Err e)
+  refused_written e stage none more is =
+      said_refused command files (name ∷ []) e stage
+      (subst (λ n. list_any files.may_be_missing (n ∷ []) ≡ true → list_any files.may_be_missing (names_in command) ≡ true) (sym same) more)
+      (λ told quiet. or_output files.file command (reading (files.file program) (written go)) (Err e) is
+      (written_refused (files.file program) go (greatest_code command) e (subst (λ n. NoneInFile HasOneReadingAsWritten IsRefusedText (files.file n) e) same (none told)) stage.fits
+      (no_read files.faults files.faults_now e stage.counts quiet)))
+
+  pub said_written : (p : Source) (places : List ℕ) (said : Said) → FitsSaid command said → files.faults_now ≡ files.faults
+      → (IsTrue files.told → InFile (files.file name) HasOneReadingAsWritten (λ text. IsWrittenIn text p places)) → go p (Ok said)
+      → (reading (files.file program) (written go) (Ok said) → IsOutput files.file command (Ok said)) → IsSaid (Ok command) files (Ok said)
+  said_written p places said fits counts there gone is =
+      said_all command files said fits counts
+      (λ told. inr (is (written_there (files.file program) go (Ok said) p places
+      (subst (λ n. InFile (files.file n) HasOneReadingAsWritten (λ text. IsWrittenIn text p places)) same (there told)) gone)))
+
+-- ---- a stage that comes after another
+
+pub stage_after : (name other : Word) (greatest : ℕ) (told : Bool) (file is : Word → Option (List ℕ)) (may might : Word → Bool) (faults before now : ℕ) (is_open : Bool) (r : Option Refusal)
+    → other ≡ name → might ≡ may → before ≡ faults
+    → IsStage (other ∷ []) greatest (record { told = told; file = is; may_be_missing = might; faults = before; faults_now = now; open_now = is_open }) r
+    → IsStage (name ∷ []) greatest (record { told = told; file = file; may_be_missing = may; faults = faults; faults_now = now; open_now = is_open }) r
+stage_after name other greatest told file is may might faults before now is_open r same names_same faults_same stage = record {
+  counts = subst (λ n. CountsRead r n now) faults_same stage.counts;
+  closes = stage.closes;
+  misses = subst (λ n. MissesOneOf (n ∷ []) may r) same (subst (λ m. MissesOneOf (other ∷ []) m r) names_same stage.misses);
+  fits = stage.fits;
+}
+
+-- ---- `sample` over a file of bits
+
+or_first : (a b : Bool) → (a || false) ≡ true → (a || (b || false)) ≡ true
+or_first true b e = refl
+or_first false b e = absurd (cc)
+
+or_second : (a b : Bool) → (b || false) ≡ true → (a || (b || false)) ≡ true
+or_second true b e = refl
+or_second false b e = e
+
+pub first_missing : (may : Word → Bool) (program bits : Word) → list_any may (program ∷ []) ≡ true → list_any may (program ∷ bits ∷ []) ≡ true
+first_missing may program bits e = or_first (may program) (may bits) e
+
+module _ (files : FilesSeen) (program bits : Word) (limits : Limits) (p : Source) (there : IsTrue files.told → InFile (files.file program) HasOneReading (λ text. Spells text p)) where
+  -- what is said on with the bytes of the file of bits
+  abbrev on_bits : Source → Output → Type 0
+  on_bits q = reading (files.file bits) (λ bytes. says (Answered (run_on q limits (file_bits bytes))))
+
+  run_refused : (told : IsTrue files.told) (e : Refusal) → AnswersRun p limits (files.file bits) (Err e) → (e ≡ Read → ⊥) → Tells files.file (Sample program (File bits) limits) (Err e)
+  run_refused told (Coded code at) answers ne = absurd answers
+  run_refused told Read answers ne = absurd (ne refl)
+  run_refused told Write answers ne = absurd answers
+  run_refused told Memory answers ne = inl refl
+  run_refused told NoFile none ne =
+      inr (checked_ok (files.file program) on_bits (Err NoFile) p (there told) (reading_none (files.file bits) (λ bytes. says (Answered (run_on p limits (file_bits bytes)))) none))
+
+  pub sample_refused : (e : Refusal) → IsStage (bits ∷ []) TOO_FINE files (Some e) → (IsTrue files.told → AnswersRun p limits (files.file bits) (Err e))
+      → IsSaid (Ok (Sample program (File bits) limits)) files (Err e)
+  sample_refused e stage answers =
+      said_refused (Sample program (File bits) limits) files (bits ∷ []) e stage (or_second (files.may_be_missing program) (files.may_be_missing bits))
+      (λ told quiet. run_refused told e (answers told) (no_read files.faults files.faults_now e stage.counts quiet))
+
+  pub sample_answered : (answer : Answer) → files.faults_now ≡ files.faults → (IsTrue files.told → AnswersRun p limits (files.file bits) (Ok answer))
+      → IsSaid (Ok (Sample program (File bits) limits)) files (Ok (Answered answer))
+  sample_answered answer counts answers =
+      said_all (Sample program (File bits) limits) files (Answered answer) tt counts
+      (λ told. let a = answers told in
+      inr (checked_ok (files.file program) on_bits (Ok (Answered answer)) p (there told)
+      (reading_bytes (files.file bits) (λ bytes. says (Answered (run_on p limits (file_bits bytes)))) (Ok (Answered answer)) a.0 a.1 (ap (λ x. Ok (Answered x)) a.2))))
+
+-- ---- `mass`
+
+mass_fits : (p : Source) (turns : ℕ) (attempts rounds : Option ℕ) (code : ℕ) (at : Option ℕ) → SaysMasses p turns attempts rounds (Err (Coded code at)) → FitsRefusal ALL_FAILED (Coded code at)
+mass_fits p turns attempts rounds _ _ (too_wide h) = (omega arith, omega arith)
+mass_fits p turns attempts rounds _ _ (too_many_states h) = (omega arith, omega arith)
+mass_fits p turns attempts rounds _ _ (all_failed h) = (omega arith, omega arith)
+
+module _ (files : FilesSeen) (program : Word) (turns : ℕ) (attempts rounds : Option ℕ) (p : Source)
+    (counts : files.faults_now ≡ files.faults) (there : IsTrue files.told → InFile (files.file program) HasOneReading (λ text. Spells text p)) where
+  pub masses_refused : (e : Refusal) → GivesMasses p turns attempts rounds (Err e) → IsSaid (Ok (Mass program turns attempts rounds)) files (Err e)
+  masses_refused (Coded code at) gives = record {
+    fits = mass_fits p turns attempts rounds code at gives;
+    counts = counts;
+    closes = tt;
+    misses = tt;
+    tells = λ told quiet. inr (checked_ok (files.file program) (λ q. SaysMasses q turns attempts rounds) (Err (Coded code at)) p (there told) gives);
+  }
+  masses_refused Read gives = absurd gives
+  masses_refused Write gives = absurd gives
+  masses_refused Memory gives = said_memory (Mass program turns attempts rounds) files counts
+  masses_refused NoFile gives = absurd gives

@@ -1,0 +1,57 @@
+-- What a command may say at all, whatever its files hold and tell.
+use Rattle.std.specs.Prelude.{ℕ, ◌≤◌, List, [], ◌∷◌, IsTrue, Bool, Option, Some, None, Result, Ok, Err, ◌⊎◌}
+use Rattle.gcl_core.specs.declared.refusals.TheConstants.{TOO_DEEP, TOO_FINE, ALL_FAILED}
+use Rattle.report_text.specs.declared.refusals.Refusal.{Refusal}
+use Rattle.report_text.specs.declared.refusals.Refusal.TheVariants.{Coded, Read, Write, Memory, NoFile}
+use Rattle.zar_cli.specs.declared.said.Said.{Said}
+use Rattle.zar_cli.specs.declared.said.Said.TheVariants.{Answered, Accepted, Shown}
+use Rattle.zar_cli.specs.declared.command.Command.{Command}
+use Rattle.zar_cli.specs.declared.command.Command.TheVariants.{Sample, Mass, Audit, Tally, Check, Show, Code}
+use Rattle.zar_cli.specs.declared.command.Source.TheVariants.{File, Stream}
+use Rattle.zar_cli.specs.Words.{Word}
+use Rattle.zar_cli.specs.Output.{Output}
+
+-- the names of the files that a command reads, in their order
+abbrev pub names_in : Command → List Word
+names_in (Sample program (File bits) limits) = program ∷ bits ∷ []
+names_in (Sample program (Stream seed stream budget) limits) = program ∷ []
+names_in (Mass program turns attempts rounds) = program ∷ []
+names_in (Audit program depth limits) = program ∷ []
+names_in (Tally program range limits) = program ∷ []
+names_in (Check program) = program ∷ []
+names_in (Show program) = program ∷ []
+names_in (Code program) = program ∷ []
+
+-- the greatest code with which a command is refused: `show` takes a program as it is written, the others one that is accepted, and
+-- masses may be refused
+abbrev pub greatest_code : Command → ℕ
+greatest_code (Sample program bits limits) = TOO_FINE
+greatest_code (Mass program turns attempts rounds) = ALL_FAILED
+greatest_code (Audit program depth limits) = TOO_FINE
+greatest_code (Tally program range limits) = TOO_FINE
+greatest_code (Check program) = TOO_FINE
+greatest_code (Show program) = TOO_DEEP
+greatest_code (Code program) = TOO_FINE
+
+-- the command says things of this kind
+abbrev pub FitsSaid : Command → Said → Type 0
+FitsSaid (Sample program bits limits) (Answered answer) = Unit {0}
+FitsSaid (Mass program turns attempts rounds) (Shown text) = Unit {0}
+FitsSaid (Audit program depth limits) (Shown text) = Unit {0}
+FitsSaid (Tally program range limits) (Shown text) = Unit {0}
+FitsSaid (Check program) (Accepted statements names) = Unit {0}
+FitsSaid (Show program) (Shown text) = Unit {0}
+FitsSaid (Code program) (Shown text) = Unit {0}
+FitsSaid _ _ = ⊥
+
+-- it is refused for a text by one of its codes, and reading and working write nothing
+abbrev pub FitsRefusal : ℕ → Refusal → Type 0
+FitsRefusal greatest (Coded code at) = (1 ≤ code) × (code ≤ greatest)
+FitsRefusal greatest Write = ⊥
+FitsRefusal greatest Read = Unit {0}
+FitsRefusal greatest Memory = Unit {0}
+FitsRefusal greatest NoFile = Unit {0}
+
+abbrev pub Fits : Command → Output → Type 0
+Fits command (Ok said) = FitsSaid command said
+Fits command (Err refusal) = FitsRefusal (greatest_code command) refusal

@@ -1,0 +1,30 @@
+-- The lines of rows, one behind the other.
+use Rattle.std.specs.Prelude.{ℕ, ◌==◌, ◌^◌, List, [], ◌∷◌, ◌++◌, if◌then◌else◌}
+use Rattle.gcl_core.specs.declared.answers.Outcome.{Outcome}
+use Rattle.gcl_core.specs.declared.answers.TallyKey.{TallyKey}
+use Rattle.gcl_core.specs.Fractions.{Fraction}
+use Rattle.frac128.specs.Fraction.{lowest}
+use Rattle.report_text.specs.Lines.{mass_text, undecided_text, tally_text}
+
+abbrev pub rows_text : {A : Type 0} → (A → List ℕ) → List A → List ℕ
+rows_text line [] = []
+rows_text line (row ∷ rows) = line row ++ rows_text line rows
+
+-- each outcome with its mass
+abbrev pub masses_text : List (Outcome × Fraction) → List ℕ
+masses_text rows = rows_text (λ row. mass_text row.0 row.1) rows
+
+-- so many of the strings of a length, as a fraction in lowest terms
+abbrev pub share_of : ℕ → ℕ → Fraction
+share_of depth n = lowest (n, 2 ^ depth)
+
+-- each outcome with its share of the strings of a length, and the share of those on which a run needs more, if there are any
+abbrev pub audit_rows_text : ℕ → List (Outcome × ℕ) → List ℕ
+audit_rows_text depth rows = rows_text (λ row. mass_text row.0 (share_of depth row.1)) rows
+
+abbrev pub audit_text : ℕ → List (Outcome × ℕ) → ℕ → List ℕ
+audit_text depth rows undecided = audit_rows_text depth rows ++ (if undecided == 0 then [] else undecided_text (share_of depth undecided))
+
+-- each key with how many streams have it
+abbrev pub tally_rows_text : List (TallyKey × ℕ) → List ℕ
+tally_rows_text rows = rows_text (λ row. tally_text row.0 row.1) rows

@@ -1,0 +1,67 @@
+// The commands, and the names of the files that they read.
+
+ghost use Rattle.std.specs.Prelude.{◌≡◌, MatchResult};
+
+use gcl_core::Limits;
+use std::alloc::{AllocError, Global};
+use std::marker::Model;
+use tally_range::SeedRange;
+
+/// The name of a file, as a word of the call. It is seen as the list of its bytes.
+#[derive(Drop)]
+pub struct FileName {
+    word: String,
+}
+
+impl Model for FileName {
+    ghost use Rattle.std.specs.Prelude.{List, ℕ, string_bytes};
+
+    ghost Value = { List ℕ };
+
+    ghost view = { λ n. string_bytes n.word };
+}
+
+impl FileName {
+    pub(crate) fn of(alloc: Global, word: &str) -> Result<FileName, AllocError>
+        ensures { MatchResult result (λ name. name ≡ word.now) (λ _. Unit {0}) }
+    {
+        Ok(FileName {
+            word: String::from_str(alloc, word)?,
+        })
+    }
+
+    /// The word. It takes no memory.
+    pub fn text(&self) -> &str
+        ensures { result.now ≡ self.now }
+    {
+        self.word.as_str()
+    }
+}
+
+/// Where the bits of a sample come from.
+#[derive(Drop)]
+pub enum Source {
+    /// The file of this name.
+    File(FileName),
+    /// The stream of this seed and this number, up to so many bits.
+    Stream(u64, u64, u64),
+}
+
+/// A command, with the files that it reads and its numbers.
+#[derive(Drop)]
+pub enum Command {
+    /// Samples the program in the file once.
+    Sample(FileName, Source, Limits),
+    /// Weighs each outcome of the program in the file, with limits of turns, attempts and rounds.
+    Mass(FileName, u64, Option<u64>, Option<u64>),
+    /// Audits the program in the file by all bit strings of one length.
+    Audit(FileName, u32, Limits),
+    /// Tallies the program in the file over the streams of a range.
+    Tally(FileName, SeedRange, Limits),
+    /// Checks the program in the file.
+    Check(FileName),
+    /// Shows the canonical text of the program in the file.
+    Show(FileName),
+    /// Lists the code that samples the program in the file.
+    Code(FileName),
+}

@@ -1,0 +1,58 @@
+// Programs that are audited and tallied.
+
+ghost use Rattle.std.specs.Prelude.{◌≤◌, Ok, IfOk};
+ghost use Rattle.gcl_core.specs.Runs.{InRange};
+ghost use Rattle.gcl_core.specs.Views.{source_of};
+ghost use Rattle.tally_range.specs.Shares.{IsRange, IsWorkers};
+ghost use Rattle.zar_cli.specs.declared.said.Said.TheVariants.{Shown};
+ghost use Rattle.zar_cli.specs.declared.settings.TheConstants.{MOST_DEPTH};
+ghost use Rattle.zar_cli.specs.Counts.{SaysAudit, SaysTally};
+
+use crate::tables::{audit_text, tally_rows_text};
+use audit_walk::audit;
+use gcl_core::{Checked, Limits};
+use gcl_print::Text;
+use sampler_run::compile;
+use std::alloc::{AllocError, Global};
+use std::marker::Sync;
+use std::thread::Threads;
+use tally_range::{SeedRange, tally};
+use zar_io::Gate;
+
+/// How a program's runs end on all bit strings of a length, as lines. An error comes only where memory runs out.
+pub fn audit_of<R: Threads + Sync>(
+    rt: &R,
+    alloc: Global,
+    program: &Checked,
+    depth: u32,
+    limits: &Limits,
+) -> Result<Text, AllocError>
+    requires depth { depth ≤ MOST_DEPTH }
+    requires limits { InRange limits.now }
+    ensures { IfOk result (λ text. SaysAudit (source_of program.now) depth limits.now (Ok (Shown text))) }
+{
+    let sampler = compile(alloc, program)?;
+    let found = audit(rt, alloc, &sampler, limits, depth)?;
+    let text = audit_text(alloc, depth, &found)?;
+    Ok(text)
+}
+
+/// How a program's runs end on the streams of a range, as lines. An error comes only where memory runs out.
+pub fn tally_of<R: Threads + Sync, G: Gate>(
+    rt: &R,
+    alloc: Global,
+    program: &Checked,
+    range: &SeedRange,
+    limits: &Limits,
+    gate: &G,
+) -> Result<Text, AllocError>
+    requires limits { InRange limits.now }
+    requires range { IsRange range.now }
+    requires workers { IsWorkers range.now.workers }
+    ensures { IfOk result (λ text. SaysTally (source_of program.now) range.now limits.now (Ok (Shown text))) }
+{
+    let sampler = compile(alloc, program)?;
+    let found = tally(rt, alloc, &sampler, limits, range, gate)?;
+    let text = tally_rows_text(alloc, &found)?;
+    Ok(text)
+}

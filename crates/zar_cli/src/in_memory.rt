@@ -1,0 +1,84 @@
+// Calls over files and sinks in memory.
+
+ghost use Rattle.std.specs.Prelude.{◌≡◌, ◌^◌, ◌<◌, ◌++◌, IfOk, map, length, string_bytes, vec_len};
+ghost use Rattle.zar_io.specs.MemFiles.{named_file, files_faults};
+ghost use Rattle.zar_io.specs.MemSink.{sink_bytes, sink_faults};
+ghost use Rattle.zar_cli.specs.Delivery.{status_of, out_text, err_text};
+ghost use Rattle.zar_cli.specs.Output.{Output, TellsWords};
+ghost use Rattle.zar_cli.specs.Seen.{IsQuiet};
+ghost use Rattle.zar_cli.specs.Words.{command_of};
+
+use crate::zar;
+use std::alloc::{AllocError, Global};
+use std::test::Fail;
+use std::thread::Threads;
+use zar_io::{MemFiles, MemSink, Open};
+
+// The words of a call.
+pub(crate) fn spelled(alloc: Global, call: &[&str]) -> Result<Vec<String>, AllocError>
+    requires { length call.now < 2 ^ 32 }
+    ensures few { IfOk result (λ words. vec_len words < 2 ^ 32) }
+{
+    let mut words = Vec::new(alloc);
+    for word in call {
+        words.push(String::from_str(alloc, *word)?)?;
+    }
+    Ok(words)
+}
+
+// A call of which no read and no write failed has the status of what the files tell of its words, and writes exactly that.
+fn call<R: Threads + Sync>(
+    rt: &R,
+    alloc: Global,
+    words: &[String],
+    files: &mut MemFiles,
+    out: &mut MemSink,
+    err: &mut MemSink,
+) -> u8
+    requires { length words.now < 2 ^ 32 }
+    ensures said { IsQuiet (files_faults files.old) (files_faults files.new)
+        → IsQuiet (sink_faults out.old) (sink_faults out.new) → IsQuiet (sink_faults err.old) (sink_faults err.new)
+        → (output : Output) × TellsWords (named_file files.old) (command_of (map string_bytes words.now)) output
+        × (result ≡ status_of output)
+        × (sink_bytes out.new ≡ sink_bytes out.old ++ out_text output)
+        × (sink_bytes err.new ≡ sink_bytes err.old ++ err_text output) }
+{
+    zar(rt, alloc, words, files, out, err, &Open)
+}
+
+#[test]
+fn counts_in_memory(rt: HostRuntime) -> Result<(), Fail> {
+    let two_thirds: &[u8] = b"choice 2/3 { x := 1; } or { x := 2; } return x;";
+    let cases: [(&[u8], &[&str], &[u8]); 3] = [
+        (
+            two_thirds,
+            &["mass", "p.gcl"],
+            b"value 1 mass 2/3\nvalue 2 mass 1/3\n",
+        ),
+        (
+            two_thirds,
+            &["audit", "p.gcl", "--depth", "3"],
+            b"value 1 mass 5/8\nvalue 2 mass 1/4\nundecided mass 1/8\n",
+        ),
+        (
+            b"return 7;",
+            &["tally", "p.gcl", "--seed", "0", "--from", "3", "--to", "9"],
+            b"value 7 count 6\n",
+        ),
+    ];
+    let mut row = 0u32;
+    for (program, words, text) in cases {
+        let alloc = rt.alloc();
+        let words = spelled(alloc, words)?;
+        let mut files = MemFiles::new(alloc, 16, &[])?;
+        files.add("p.gcl", program)?;
+        let mut out = MemSink::new(alloc, 16, 4096, &[])?;
+        let mut err = MemSink::new(alloc, 16, 4096, &[])?;
+        let status = call(&rt, alloc, words.as_slice(), &mut files, &mut out, &mut err);
+        assert_eq!(rt; status, 0, "in row {row}");
+        assert_eq!(rt; out.bytes(), text, "in row {row}");
+        assert_eq!(rt; err.bytes().len(), 0, "in row {row}");
+        row = row.wrapping_add(1);
+    }
+    Ok(())
+}

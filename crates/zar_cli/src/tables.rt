@@ -1,0 +1,71 @@
+// The texts of rows, one line for each.
+
+ghost use Rattle.std.specs.Prelude.{◌≡◌, ◌≤◌, IfOk};
+ghost use Rattle.zar_cli.specs.Tables.{masses_text, share_of, audit_rows_text, audit_text, tally_rows_text};
+
+use audit_walk::{Audit, AuditRows};
+use frac128::Frac;
+use gcl_print::Text;
+use mass_fold::FracRows;
+use report_text::{mass_line, tally_line, undecided_line};
+use std::alloc::{AllocError, Global};
+use tally_range::Tally;
+
+/// The lines of masses. An error comes only where memory runs out.
+#[tactic(auto, using(crate::proofs::RowLines::rows_end))]
+pub fn masses_text(alloc: Global, rows: &FracRows) -> Result<Text, AllocError>
+    ensures { IfOk result (λ text. text ≡ masses_text rows.now) }
+{
+    let mut text = Text::new(alloc);
+    for i in 0..rows.count() {
+        let (outcome, mass) = rows.get(i);
+        text.push(mass_line(outcome, mass).bytes())?;
+    }
+    Ok(text)
+}
+
+// So many of the strings of a length.
+fn share_of(depth: u32, count: u64) -> Frac
+    requires { depth ≤ 20 }
+    ensures { result ≡ share_of depth count }
+{
+    Frac::of(u128::from(count), 1 << depth)
+}
+
+// The lines of an audit's rows.
+#[tactic(auto, using(crate::proofs::RowLines::rows_end))]
+fn audit_rows_text(alloc: Global, depth: u32, rows: &AuditRows) -> Result<Text, AllocError>
+    requires { depth ≤ 20 }
+    ensures { IfOk result (λ text. text ≡ audit_rows_text depth rows.now) }
+{
+    let mut text = Text::new(alloc);
+    for i in 0..rows.count() {
+        let (outcome, count) = rows.get(i);
+        text.push(mass_line(&outcome, &share_of(depth, count)).bytes())?;
+    }
+    Ok(text)
+}
+
+/// The lines of an audit. An error comes only where memory runs out.
+pub fn audit_text(alloc: Global, depth: u32, audit: &Audit) -> Result<Text, AllocError>
+    requires { depth ≤ 20 }
+    ensures { IfOk result (λ text. text ≡ audit_text depth audit.now.rows audit.now.undecided) }
+{
+    let mut text = audit_rows_text(alloc, depth, &audit.rows)?;
+    if audit.undecided == 0 {
+        return Ok(text);
+    }
+    text.push(undecided_line(&share_of(depth, audit.undecided)).bytes())?;
+    Ok(text)
+}
+
+/// The lines of a tally. An error comes only where memory runs out.
+pub fn tally_rows_text(alloc: Global, tally: &Tally) -> Result<Text, AllocError>
+    ensures { IfOk result (λ text. text ≡ tally_rows_text tally.now) }
+{
+    let mut text = Text::new(alloc);
+    for (key, count) in tally.iter() {
+        text.push(tally_line(key, *count).bytes())?;
+    }
+    Ok(text)
+}

@@ -1,0 +1,234 @@
+// The words of calls.
+
+ghost use Rattle.std.specs.Prelude.{◌^◌, ◌<◌, length};
+
+use crate::in_memory::spelled;
+use crate::{Command, Source, WordsError, read_words};
+use std::alloc::{AllocError, Global};
+use std::test::Fail;
+
+// What the words of a call answer.
+fn read(alloc: Global, call: &[&str]) -> Result<Result<Command, WordsError>, AllocError>
+    requires { length call.now < 2 ^ 32 }
+{
+    let words = spelled(alloc, call)?;
+    Ok(read_words(alloc, words.as_slice()))
+}
+
+#[test]
+fn names_the_first_wrong_word(rt: HostRuntime) -> Result<(), Fail> {
+    let cases: [(&[&str], u32); 20] = [
+        (&[], 0),
+        (&["sampel", "x"], 0),
+        (&["Sample", "p", "--bits", "b"], 0),
+        (&["sample"], 1),
+        (&["sample", ""], 1),
+        (&["sample", "", "--seed", "1"], 1),
+        (&["sample", "p"], 2),
+        (&["sample", "p", "--bits"], 3),
+        (&["sample", "p", "--bits", ""], 3),
+        (&["sample", "p", "--turns", "7"], 4),
+        (&["sample", "p", "--attempts", "0", "--bits", "b"], 3),
+        (&["sample", "p", "--bits", "b", "--rounds", "1000000001"], 5),
+        (
+            &[
+                "sample",
+                "p",
+                "--turns",
+                "000000000000000000007",
+                "--bits",
+                "b",
+            ],
+            3,
+        ),
+        (&["sample", "p", "--bits", "b", "--bits", "b"], 4),
+        (&["sample", "p", "--seed", "1", "--bits", "b"], 4),
+        (&["sample", "p", "--bits", "b", "--seed", "1"], 4),
+        (&["check"], 1),
+        (&["check", "p", "q"], 2),
+        (&["show", ""], 1),
+        (&["show", "", "q"], 1),
+    ];
+    let mut row = 0u32;
+    for (words, at) in cases {
+        let answer = read(rt.alloc(), words)?;
+        assert_eq!(rt;
+            answer.err(),
+            Some(WordsError::BadWords { at }),
+            "in row {row}"
+        );
+        row = row.wrapping_add(1);
+    }
+    Ok(())
+}
+
+#[test]
+fn reads_the_options_of_sample(rt: HostRuntime) -> Result<(), Fail> {
+    let cases: [(&[&str], u64, u64, u64); 6] = [
+        (&["sample", "p", "--bits", "b"], 1000, 1000, 1000),
+        (
+            &["sample", "p", "--turns", "0", "--bits", "b"],
+            0,
+            1000,
+            1000,
+        ),
+        (
+            &[
+                "sample",
+                "p",
+                "--turns",
+                "00000000000000000007",
+                "--bits",
+                "b",
+            ],
+            7,
+            1000,
+            1000,
+        ),
+        (
+            &["sample", "p", "--bits", "b", "--attempts", "1"],
+            1000,
+            1,
+            1000,
+        ),
+        (
+            &["sample", "p", "--bits", "b", "--rounds", "1000000000"],
+            1000,
+            1000,
+            1_000_000_000,
+        ),
+        (
+            &[
+                "sample",
+                "p",
+                "--rounds",
+                "3",
+                "--attempts",
+                "2",
+                "--bits",
+                "b",
+                "--turns",
+                "1",
+            ],
+            1,
+            2,
+            3,
+        ),
+    ];
+    for (words, turns, attempts, rounds) in cases {
+        match read(rt.alloc(), words)? {
+            Ok(Command::Sample(program, source, limits)) => {
+                assert_eq!(rt; program.text(), "p");
+                match source {
+                    Source::File(bits) => assert_eq!(rt; bits.text(), "b"),
+                    Source::Stream(..) => panic!(rt; "no file of bits"),
+                }
+                assert_eq!(rt; limits.turns, turns);
+                assert_eq!(rt; limits.attempts, attempts);
+                assert_eq!(rt; limits.rounds, rounds);
+            }
+            _ => panic!(rt; "no sample"),
+        }
+    }
+    Ok(())
+}
+
+#[test]
+fn names_the_first_wrong_word_of_counts(rt: HostRuntime) -> Result<(), Fail> {
+    let cases: [(&[&str], u32); 12] = [
+        (&["sample", "p", "--stream", "1"], 4),
+        (&["sample", "p", "--seed", "1", "--depth", "2"], 4),
+        (&["mass", "p", "--turns", "-1"], 3),
+        (&["mass", "p", "--turns"], 3),
+        (&["mass", "p", "--bits", "b"], 2),
+        (&["audit", "p"], 2),
+        (&["audit", "p", "--depth", "21"], 3),
+        (&["tally", "p", "--seed", "0"], 4),
+        (
+            &["tally", "p", "--seed", "0", "--from", "5", "--to", "4"],
+            8,
+        ),
+        (
+            &[
+                "tally",
+                "p",
+                "--seed",
+                "0",
+                "--from",
+                "0",
+                "--to",
+                "1099511627777",
+            ],
+            8,
+        ),
+        (&["tally", "p", "--workers", "65"], 3),
+        (&["tally", "p", "--stream", "1"], 2),
+    ];
+    let mut row = 0u32;
+    for (words, at) in cases {
+        let answer = read(rt.alloc(), words)?;
+        assert_eq!(rt;
+            answer.err(),
+            Some(WordsError::BadWords { at }),
+            "in row {row}"
+        );
+        row = row.wrapping_add(1);
+    }
+    Ok(())
+}
+
+#[test]
+fn reads_the_numbers_of_counts(rt: HostRuntime) -> Result<(), Fail> {
+    match read(rt.alloc(), &["mass", "p", "--rounds", "2"])? {
+        Ok(Command::Mass(program, turns, attempts, rounds)) => {
+            assert_eq!(rt; program.text(), "p");
+            assert_eq!(rt; turns, 30);
+            assert_eq!(rt; attempts, None);
+            assert_eq!(rt; rounds, Some(2));
+        }
+        _ => panic!(rt; "no mass"),
+    }
+    match read(rt.alloc(), &["audit", "p", "--depth", "3"])? {
+        Ok(Command::Audit(_, depth, limits)) => {
+            assert_eq!(rt; depth, 3);
+            assert_eq!(rt; limits.attempts, 1000);
+        }
+        _ => panic!(rt; "no audit"),
+    }
+    match read(
+        rt.alloc(),
+        &[
+            "tally",
+            "p",
+            "--seed",
+            "18446744073709551615",
+            "--from",
+            "5",
+            "--to",
+            "9",
+        ],
+    )? {
+        Ok(Command::Tally(_, range, _)) => {
+            assert_eq!(rt; range.seed, u64::MAX);
+            assert_eq!(rt; range.from, 5);
+            assert_eq!(rt; range.to, 9);
+            assert_eq!(rt; range.budget, 65_536);
+            assert_eq!(rt; range.workers, 4);
+        }
+        _ => panic!(rt; "no tally"),
+    }
+    Ok(())
+}
+
+#[test]
+fn reads_the_file_of_check_and_show(rt: HostRuntime) -> Result<(), Fail> {
+    match read(rt.alloc(), &["check", "p"])? {
+        Ok(Command::Check(program)) => assert_eq!(rt; program.text(), "p"),
+        _ => panic!(rt; "no check"),
+    }
+    match read(rt.alloc(), &["show", "--bits"])? {
+        Ok(Command::Show(program)) => assert_eq!(rt; program.text(), "--bits"),
+        _ => panic!(rt; "no show"),
+    }
+    Ok(())
+}
