@@ -1,0 +1,88 @@
+"""What the crates of the repository offer to each other, read from their sources as `rt fmt` lays them out."""
+import pathlib
+import re
+
+ROOT = pathlib.Path(__file__).resolve().parent.parent
+
+USE = re.compile(r"^pub use ([\w:]+)::(?:\{([^}]*)\}|(\w+));", re.MULTILINE)
+PUBLIC_MODULE = re.compile(r"^pub mod (\w+);", re.MULTILINE)
+# A function with what stands before its body.
+FUNCTION = re.compile(r"^ *(?P<pub>pub )?(?:const )?fn (?P<name>\w+)\b(?P<head>(?:(?!\bfn \w).)*?)(?:^ *\{|\{\}?$|;$)", re.DOTALL | re.MULTILINE)
+CLAUSE = re.compile(r"^\s*ensures(?: (\w+))? \{", re.MULTILINE)
+BLOCK = re.compile(r"^(?P<head>(?:pub )?(?:impl|trait)\b[^{]*)\{\n(?P<body>.*?)^\}", re.DOTALL | re.MULTILINE)
+IMPL = re.compile(r"^impl(?:<[^>]*>)? (?:(?P<trait>\w+)(?:<.*>)? for )?(?P<type>\w+)")
+TRAIT = re.compile(r"^pub trait (?P<name>\w+)")
+
+
+def crates():
+    """The crates in the order of the layers."""
+    lines = (ROOT / "crates.txt").read_text(encoding="utf-8").splitlines()
+    return [re.match(r"\w+", line)[0] for line in lines if re.match(r"\w", line)]
+
+
+def files(crate):
+    return sorted((ROOT / "crates" / crate / "src").rglob("*.rt"))
+
+
+def module(crate, path):
+    """The text of a module, by its path from the root."""
+    base = ROOT / "crates" / crate / "src" / pathlib.Path(*path)
+    found = [it for it in (base.with_suffix(".rt"), base / "mod.rt") if it.is_file()]
+    return found[0].read_text(encoding="utf-8") if found else ""
+
+
+def items(crate, path, text):
+    """The names that a public module gives: its own public items, and those that it uses from others."""
+    names = set(re.findall(r"^pub (?:const )?(?:fn|struct|enum|trait|type|const) (\w+)", text, re.MULTILINE))
+    for _, several, one in USE.findall(text):
+        names |= {one} if one else set(re.findall(r"\w+", several))
+    for inner in PUBLIC_MODULE.findall(text):
+        names |= items(crate, [*path, inner], module(crate, [*path, inner]))
+    return names
+
+
+def exported(crate):
+    root = ROOT / "crates" / crate / "src" / "lib.rt"
+    return items(crate, [], root.read_text(encoding="utf-8")) if root.is_file() else set()
+
+
+def clauses(head):
+    return [name or "ensures" for name in CLAUSE.findall(head)]
+
+
+def functions(text):
+    """The functions of a file with the type or the trait of their block: name, whether it is public, its clauses."""
+    for block in BLOCK.finditer(text):
+        head = block["head"]
+        of_trait, of_type = TRAIT.match(head), IMPL.match(head)
+        for it in FUNCTION.finditer(block["body"]):
+            if of_trait:
+                yield f"{of_trait['name']}::{it['name']}", True, clauses(it["head"])
+            elif of_type:
+                yield f"{of_type['type']}::{it['name']}", bool(it["pub"] or of_type["trait"]), clauses(it["head"])
+    for it in FUNCTION.finditer(BLOCK.sub("", text)):
+        yield it["name"], bool(it["pub"]), clauses(it["head"])
+
+
+def contracts(crate):
+    """The clauses of what a crate exports: a function, free or of a type or trait, with a clause of it, in the order of the files."""
+    names = exported(crate)
+    return [
+        (function, clause)
+        for file in files(crate)
+        for function, is_public, told in functions(file.read_text(encoding="utf-8"))
+        if is_public and function.split("::")[0] in names
+        for clause in told
+    ]
+
+
+def rows(document, columns):
+    """The rows of the tables with so many columns in a document, each with the heading that it stands under; heads are left out."""
+    heading = ""
+    lines = (ROOT / document).read_text(encoding="utf-8").splitlines()
+    for line, behind in zip(lines, [*lines[1:], ""]):
+        if line.startswith("#"):
+            heading = line.lstrip("# ")
+        cells = [cell.strip().replace("\\|", "|") for cell in re.split(r"(?<!\\)\|", line)[1:-1]]
+        if len(cells) == columns and not line.startswith("|---") and not behind.startswith("|---"):
+            yield heading, cells
