@@ -1,7 +1,7 @@
 -- Which programs are accepted, and the first refusal of one that is not. That weights are fractions up to 1, that numbers are no
 -- truths, that a name which is read is set somewhere, the two bounds and the order of refusals are this project's own rule.
 use Rattle.std.specs.Prelude.{◌≡◌, ℕ, ◌+◌, Bool, true, ◌&&◌, ◌==◌, nat_lt, if◌then◌else◌, List, [], ◌∷◌, ◌++◌, map, length, Option, Some, None}
-use Rattle.gcl_core.specs.declared.rules.TheConstants.{GREATEST_DENOMINATOR}
+use Rattle.gcl_core.specs.declared.rules.TheConstants.{GREATEST_DENOMINATOR, MOST_NAMES}
 use Rattle.gcl_core.specs.declared.syntax.Weight.{Weight}
 use Rattle.gcl_core.specs.declared.kinds.Kind.{Kind}
 use Rattle.gcl_core.specs.declared.kinds.Kind.TheVariants.{Number, Truth}
@@ -70,9 +70,9 @@ first_refusal n (None ∷ flaws) = first_refusal (n + 1) flaws
 abbrev pub flaws_of : Source → List (Option Flaw)
 flaws_of p = map (statement_flaw (sets p.body)) (listed p.body) ++ expression_flaw (sets p.body) Number p.result ∷ []
 
--- There are at most 256 names, and no statement has a flaw.
+-- There are at most MOST_NAMES names, and no statement has a flaw.
 abbrev pub refusal_of : Source → Option Refusal
-refusal_of p = if nat_lt 256 (length p.names) then Some too_many_names else first_refusal 0 (flaws_of p)
+refusal_of p = if nat_lt MOST_NAMES (length p.names) then Some too_many_names else first_refusal 0 (flaws_of p)
 
 abbrev pub IsAccepted : Source → Type 0
 IsAccepted p = refusal_of p ≡ None

@@ -9,6 +9,7 @@ use Rattle.gcl_core.specs.declared.tokens.Token.{Token}
 use Rattle.gcl_core.specs.Pieces.{Longest, NoPiece, Piece, Leads, here, over}
 use Rattle.gcl_core.specs.Tokens.{tokens_of}
 use Rattle.gcl_core.specs.Lexing.{may_stand, stands, IsLexed, LexRefusal, bad_byte, number_too_wide, name_too_long, Reaches, IsRefused, long_text, no_piece, wide_number, long_name}
+use Rattle.gcl_core.specs.declared.rules.TheConstants.{LONGEST_TEXT, LONGEST_NAME}
 use Rattle.gcl_lex.proofs.Cuts.{both, some_len}
 use Rattle.gcl_lex.proofs.OneCut.{one_length, one_kind, no_longest}
 use Rattle.gcl_lex.proofs.PieceByPiece.{taken}
@@ -32,7 +33,7 @@ same_piece {text = text} {n = n} {m = m} p q =
 too_wide : (n : ℕ) → 2 ^ 63 ≤ n → nat_lt n (2 ^ 63) ≡ false
 too_wide n h = grind (arith, nat_tests)
 
-too_long : (n : ℕ) → 64 < n → nat_le n 64 ≡ false
+too_long : (n : ℕ) → LONGEST_NAME < n → nat_le n LONGEST_NAME ≡ false
 too_long n h = grind (arith, nat_tests)
 
 ends_at : {k : PieceKind} {text : List ℕ} {n : ℕ} → Longest k text n → may_stand k (take n text) ≡ false → Ends text
@@ -66,7 +67,7 @@ none_stands {k = k} {n = n} h l = let e = h k n l.within in let i = l.is in cc
 wide_ends : {rest : List ℕ} {n : ℕ} → Longest kind.Number rest n → 2 ^ 63 ≤ digits_value 10 (take n rest) → Ends rest
 wide_ends l w = ends_at l (too_wide _ w)
 
-long_ends : {rest : List ℕ} {n : ℕ} → Longest kind.Name rest n → 64 < n → Ends rest
+long_ends : {rest : List ℕ} {n : ℕ} → Longest kind.Name rest n → LONGEST_NAME < n → Ends rest
 long_ends {rest} {n} l w = ends_at l (too_long _ (let t = taken l in omega (arith, t, w)))
 
 not_empty : (text : List ℕ) → 0 < length text → text ≡ [] → ⊥
@@ -92,7 +93,7 @@ same_rest r e q f =
 not_both : {text : List ℕ} {n m : ℕ} → Longest kind.Number text n → Longest kind.Name text m → ⊥
 not_both p q = let e = (same_piece p q).0 in cc
 
-too_short : {text rest : List ℕ} {at : ℕ} → 65536 < length text → Reaches text at rest → ⊥
+too_short : {text rest : List ℕ} {at : ℕ} → LONGEST_TEXT < length text → Reaches text at rest → ⊥
 too_short h r = let s = r.short in omega (arith, h, s)
 
 pub refusal_once : (text : List ℕ) (r s : LexRefusal) → IsRefused text r → IsRefused text s → r ≡ s

@@ -9,6 +9,7 @@ use Rattle.gcl_core.specs.declared.tokens.Token.{Token}
 use Rattle.gcl_core.specs.Pieces.{Longest, Piece, Leads, here, over}
 use Rattle.gcl_core.specs.Tokens.{token_at, tokens_from, tokens_of}
 use Rattle.gcl_core.specs.Lexing.{stands, IsLexed, Reaches}
+use Rattle.gcl_core.specs.declared.rules.TheConstants.{LONGEST_TEXT}
 use Rattle.gcl_lex.specs.Reads.{Stands}
 
 -- one more piece
@@ -71,9 +72,9 @@ piece_read {text} {rest} {at} {found} {k} {n} {kind} r l s =
       place = let d = length-drop n rest in omega (arith, d, l.within, r.place);
     }
 
-pub reached : {text rest : List ℕ} {at : ℕ} {found : List Token} → length text ≤ 65536 → Reading text rest at found → Reaches text at rest
+pub reached : {text rest : List ℕ} {at : ℕ} {found : List Token} → length text ≤ LONGEST_TEXT → Reading text rest at found → Reaches text at rest
 reached h r = record { short = h; pieces = r.pieces; leads = r.leads; stand = r.stand; place = r.place }
 
 -- all pieces were read
-pub text_read : {text rest : List ℕ} {at : ℕ} {found : List Token} → length text ≤ 65536 → Reading text rest at found → rest ≡ [] → IsLexed text found
+pub text_read : {text rest : List ℕ} {at : ℕ} {found : List Token} → length text ≤ LONGEST_TEXT → Reading text rest at found → rest ≡ [] → IsLexed text found
 text_read h r e = record { short = h; pieces = r.pieces; cut = rw e at r.leads; stand = r.stand; all = r.tokens }

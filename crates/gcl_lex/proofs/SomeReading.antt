@@ -8,6 +8,7 @@ use Rattle.gcl_core.specs.declared.tokens.PieceKind.TheVariants as kind
 use Rattle.gcl_core.specs.declared.tokens.Token.{Token}
 use Rattle.gcl_core.specs.Pieces.{Longest}
 use Rattle.gcl_core.specs.Lexing.{may_stand, IsLexed, LexRefusal, text_too_long, bad_byte, number_too_wide, name_too_long, Reaches, IsRefused, long_text, wide_number, long_name}
+use Rattle.gcl_core.specs.declared.rules.TheConstants.{LONGEST_TEXT, LONGEST_NAME}
 use Rattle.gcl_lex.specs.declared.cutting.Front.{Front}
 use Rattle.gcl_lex.specs.Cutting.{front_of}
 use Rattle.gcl_lex.proofs.Cuts.{front_is, no_front, some_len}
@@ -20,7 +21,7 @@ Answered text = ((ts : List Token) × IsLexed text ts) ⊎ ((r : LexRefusal) × 
 not_small : (n : ℕ) → nat_lt n (2 ^ 63) ≡ false → 2 ^ 63 ≤ n
 not_small n h = grind (arith, nat_tests)
 
-not_short : (n : ℕ) → nat_le n 64 ≡ false → 64 < n
+not_short : (n : ℕ) → nat_le n LONGEST_NAME ≡ false → LONGEST_NAME < n
 not_short n h = grind (arith, nat_tests)
 
 -- a piece that may not stand is a number that is too wide or a name that is too long
@@ -32,7 +33,7 @@ piece_refused {rest = rest} {at = at} {n = n} kind.Name r l h = (name_too_long a
 piece_refused kind.Symbol r l h = cc
 
 -- the longest piece at the front of a rest, where there is one, may stand or not, and what follows it is shorter
-one_more : {text : List ℕ} (n : ℕ) (rest : List ℕ) {at : ℕ} {found : List Token} → length text ≤ 65536 → 0 < length rest → length rest ≤ suc n → Reading text rest at found
+one_more : {text : List ℕ} (n : ℕ) (rest : List ℕ) {at : ℕ} {found : List Token} → length text ≤ LONGEST_TEXT → 0 < length rest → length rest ≤ suc n → Reading text rest at found
     → ((shorter : List ℕ) (at : ℕ) (found : List Token) → length shorter ≤ n → Reading text shorter at found → Answered text) → (front : Option Front) → front_of rest ≡ front → Answered text
 one_more n rest {at} {found} short some le r go None e = inr (bad_byte at, rest_stops short r some (no_front rest e))
 one_more {text} n rest {at} {found} short some le r go (Some f) e = by_piece (front_is rest f e) (may_stand f.kind (take f.len rest)) refl
@@ -44,10 +45,10 @@ one_more {text} n rest {at} {found} short some le r go (Some f) e = by_piece (fr
         go (drop f.len rest) _ _ (omega (arith, le, less, behind)) (piece_read r l (record { stands = h; kind = refl }))
     by_piece l false h = inr (piece_refused f.kind (reached short r) l h)
 
-read_on : {text : List ℕ} (n : ℕ) (rest : List ℕ) (at : ℕ) (found : List Token) → length text ≤ 65536 → length rest ≤ n → Reading text rest at found → Answered text
+read_on : {text : List ℕ} (n : ℕ) (rest : List ℕ) (at : ℕ) (found : List Token) → length text ≤ LONGEST_TEXT → length rest ≤ n → Reading text rest at found → Answered text
 read_on n [] at found short le r = inl (found, text_read short r refl)
 read_on zero (b ∷ rest) at found short le r = absurd (omega arith)
 read_on (suc n) (b ∷ rest) at found short le r = one_more n (b ∷ rest) short (omega arith) le r (λ shorter at found. read_on n shorter at found short) (front_of (b ∷ rest)) refl
 
 pub answered : (text : List ℕ) → Answered text
-answered text = elim (cases_lt 65536 (length text)) [ inl h ↦ inr (text_too_long, long_text h) | inr h ↦ read_on (length text) text 0 [] h (omega arith) (nothing_read text) ]
+answered text = elim (cases_lt LONGEST_TEXT (length text)) [ inl h ↦ inr (text_too_long, long_text h) | inr h ↦ read_on (length text) text 0 [] h (omega arith) (nothing_read text) ]

@@ -6,6 +6,7 @@ use Rattle.gcl_core.specs.declared.tokens.PieceKind.TheVariants as kind
 use Rattle.gcl_core.specs.declared.tokens.TokenKind.{TokenKind}
 use Rattle.gcl_core.specs.Tokens.{kind_of}
 use Rattle.gcl_core.specs.Lexing.{may_stand}
+use Rattle.gcl_core.specs.declared.rules.TheConstants.{LONGEST_NAME}
 use Rattle.gcl_lex.specs.declared.error.LexError.{LexError}
 use Rattle.gcl_lex.specs.declared.error.LexError.TheVariants.{NumberTooWide, NameTooLong}
 
@@ -21,7 +22,7 @@ pub record Stands (k : PieceKind) (bytes : List ℕ) (found : Option TokenKind) 
 -- the piece, which begins at this place, may not stand for this reason
 pub data Stops : PieceKind → List ℕ → ℕ → LexError → Type 0 where
   too_wide : {bytes : List ℕ} {at : ℕ} → 2 ^ 63 ≤ digits_value 10 bytes → Stops kind.Number bytes at (NumberTooWide at)
-  too_long : {bytes : List ℕ} {at : ℕ} → 64 < length bytes → Stops kind.Name bytes at (NameTooLong at)
+  too_long : {bytes : List ℕ} {at : ℕ} → LONGEST_NAME < length bytes → Stops kind.Name bytes at (NameTooLong at)
 
 abbrev pub Reads : PieceKind → List ℕ → ℕ → Result (Option TokenKind) LexError → Type 0
 Reads k bytes at (Ok found) = Stands k bytes found

@@ -1,6 +1,7 @@
 // From a text to its tokens.
 
 ghost use Rattle.std.specs.Prelude.{◌≡◌, ◌≤◌, ◌++◌, ◌⊎◌, ℕ, List, length, IsTrue, IfOk, IfErr};
+ghost use Rattle.gcl_core.specs.declared.rules.TheConstants as rule;
 ghost use Rattle.gcl_core.specs.declared.tokens.PieceKind.{PieceKind as TheKind};
 ghost use Rattle.gcl_core.specs.declared.tokens.Token.{Token as TheToken};
 ghost use Rattle.gcl_core.specs.Pieces.{is_piece, Longest, Piece, Pieces};
@@ -12,10 +13,8 @@ ghost use Rattle.gcl_lex.specs.PieceEnds.{EndsBefore};
 use crate::cutting::front_of;
 use crate::error::LexError;
 use crate::piece::token_kind;
-use gcl_core::Token;
+use gcl_core::{LONGEST_TEXT, Token};
 use std::alloc::Global;
-
-const LONGEST_TEXT: usize = 65536;
 
 /// The tokens of a text, each with the bytes that it spans. `TextTooLong` comes exactly where the text has more than 65,536
 /// bytes; else `BadByte`, `NumberTooWide` or `NameTooLong` at the first place in reading order where no piece of a text
@@ -24,7 +23,7 @@ pub fn lex(alloc: Global, text: &[u8]) -> Result<Vec<Token>, LexError>
     ensures tokens { IfOk result (λ tokens. IsLexed text.now tokens.items) }
     ensures only { IfOk result (λ tokens. (others : List TheToken) → IsLexed text.now others → others ≡ tokens.items) }
     ensures accepted { IfOk result (λ tokens. (r : LexRefusal) → IsRefused text.now r → ⊥) }
-    ensures short { IfOk result (λ tokens. length text.now ≤ 65536) }
+    ensures short { IfOk result (λ tokens. length text.now ≤ rule.LONGEST_TEXT) }
     ensures order { IfOk result (λ tokens. StandInOrder 0 tokens.items (length text.now)) }
     ensures refused { IfErr result (λ e. Refuses text.now e) }
 {

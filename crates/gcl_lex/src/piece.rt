@@ -9,7 +9,7 @@ ghost use Rattle.gcl_lex.specs.Reads.{number_of_digits, Reads};
 
 use crate::cutting::symbol;
 use crate::error::LexError;
-use gcl_core::{Key, PieceKind, TokenKind};
+use gcl_core::{Key, LONGEST_NAME, PieceKind, TokenKind};
 
 // The value, where it is below 2^63.
 fn number(digits: &[u8]) -> Option<u64>
@@ -90,7 +90,7 @@ pub fn token_kind(kind: PieceKind, bytes: &[u8], at: u32) -> Result<Option<Token
             Some(value) => Ok(Some(TokenKind::Number(value))),
             None => Err(LexError::NumberTooWide { at }),
         },
-        PieceKind::Name if bytes.len() > 64 => Err(LexError::NameTooLong { at }),
+        PieceKind::Name if bytes.len() > LONGEST_NAME => Err(LexError::NameTooLong { at }),
         PieceKind::Name => Ok(Some(name_kind(bytes))),
         PieceKind::Symbol => Ok(symbol(bytes).map(TokenKind::Sym)),
     }

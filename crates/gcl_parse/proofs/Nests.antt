@@ -5,22 +5,23 @@ use Rattle.std.proofs.lemmas.Bool.Decides.{nat_tests}
 use Rattle.gcl_core.specs.declared.tokens.Token.{Token}
 use Rattle.gcl_core.specs.Words.{kinds_of}
 use Rattle.gcl_core.specs.Nesting.{breaks_from, level_behind, count_behind}
+use Rattle.gcl_core.specs.declared.rules.TheConstants.{DEEPEST_NESTING, MOST_OPERATORS}
 
 pub next : (ts : List Token) (i : ℕ) (d : Token) → i < length ts → drop i ts ≡ get_or ts i d ∷ drop (i + 1) ts
 next ts i d h = rw (add-one, drop-cons ts i d)
 
-test_true : (a b : ℕ) → (64 < a) ⊎ (128 < b) → (nat_lt 64 a || nat_lt 128 b) ≡ true
+test_true : (a b : ℕ) → (DEEPEST_NESTING < a) ⊎ (MOST_OPERATORS < b) → (nat_lt DEEPEST_NESTING a || nat_lt MOST_OPERATORS b) ≡ true
 test_true a b h = grind (arith, nat_tests)
 
-test_false : (a b : ℕ) → a ≤ 64 → b ≤ 128 → (nat_lt 64 a || nat_lt 128 b) ≡ false
+test_false : (a b : ℕ) → a ≤ DEEPEST_NESTING → b ≤ MOST_OPERATORS → (nat_lt DEEPEST_NESTING a || nat_lt MOST_OPERATORS b) ≡ false
 test_false a b h k = grind (arith, nat_tests)
 
-pub broken : (ts : List Token) (i : ℕ) (d : Token) (n c a b : ℕ) → i < length ts → a ≡ level_behind (get_or ts i d).kind n → b ≡ count_behind (get_or ts i d).kind c → (64 < a) ⊎ (128 < b)
+pub broken : (ts : List Token) (i : ℕ) (d : Token) (n c a b : ℕ) → i < length ts → a ≡ level_behind (get_or ts i d).kind n → b ≡ count_behind (get_or ts i d).kind c → (DEEPEST_NESTING < a) ⊎ (MOST_OPERATORS < b)
     → breaks_from n c (kinds_of (drop i ts)) ≡ Some 0
 unfolding breaks_from
 broken ts i d n c a b h e f t = let q = test_true a b t in rw (next ts i d h, ← e, ← f, q)
 
-pub goes : (ts : List Token) (i : ℕ) (d : Token) (n c a b : ℕ) → i < length ts → a ≡ level_behind (get_or ts i d).kind n → b ≡ count_behind (get_or ts i d).kind c → a ≤ 64 → b ≤ 128
+pub goes : (ts : List Token) (i : ℕ) (d : Token) (n c a b : ℕ) → i < length ts → a ≡ level_behind (get_or ts i d).kind n → b ≡ count_behind (get_or ts i d).kind c → a ≤ DEEPEST_NESTING → b ≤ MOST_OPERATORS
     → breaks_from n c (kinds_of (drop i ts)) ≡ option_map (λ j. j + 1) (breaks_from a b (kinds_of (drop (i + 1) ts)))
 unfolding breaks_from
 goes ts i d n c a b h e f k l = let q = test_false a b k l in rw (next ts i d h, ← e, ← f, q)

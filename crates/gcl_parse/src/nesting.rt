@@ -2,16 +2,13 @@
 
 ghost use Rattle.std.specs.Prelude.{◌≡◌, ◌≤◌};
 ghost use Rattle.gcl_core.specs.Nesting as nesting;
+ghost use Rattle.gcl_core.specs.declared.rules.TheConstants as rule;
 ghost use Rattle.gcl_core.specs.Words.{kinds_of};
 
-use gcl_core::{Key, Sym, Token, TokenKind};
-
-const MAX_LEVEL: u32 = 64;
-
-const MAX_COUNT: u32 = 128;
+use gcl_core::{DEEPEST_NESTING, Key, MOST_OPERATORS, Sym, Token, TokenKind};
 
 fn level_behind(kind: TokenKind, level: u32) -> u32
-    requires { level ≤ 64 }
+    requires { level ≤ rule.DEEPEST_NESTING }
     ensures { result ≡ nesting.level_behind kind level }
 {
     match kind {
@@ -22,7 +19,7 @@ fn level_behind(kind: TokenKind, level: u32) -> u32
 }
 
 fn count_behind(kind: TokenKind, count: u32) -> u32
-    requires { count ≤ 128 }
+    requires { count ≤ rule.MOST_OPERATORS }
     ensures { result ≡ nesting.count_behind kind count }
 {
     match kind {
@@ -37,7 +34,7 @@ fn count_behind(kind: TokenKind, count: u32) -> u32
     }
 }
 
-/// The index of the first token that makes the level more than 64 or the count more than 128.
+/// The index of the first token that makes the level more than `DEEPEST_NESTING` or the count more than `MOST_OPERATORS`.
 pub fn nesting_break(tokens: &[Token]) -> Option<usize>
     ensures { result ≡ nesting.nesting_break (kinds_of tokens.now) }
 {
@@ -46,7 +43,7 @@ pub fn nesting_break(tokens: &[Token]) -> Option<usize>
     for (i, token) in tokens.iter().enumerate() {
         level = level_behind(token.kind, level);
         count = count_behind(token.kind, count);
-        if level > MAX_LEVEL || count > MAX_COUNT {
+        if level > DEEPEST_NESTING || count > MOST_OPERATORS {
             return Some(i);
         }
     }

@@ -11,6 +11,7 @@ ghost use Rattle.gcl_core.specs.Words.{kinds_of};
 ghost use Rattle.gcl_core.specs.Derivation.{Derives};
 ghost use Rattle.gcl_core.specs.Nesting.{Nests};
 ghost use Rattle.gcl_core.specs.Written.{IsWritten};
+ghost use Rattle.gcl_core.specs.declared.rules.TheConstants.{LONGEST_TEXT};
 ghost use Rattle.gcl_parse.specs.Refused.{IsRefused};
 
 use crate::beginnings::beginnings;
@@ -32,7 +33,7 @@ pub struct Parsed {
 
 // The offset of the token of this index, or else the end of the text.
 fn place(text: &[u8], tokens: &[Token], i: usize) -> u32
-    requires { length text.now ≤ 65536 }
+    requires { length text.now ≤ LONGEST_TEXT }
     ensures { result ≡ place_of text.now tokens.now i }
 {
     match tokens.get(i) {
@@ -48,7 +49,7 @@ fn place(text: &[u8], tokens: &[Token], i: usize) -> u32
 /// `Unexpected` comes exactly where the tokens are no program, at the first with which they begin none, or at the end of the
 /// text. `OutOfMemory` comes where memory is wanting.
 pub fn parse(alloc: Global, text: &[u8], tokens: &[Token]) -> Result<Parsed, ParseError>
-    requires short { length text.now ≤ 65536 }
+    requires short { length text.now ≤ LONGEST_TEXT }
     requires order { StandInOrder 0 tokens.now (length text.now) }
     ensures program { IfOk result (λ p. Derives text.now tokens.now (source_of p.program) p.places) }
     ensures only { IfOk result (λ p. (q : Source) (at : List ℕ) → Derives text.now tokens.now q at

@@ -3,6 +3,7 @@
 ghost use Rattle.std.specs.Prelude.{◌≡◌, ◌≤◌, ◌<◌, ◌-◌, ◌^◌, length, IfOk, OnOk};
 ghost use Rattle.gcl_core.specs.Spans.{StandInOrder};
 ghost use Rattle.gcl_core.specs.Words.{slice_of, with_token, word_of, names_of, words_of};
+ghost use Rattle.gcl_core.specs.declared.rules.TheConstants.{LONGEST_TEXT};
 
 use gcl_core::{Names, Token, TokenKind, Word};
 use std::alloc::{AllocError, Global};
@@ -36,7 +37,7 @@ fn word(names: &mut Names, text: &[u8], token: Token) -> Result<Word, AllocError
 
 /// The words of a text.
 pub fn words(alloc: Global, text: &[u8], tokens: &[Token]) -> Result<Worded, AllocError>
-    requires short { length text.now ≤ 65536 }
+    requires short { length text.now ≤ LONGEST_TEXT }
     requires order { StandInOrder 0 tokens.now (length text.now) }
     ensures names { IfOk result (λ r. r.names ≡ names_of text.now tokens.now) }
     ensures words { IfOk result (λ r. r.words.items ≡ words_of text.now tokens.now) }

@@ -4,15 +4,19 @@ ghost use Rattle.gcl_core.specs.Keeping.{IsChecked};
 ghost use Rattle.gcl_core.specs.Listing.{count_all};
 ghost use Rattle.gcl_core.specs.Views.{statements_of, source_of};
 ghost use Rattle.generated_program.specs.Generated.{generated};
+ghost use Rattle.generated_program.specs.declared.generating.TheConstants.{GREATEST_NUMBER};
 
 use crate::parts::{count, difference, names, remainder, statement};
 use gcl_check::check;
 use gcl_core::{Block, Checked, Program, Stmt};
 use std::alloc::{AllocError, Global};
 
+/// The greatest number of which there is a generated program.
+pub const GREATEST_NUMBER: u32 = 1000;
+
 /// The generated program of a number, which is accepted as it is.
 pub fn generate(alloc: Global, k: u32) -> Result<Program, AllocError>
-    requires { k ≤ 1000 }
+    requires { k ≤ GREATEST_NUMBER }
     ensures program { IfOk result (λ p. source_of p ≡ generated k) }
     ensures checked { IfOk result (λ p. IsChecked (source_of p)) }
     ensures few { IfOk result (λ p. count_all (statements_of p.body) < 2 ^ 32 - 1) }
@@ -34,7 +38,7 @@ pub fn generate(alloc: Global, k: u32) -> Result<Program, AllocError>
 
 /// The generated program of a number, checked, which the check does not refuse or change.
 pub fn generate_checked(alloc: Global, k: u32) -> Result<Checked, AllocError>
-    requires { k ≤ 1000 }
+    requires { k ≤ GREATEST_NUMBER }
     ensures program { IfOk result (λ c. source_of c ≡ generated k) }
     ensures few { IfOk result (λ c. count_all (statements_of c.body) < 2 ^ 32 - 1) }
 {

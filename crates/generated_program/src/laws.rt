@@ -5,8 +5,10 @@ ghost use Rattle.gcl_core.specs.Keeping.{IsChecked};
 ghost use Rattle.gcl_core.specs.Listing.{count_all};
 ghost use Rattle.gcl_core.specs.Syntax.{Source};
 ghost use Rattle.gcl_core.specs.Texts.{IsWrittenIn, Spells};
+ghost use Rattle.gcl_core.specs.declared.rules.TheConstants.{LONGEST_TEXT};
 ghost use Rattle.gcl_print.specs.ReadBack.{HasProgram};
 ghost use Rattle.generated_program.specs.Generated.{generated, generated_body};
+ghost use Rattle.generated_program.specs.declared.generating.TheConstants.{GREATEST_NUMBER};
 ghost use Rattle.generated_program.specs.Sizes.{statements_in, bytes_in};
 
 use gcl_lex::ends_here;
@@ -14,7 +16,7 @@ use gcl_print::reads_back;
 
 /// It does nothing: its clause says that the generated program is accepted as it is, with its weights in lowest terms.
 pub fn is_checked()
-    ensures { (k : ℕ) → k ≤ 1000 → IsChecked (generated k) }
+    ensures { (k : ℕ) → k ≤ GREATEST_NUMBER → IsChecked (generated k) }
 {}
 
 /// It does nothing: its clause says how many statements the generated program has, blocks within blocks and all.
@@ -25,17 +27,17 @@ pub fn has_statements()
 /// It does nothing: its clauses say how many bytes the canonical text of the generated program has, and that they are
 /// within the limit of a text.
 pub fn has_bytes()
-    ensures bytes { (k : ℕ) → k ≤ 1000 → length (canonical_text (generated k)) ≡ bytes_in k }
-    ensures short { (k : ℕ) → k ≤ 1000 → length (canonical_text (generated k)) ≤ 65536 }
+    ensures bytes { (k : ℕ) → k ≤ GREATEST_NUMBER → length (canonical_text (generated k)) ≡ bytes_in k }
+    ensures short { (k : ℕ) → k ≤ GREATEST_NUMBER → length (canonical_text (generated k)) ≤ LONGEST_TEXT }
 {}
 
 /// It does nothing: its clauses say that the canonical text of the generated program is read back as it, and as no
 /// other program, and spells it.
 pub fn is_read_back()
-    ensures program { (k : ℕ) → k ≤ 1000 → HasProgram (canonical_text (generated k)) (generated k) }
-    ensures only { (k : ℕ) → k ≤ 1000 → (q : Source) (places : List ℕ)
+    ensures program { (k : ℕ) → k ≤ GREATEST_NUMBER → HasProgram (canonical_text (generated k)) (generated k) }
+    ensures only { (k : ℕ) → k ≤ GREATEST_NUMBER → (q : Source) (places : List ℕ)
         → IsWrittenIn (canonical_text (generated k)) q places → q ≡ generated k }
-    ensures spells { (k : ℕ) → k ≤ 1000 → Spells (canonical_text (generated k)) (generated k) }
+    ensures spells { (k : ℕ) → k ≤ GREATEST_NUMBER → Spells (canonical_text (generated k)) (generated k) }
 {
     ends_here();
     reads_back();

@@ -1,3 +1,4 @@
+use Rattle.gcl_core.specs.declared.rules.TheConstants.{LONGEST_NAME}
 use Rattle.std.proofs.Common.{◌<◌, length, sym, ◌∙◌, arith}
 use Rattle.gcl_lex.specs.Reads.{too_wide, too_long}
 use Rattle.gcl_lex.proofs.Numbers.{number_digits, wide}
@@ -11,5 +12,5 @@ returns-in-None c = rw c.in-Number.is (too_wide (wide c.args.bytes.now (sym c.nu
 
 pub returns-in-Name : goal.returns-in-Name
 returns-in-Name c =
-    let w : 64 < length c.args.bytes.now = grind arith in
+    let w : LONGEST_NAME < length c.args.bytes.now = grind arith in
     rw c.in-Name.is (too_long w)
