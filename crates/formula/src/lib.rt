@@ -1,0 +1,15 @@
+//! Expressions as steps over a stack.
+#![tactic(auto)]
+
+mod formula;
+mod op;
+mod reading;
+mod running;
+mod stack;
+#[cfg(test)]
+mod tests;
+mod writing;
+
+pub use formula::Formula;
+pub use op::Op;
+pub use stack::Stack;

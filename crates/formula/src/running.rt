@@ -1,0 +1,169 @@
+// Steps on a stack. Nothing is called back, and no box is followed.
+
+ghost use Rattle.std.specs.Prelude.{◌≡◌, ℤ, ◌+◌, ◌^◌, ◌<◌, ◌≤◌, ◌∷◌, length, IfOk, IsTrue};
+ghost use Rattle.gcl_core.specs.Value.{fits_64, applied, value_of, Reads};
+ghost use Rattle.formula.specs.Steps.{steps_of, depth};
+ghost use Rattle.formula.specs.ReadBack.{expression_in};
+ghost use Rattle.formula.specs.OnStack.{move, CameTo, Goes};
+ghost use Rattle.formula.specs.Forms.{atom_value, AtomReads, values};
+ghost use Rattle.gcl_core.specs.Syntax.{Expression};
+
+use crate::op::{Atom, Op};
+use gcl_core::{BinOp, Fault};
+
+// The result of an operator on two values.
+#[inline(always)]
+pub(crate) fn apply(op: BinOp, x: i64, y: i64) -> Result<i64, Fault>
+    ensures { result ≡ applied op x y }
+{
+    match op {
+        BinOp::Add => x.checked_add(y).ok_or(Fault::Overflow),
+        BinOp::Sub => x.checked_sub(y).ok_or(Fault::Overflow),
+        BinOp::Mul => x.checked_mul(y).ok_or(Fault::Overflow),
+        BinOp::Div | BinOp::Rem if y == 0 => Err(Fault::ZeroDivisor),
+        BinOp::Div => x.checked_div(y).ok_or(Fault::Overflow),
+        BinOp::Rem => x.checked_rem(y).ok_or(Fault::Overflow),
+        BinOp::Eq => Ok(i64::from(x == y)),
+        BinOp::Ne => Ok(i64::from(x != y)),
+        BinOp::Lt => Ok(i64::from(x < y)),
+        BinOp::Le => Ok(i64::from(x <= y)),
+        BinOp::Gt => Ok(i64::from(x > y)),
+        BinOp::Ge => Ok(i64::from(x >= y)),
+        BinOp::And | BinOp::Or => Ok(i64::from(y != 0)),
+    }
+}
+
+#[inline(always)]
+pub(crate) fn atom_value(a: Atom, vars: &[i64]) -> i64
+    requires { AtomReads a (length vars.now) }
+    ensures value { result ≡ atom_value a vars.now }
+    ensures small { IsTrue (fits_64 result) }
+{
+    match a {
+        Atom::Num(n) => n,
+        Atom::Var(x) => vars[x as usize],
+    }
+}
+
+// Where the steps stand: the index of the next, the value on top, and how many values there are. Those below the top lie in slots
+// from the second on.
+#[derive(Clone, Copy, PartialEq, Eq, Debug)]
+pub(crate) struct Point {
+    at: usize,
+    top: i64,
+    held: usize,
+}
+
+// On to the step of an index.
+#[inline(always)]
+fn go(at: usize, top: i64, held: usize) -> Point
+    ensures at { result.at ≡ at }
+    ensures top { result.top ≡ top }
+    ensures held { result.held ≡ held }
+    ensures small { IsTrue (fits_64 result.top) }
+{
+    Point { at, top, held }
+}
+
+// A value on top.
+#[inline(always)]
+fn put(slots: &mut [i64], at: usize, top: i64, held: usize, v: i64) -> Point
+    requires room { held < length slots.old }
+    requires within { at + 1 < 2 ^ 64 }
+    ensures values { values result.top result.held slots.new ≡ v ∷ values top held slots.old }
+    ensures at { result.at ≡ at + 1 }
+    ensures held { result.held ≤ length slots.new }
+    ensures small { IsTrue (fits_64 result.top) }
+    ensures room { length slots.new ≡ length slots.old }
+{
+    slots[held] = top;
+    Point {
+        at: at + 1,
+        top: v,
+        held: held + 1,
+    }
+}
+
+// Takes the top away.
+#[inline(always)]
+fn pop(slots: &[i64], at: usize, held: usize) -> Point
+    requires some { 0 < held }
+    requires held { held ≤ length slots.now }
+    requires within { at + 1 < 2 ^ 64 }
+    ensures values { (top : ℤ) → values top held slots.now ≡ top ∷ values result.top result.held slots.now }
+    ensures at { result.at ≡ at + 1 }
+    ensures held { result.held ≤ length slots.now }
+    ensures small { IsTrue (fits_64 result.top) }
+{
+    let under = held - 1;
+    Point {
+        at: at + 1,
+        top: slots[under],
+        held: under,
+    }
+}
+
+// One step.
+#[inline(always)]
+fn take(
+    op: Op,
+    vars: &[i64],
+    slots: &mut [i64],
+    at: usize,
+    top: i64,
+    held: usize,
+) -> Result<Point, Fault>
+    requires within { at + 1 < 2 ^ 64 }
+    requires held { held ≤ length slots.old }
+    requires goes { Goes (move (length slots.old) vars.now op at (values top held slots.old)) }
+    ensures came { CameTo (move (length slots.old) vars.now op at (values top held slots.old)) at slots.new result }
+    ensures held { IfOk result (λ p. p.held ≤ length slots.new) }
+    ensures small { IfOk result (λ p. IsTrue (fits_64 p.top)) }
+    ensures room { length slots.new ≡ length slots.old }
+{
+    match op {
+        Op::Push(n) => Ok(put(slots, at, top, held, n)),
+        Op::Truth(b) => Ok(put(slots, at, top, held, i64::from(b))),
+        Op::Load(x) => Ok(put(slots, at, top, held, vars[x as usize])),
+        Op::Neg => Ok(go(at + 1, top.checked_neg().ok_or(Fault::Overflow)?, held)),
+        Op::Not => Ok(go(at + 1, i64::from(top == 0), held)),
+        Op::Bin(op) => {
+            let p = pop(slots, at, held);
+            Ok(go(p.at, apply(op, p.top, top)?, p.held))
+        }
+        Op::AndSkip(target) => {
+            if top == 0 {
+                Ok(go(target, top, held))
+            } else {
+                Ok(pop(slots, at, held))
+            }
+        }
+        Op::OrSkip(target) => {
+            if top == 0 {
+                Ok(pop(slots, at, held))
+            } else {
+                Ok(go(target, 1, held))
+            }
+        }
+        Op::Settle => Ok(go(at + 1, i64::from(top != 0), held)),
+    }
+}
+
+// The value of the expression that the steps stand for.
+pub(crate) fn value(steps: &[Op], vars: &[i64], slots: &mut [i64]) -> Result<i64, Fault>
+    requires stands { (e : Expression) × (steps.now ≡ steps_of e) × Reads e (length vars.now) × (depth e ≤ length slots.old) }
+    ensures value { result ≡ value_of (expression_in steps.now) vars.now }
+    ensures room { length slots.new ≡ length slots.old }
+{
+    let mut at = 0;
+    let mut top = 0i64;
+    let mut held = 0;
+    while at < steps.len() {
+        let op = steps[at];
+        let p = take(op, vars, slots, at, top, held)?;
+        at = p.at;
+        top = p.top;
+        held = p.held;
+    }
+    Ok(top)
+}

@@ -1,0 +1,112 @@
+// The steps of `x < 2 and not y = 1`, and short forms.
+
+ghost use Rattle.std.specs.Prelude.{◌≡◌, pos, IfOk};
+ghost use Rattle.gcl_core.specs.declared.syntax.BinOp.TheVariants.{And, Lt, Eq, Sub};
+ghost use Rattle.gcl_core.specs.Syntax.{number, variable, opposite, binary};
+ghost use Rattle.gcl_core.specs.Views.{expression_of};
+
+use crate::{Formula, Op, Stack};
+use gcl_core::{BinOp, Expr, Fault};
+use std::alloc::{AllocError, Global};
+use std::marker::{Send, Sync};
+use std::test::Fail;
+
+const X: u32 = 0;
+
+const Y: u32 = 1;
+
+// An operator on a variable and a number.
+fn compare(alloc: Global, op: BinOp, x: u32, n: i64) -> Result<Expr, AllocError>
+    ensures { IfOk result (λ e. expression_of e ≡ binary op (variable x) (number n)) }
+{
+    Ok(Expr::Bin(
+        op,
+        Box::new(alloc, Expr::Var(x))?,
+        Box::new(alloc, Expr::Num(n))?,
+    ))
+}
+
+fn condition(alloc: Global) -> Result<Expr, AllocError>
+    ensures { IfOk result (λ e. expression_of e ≡ binary And (binary Lt (variable 0) (number (pos 2))) (opposite (binary Eq (variable 1) (number (pos 1))))) }
+{
+    let below = compare(alloc, BinOp::Lt, X, 2)?;
+    let equal = compare(alloc, BinOp::Eq, Y, 1)?;
+    let other = Expr::Not(Box::new(alloc, equal)?);
+    Ok(Expr::Bin(BinOp::And, Box::new(alloc, below)?, Box::new(alloc, other)?))
+}
+
+const STEPS: [Op; 9] = [
+    Op::Load(X),
+    Op::Push(2),
+    Op::Bin(BinOp::Lt),
+    Op::AndSkip(9),
+    Op::Load(Y),
+    Op::Push(1),
+    Op::Bin(BinOp::Eq),
+    Op::Not,
+    Op::Settle,
+];
+
+// The steps of a formula.
+fn listed(alloc: Global, formula: &Formula) -> Result<Vec<Op>, AllocError> {
+    let mut steps = Vec::new(alloc);
+    for i in 0..formula.count() {
+        steps.push(formula.op(i))?;
+    }
+    Ok(steps)
+}
+
+#[test]
+fn the_steps_of_a_condition(rt: HostRuntime) -> Result<(), Fail> {
+    let alloc = rt.alloc();
+    let formula = Formula::of(alloc, &condition(alloc)?)?;
+    let steps = listed(alloc, &formula)?;
+    assert_eq!(rt; steps.as_slice(), STEPS.as_slice());
+    let again = Formula::of(alloc, &formula.tree(alloc)?)?;
+    let steps = listed(alloc, &again)?;
+    assert_eq!(rt; steps.as_slice(), STEPS.as_slice());
+    Ok(())
+}
+
+#[test]
+fn the_values_of_a_condition(rt: HostRuntime) -> Result<(), Fail> {
+    let alloc = rt.alloc();
+    let formula = Formula::of(alloc, &condition(alloc)?)?;
+    let mut stack = Stack::new(alloc, formula.depth())?;
+    assert_eq!(rt; stack.room(), 2);
+    assert_eq!(rt; formula.value(&[0, 1], &mut stack), Ok(0));
+    assert_eq!(rt; formula.value(&[0, 0], &mut stack), Ok(1));
+    assert_eq!(rt; formula.value(&[2, 0], &mut stack), Ok(0));
+    Ok(())
+}
+
+const DIFFERENCE: [Op; 3] = [Op::Load(X), Op::Push(1), Op::Bin(BinOp::Sub)];
+
+// One operator on a variable and a number needs no stack.
+#[test]
+fn a_short_form(rt: HostRuntime) -> Result<(), Fail> {
+    let alloc = rt.alloc();
+    let formula = Formula::of(alloc, &compare(alloc, BinOp::Sub, X, 1)?)?;
+    let steps = listed(alloc, &formula)?;
+    assert_eq!(rt; steps.as_slice(), DIFFERENCE.as_slice());
+    let mut stack = Stack::new(alloc, 2)?;
+    assert_eq!(rt; formula.value(&[5], &mut stack), Ok(4));
+    assert_eq!(rt;
+        formula.value(&[i64::MIN], &mut stack),
+        Err(Fault::Overflow)
+    );
+    Ok(())
+}
+
+fn lent<T: Sync>() {}
+
+fn handed<T: Send>() {}
+
+// Formulas may be lent and handed to threads, stacks handed.
+#[test]
+fn threads_are_lent_and_handed_formulas(_rt: HostRuntime) -> Result<(), Fail> {
+    lent::<Formula>();
+    handed::<Formula>();
+    handed::<Stack>();
+    Ok(())
+}
