@@ -1,141 +1,164 @@
--- A limit of attempts raises the weight of no end of a block but its own.
-use Rattle.std.proofs.Common.{◌≡◌, ℕ, zero, suc, ◌*◌, ◌^◌, ◌≤◌, ◌<◌, ℤ, pos, negsuc, Bool, true, false, cond, Option, Some, None, Ok, Err, length, refl, subst, arith}
+-- The ends of a block under first limits and under second ones. Some limits are bad: under the first, their ends alone may weigh more. So
+-- fewer turns come only where the limit of turns is bad, and draws that leave more without a class only where that of attempts is.
+use Rattle.std.proofs.Common.{◌≡◌, ℕ, zero, suc, ◌*◌, ◌^◌, ◌≤◌, ◌<◌, ℤ, pos, negsuc, Bool, true, false, cond, Option, Some, None, Ok, Err, List, length, refl, subst, arith}
 use Rattle.std.specs.Prelude.{slice_set}
 use Rattle.std.proofs.lemmas.Bool.{ltb-true, lt-ltb}
 use Rattle.gcl_core.specs.declared.answers.Fault.TheVariants.{BadBound}
-use Rattle.gcl_core.specs.declared.answers.Limit.TheVariants.{Turns, Attempts, Rounds}
+use Rattle.gcl_core.specs.declared.answers.Limit.{Limit}
+use Rattle.gcl_core.specs.declared.answers.Limit.TheVariants.{Turns, Attempts}
 use Rattle.gcl_core.specs.Bounds.{IsWeight, StatementWeights, BlockWeights, StatementFits, BlockFits}
 use Rattle.gcl_core.specs.Syntax.{Statement, skip, assign, branch, loop, choice, uniform, observe, Statements, done, ◌▸◌}
 use Rattle.gcl_core.specs.Value.{State, Value, value_of, is_zero, fits_64}
 use Rattle.gcl_core.specs.Draw.{last_end}
+use Rattle.gcl_core.specs.OneDraw.{Ascends}
 use Rattle.gcl_core.specs.Blocks.{End, on, failed, fault, limit, by_value, by_truth, by_class, by_side, by_end, choice_ends, uniform_ends}
 use Rattle.gcl_core.specs.WeightedEnds.{Weighted, sure, taken_on, weighted_classes, uniform_weighted, loop_weighted, statement_weighted, weighted_ends}
 use Rattle.gcl_core.specs.Fitting.{state_fits}
 use Rattle.gcl_core.proofs.FittingValues.{end_fits, value_fits, set_fits}
-use Rattle.weighing_law.proofs.Comparing.{Compared, cmp_sure, cmp_more, cmp_then, NoClass, cmp_draw}
+use Rattle.weighing_law.proofs.Comparing.{Compared, cmp_sure, cmp_more, cmp_then}
 use Rattle.weighing_law.proofs.DrawMatching.{class_below}
-use Rattle.weighing_law.proofs.Scales.{Scale, loop_scale, statement_scale, block_scale}
+use Rattle.weighing_law.proofs.Scales.{loop_scale, statement_scale, block_scale}
 use Rattle.weighing_law.proofs.Uniform.{range_ascends, uniform_last, uniform_length}
 
-abbrev pub CutOff : End → Type 0
-CutOff (on s) = ⊥
-CutOff failed = ⊥
-CutOff (fault f) = ⊥
-CutOff (limit Turns) = ⊥
-CutOff (limit Attempts) = Unit {0}
-CutOff (limit Rounds) = ⊥
+module _ (bad : Limit → Type 0) where
+  abbrev pub BadEnd : End → Type 0
+  BadEnd (on s) = ⊥
+  BadEnd failed = ⊥
+  BadEnd (fault f) = ⊥
+  BadEnd (limit l) = bad l
 
-abbrev pub Pair : ℕ → Weighted End → Weighted End → Type 0
-Pair N m m' = Compared end_fits N CutOff m m'
+  abbrev pub BadClass : Option ℕ → Type 0
+  BadClass None = bad Attempts
+  BadClass (Some i) = ⊥
 
-abbrev pair_sure : (N : ℕ) (e : End) → end_fits e ≡ true → Pair N (sure e) (sure e)
-pair_sure N e p = cmp_sure end_fits N CutOff e p
+  abbrev pub Pair : ℕ → Weighted End → Weighted End → Type 0
+  Pair N m m' = Compared end_fits N BadEnd m m'
 
-pair_at : (N M : ℕ) (m m' : Weighted End) → N ≡ M → Pair N m m' → Pair M m m'
-pair_at N M m m' e l = subst (λ n. Pair n m m') e l
+  abbrev pair_sure : (N : ℕ) (e : End) → end_fits e ≡ true → Pair N (sure e) (sure e)
+  pair_sure N e p = cmp_sure end_fits N BadEnd e p
 
--- what counts nothing at ends that are cut off
-abbrev Spares : (End → ℕ) → Type 0
-Spares G = (e : End) → CutOff e → G e ≡ 0
+  pair_at : (N M : ℕ) (m m' : Weighted End) → N ≡ M → Pair N m m' → Pair M m m'
+  pair_at N M m m' e l = subst (λ n. Pair n m m') e l
 
--- ---- going on by cases
-pair_value : (N : ℕ) (v : Value) (k k' : ℤ → Weighted End) → ((z : ℤ) → v ≡ Ok z → Pair N (k z) (k' z)) → Pair N (by_value (λ f. sure (fault f)) v k) (by_value (λ f. sure (fault f)) v k')
-pair_value N (Ok z) k k' h = h z refl
-pair_value N (Err f) k k' h = pair_sure N (fault f) refl
+  -- what ran out of turns at once, where that is bad
+  pair_turns : (N : ℕ) (m m' : Weighted End) → bad Turns → Pair N m m' → Pair N (sure (limit Turns)) m'
+  pair_turns N m m' b l = record {
+    low = λ G. N * G (limit Turns);
+    high = l.high;
+    low_entries = (refl, tt);
+    high_entries = l.high_entries;
+    low_counts = λ G. (N, 0, omega arith, refl, omega arith);
+    high_counts = l.high_counts;
+    below = λ G H z h. rw (z (limit Turns) b) (omega arith);
+  }
 
-pair_truth : (N : ℕ) (z : ℤ) (m m' n n' : Weighted End) → Pair N m m' → Pair N n n' → Pair N (by_truth z m n) (by_truth z m' n')
-pair_truth N z m m' n n' p q = by_test (is_zero z)
-  where
-    by_test : (b : Bool) → Pair N (cond b n m) (cond b n' m')
-    by_test true = q
-    by_test false = p
+  -- what counts nothing at ends that are bad
+  abbrev Spares : (End → ℕ) → Type 0
+  Spares G = (e : End) → BadEnd e → G e ≡ 0
 
-abbrev pair_end : (N : ℕ) (e : End) (k k' : State → Weighted End) → ((s : State) → state_fits s ≡ true → Pair N (k s) (k' s)) → end_fits e ≡ true → Pair N (by_end sure e k) (by_end sure e k')
-pair_end N (on s) k k' h p = h s p
-pair_end N failed k k' h p = pair_sure N failed p
-pair_end N (fault f) k k' h p = pair_sure N (fault f) p
-pair_end N (limit l) k k' h p = pair_sure N (limit l) p
+  -- ---- going on by cases
+  pair_value : (N : ℕ) (v : Value) (k k' : ℤ → Weighted End) → ((z : ℤ) → v ≡ Ok z → Pair N (k z) (k' z)) → Pair N (by_value (λ f. sure (fault f)) v k) (by_value (λ f. sure (fault f)) v k')
+  pair_value N (Ok z) k k' h = h z refl
+  pair_value N (Err f) k k' h = pair_sure N (fault f) refl
 
-dead_end : (N : ℕ) (e : End) (k k' : State → Weighted End) (h : (s : State) → state_fits s ≡ true → Pair N (k s) (k' s)) (p : end_fits e ≡ true) → CutOff e → (G : End → ℕ) → Spares G → (pair_end N e k k' h p).low G ≡ 0
-dead_end N (on s) k k' h p b G z = absurd b
-dead_end N failed k k' h p b G z = absurd b
-dead_end N (fault f) k k' h p b G z = absurd b
-dead_end N (limit Turns) k k' h p b G z = absurd b
-dead_end N (limit Attempts) k k' h p b G z = rw (z (limit Attempts) tt) (omega arith)
-dead_end N (limit Rounds) k k' h p b G z = absurd b
+  pair_truth : (N : ℕ) (z : ℤ) (m m' n n' : Weighted End) → Pair N m m' → Pair N n n' → Pair N (by_truth z m n) (by_truth z m' n')
+  pair_truth N z m m' n n' p q = by_test (is_zero z)
+    where
+      by_test : (b : Bool) → Pair N (cond b n m) (cond b n' m')
+      by_test true = q
+      by_test false = p
 
-abbrev pair_class : (N n : ℕ) (o : Option ℕ) (k k' : ℕ → Weighted End) → ((i : ℕ) → i < n → Pair N (k i) (k' i)) → class_below n o ≡ true → Pair N (by_class (sure (limit Attempts)) o k) (by_class (sure (limit Attempts)) o k')
-pair_class N n None k k' h p = pair_sure N (limit Attempts) refl
-pair_class N n (Some i) k k' h p = h i (ltb-true i n p)
+  abbrev pair_end : (N : ℕ) (e : End) (k k' : State → Weighted End) → ((s : State) → state_fits s ≡ true → Pair N (k s) (k' s)) → end_fits e ≡ true → Pair N (by_end sure e k) (by_end sure e k')
+  pair_end N (on s) k k' h p = h s p
+  pair_end N failed k k' h p = pair_sure N failed p
+  pair_end N (fault f) k k' h p = pair_sure N (fault f) p
+  pair_end N (limit l) k k' h p = pair_sure N (limit l) p
 
-dead_class : (N n : ℕ) (o : Option ℕ) (k k' : ℕ → Weighted End) (h : (i : ℕ) → i < n → Pair N (k i) (k' i)) (p : class_below n o ≡ true) → NoClass o → (G : End → ℕ) → Spares G → (pair_class N n o k k' h p).low G ≡ 0
-dead_class N n None k k' h p b G z = rw (z (limit Attempts) tt) (omega arith)
-dead_class N n (Some i) k k' h p b G z = absurd b
+  dead_end : (N : ℕ) (e : End) (k k' : State → Weighted End) (h : (s : State) → state_fits s ≡ true → Pair N (k s) (k' s)) (p : end_fits e ≡ true) → BadEnd e → (G : End → ℕ) → Spares G → (pair_end N e k k' h p).low G ≡ 0
+  dead_end N (on s) k k' h p b G z = absurd b
+  dead_end N failed k k' h p b G z = absurd b
+  dead_end N (fault f) k k' h p b G z = absurd b
+  dead_end N (limit l) k k' h p b G z = rw (z (limit l) b) (omega arith)
 
-pair_side : (N i : ℕ) (m m' n n' : Weighted End) → Pair N m m' → Pair N n n' → Pair N (by_side i m n) (by_side i m' n')
-pair_side N zero m m' n n' p q = p
-pair_side N (suc i) m m' n n' p q = q
+  -- a list of ends, and what follows its states
+  pair_then : (N M : ℕ) (m m' : Weighted End) (k k' : State → Weighted End) → Pair N m m' → ((s : State) → state_fits s ≡ true → Pair M (k s) (k' s)) →
+      Pair (N * M) (taken_on m (λ e. by_end sure e k)) (taken_on m' (λ e. by_end sure e k'))
+  pair_then N M m m' k k' l h =
+      cmp_then end_fits end_fits N M BadEnd BadEnd m m' (λ e. by_end sure e k) (λ e. by_end sure e k') l (λ e q. pair_end M e k k' h q) (λ e q b. dead_end M e k k' h q b)
 
--- ---- loops
-pair_loop : (S : ℕ) (guard : State → Value) (m m' : State → Weighted End) → ((s : State) → state_fits s ≡ true → Pair S (m s) (m' s)) →
-    (t : ℕ) (s : State) → state_fits s ≡ true → Pair (loop_scale S t) (loop_weighted guard m t s) (loop_weighted guard m' t s)
-pair_loop S guard m m' h zero s p = pair_value 1 (guard s) _ _ (λ z e. pair_truth 1 z _ _ _ _ (pair_sure 1 (limit Turns) refl) (pair_sure 1 (on s) p))
-pair_loop S guard m m' h (suc t) s p =
-    let M = loop_scale S t in
-    pair_value (S * M) (guard s) _ _ (λ z e. pair_truth (S * M) z _ _ _ _
-    (cmp_then end_fits end_fits S M CutOff CutOff (m s) (m' s) _ _ (h s p)
-    (λ x q. pair_end M x _ _ (λ s' p'. pair_loop S guard m m' h t s' p') q) (λ x q b. dead_end M x _ _ (λ s' p'. pair_loop S guard m m' h t s' p') q b))
-    (pair_sure (S * M) (on s) p))
+  abbrev pair_class : (N n : ℕ) (o : Option ℕ) (k k' : ℕ → Weighted End) → ((i : ℕ) → i < n → Pair N (k i) (k' i)) → class_below n o ≡ true → Pair N (by_class (sure (limit Attempts)) o k) (by_class (sure (limit Attempts)) o k')
+  pair_class N n None k k' h p = pair_sure N (limit Attempts) refl
+  pair_class N n (Some i) k k' h p = h i (ltb-true i n p)
 
--- ---- statements
-module _ (n r K : ℕ) (scale : Scale r K) where
-  pair_drawn : (m x : ℕ) (s : State) → state_fits s ≡ true → 1 ≤ m → m < 2 ^ 63 →
-      Pair (K * 1) (taken_on (weighted_classes (uniform_ends m) (Some r)) (λ class. by_class (sure (limit Attempts)) class (λ i. sure (on (slice_set s x (pos i))))))
-      (taken_on (weighted_classes (uniform_ends m) None) (λ class. by_class (sure (limit Attempts)) class (λ i. sure (on (slice_set s x (pos i))))))
-  pair_drawn m x s p some small =
-      let e = uniform_last m in
-      let l = length (uniform_ends m) in
-      let c = scale (last_end (uniform_ends m)) (omega arith) (omega arith) in
-      let stays = λ (i : ℕ) (lt : i < l). pair_sure 1 (on (slice_set s x (pos i))) (set_fits s x (pos i) p (lt-ltb i (2 ^ 63) (let q = uniform_length m in omega arith))) in
-      cmp_then (class_below l) end_fits K 1 NoClass CutOff (weighted_classes (uniform_ends m) (Some r)) (weighted_classes (uniform_ends m) None) _ _
-      (cmp_draw (uniform_ends m) r K c.0 c.1 (range_ascends 0 m) (omega arith) c.2 c.3)
-      (λ o q. pair_class 1 l o _ _ stays q) (λ o q b. dead_class 1 l o _ _ stays q b)
+  dead_class : (N n : ℕ) (o : Option ℕ) (k k' : ℕ → Weighted End) (h : (i : ℕ) → i < n → Pair N (k i) (k' i)) (p : class_below n o ≡ true) → BadClass o → (G : End → ℕ) → Spares G → (pair_class N n o k k' h p).low G ≡ 0
+  dead_class N n None k k' h p b G z = rw (z (limit Attempts) b) (omega arith)
+  dead_class N n (Some i) k k' h p b G z = absurd b
 
-  pair_uniform : (x : ℕ) (z : ℤ) (s : State) → fits_64 z ≡ true → state_fits s ≡ true → Pair (K * 1) (uniform_weighted (Some r) x z s) (uniform_weighted None x z s)
-  pair_uniform x (pos zero) s f p = pair_sure (K * 1) (fault BadBound) refl
-  pair_uniform x (negsuc m) s f p = pair_sure (K * 1) (fault BadBound) refl
-  pair_uniform x (pos (suc m)) s f p = pair_drawn (suc m) x s p (omega arith) (ltb-true _ _ f)
+  pair_side : (N i : ℕ) (m m' n n' : Weighted End) → Pair N m m' → Pair N n n' → Pair N (by_side i m n) (by_side i m' n')
+  pair_side N zero m m' n n' p q = p
+  pair_side N (suc i) m m' n n' p q = q
 
-  mutual
-    pub pair_statement : (st : Statement) → StatementWeights IsWeight st → StatementFits st → (s : State) → state_fits s ≡ true → Pair (statement_scale n K st) (statement_weighted n (Some r) st s) (statement_weighted n None st s)
-    pair_statement skip ok f s p = pair_sure 1 (on s) p
-    pair_statement (assign x e) ok f s p = pair_value 1 (value_of e s) _ _ (λ z q. pair_sure 1 (on (slice_set s x z)) (set_fits s x z p (value_fits e s z f p q)))
-    pair_statement (observe e) ok f s p = pair_value 1 (value_of e s) _ _ (λ z q. pair_truth 1 z _ _ _ _ (pair_sure 1 (on s) p) (pair_sure 1 failed refl))
-    pair_statement (branch e a c) ok f s p =
-        let A = block_scale n K a in
-        let C = block_scale n K c in
-        pair_value (A * C) (value_of e s) _ _
-        (λ z q. pair_truth (A * C) z _ _ _ _
-        (cmp_more end_fits A C CutOff _ _ (pair_block a ok.0 f.1 s p))
-        (pair_at (C * A) (A * C) _ _ (omega arith) (cmp_more end_fits C A CutOff _ _ (pair_block c ok.1 f.2 s p))))
-    pair_statement (choice w a c) ok f s p =
-        let A = block_scale n K a in
-        let C = block_scale n K c in
-        let side = λ (i : ℕ) (lt : i < 2). pair_side (A * C) i _ _ _ _
-        (cmp_more end_fits A C CutOff _ _ (pair_block a ok.1 f.0 s p))
-        (pair_at (C * A) (A * C) _ _ (omega arith) (cmp_more end_fits C A CutOff _ _ (pair_block c ok.2 f.1 s p))) in
-        let positive = ok.0.positive in
-        let coarse = ok.0.coarse in
-        let d = scale w.den positive (omega arith) in
-        cmp_then (class_below 2) end_fits K (A * C) NoClass CutOff (weighted_classes (choice_ends w) (Some r)) (weighted_classes (choice_ends w) None) _ _
-        (cmp_draw (choice_ends w) r K d.0 d.1 (omega arith, (ok.0.at_most_one, tt)) positive d.2 d.3)
-        (λ o q. pair_class (A * C) 2 o _ _ side q) (λ o q b. dead_class (A * C) 2 o _ _ side q b)
-    pair_statement (uniform x e) ok f s p =
-        pair_value (K * 1) (value_of e s) _ _ (λ z q. pair_uniform x z s (value_fits e s z f p q) p)
-    pair_statement (loop e a) ok f s p = pair_loop (block_scale n K a) (value_of e) (weighted_ends n (Some r) a) (weighted_ends n None a) (pair_block a ok f.1) n s p
+  -- ---- loops: at most t turns, and at most t'
+  pair_loop : (S : ℕ) (guard : State → Value) (m m' : State → Weighted End) → ((s : State) → state_fits s ≡ true → Pair S (m s) (m' s)) →
+      (t' t : ℕ) → t ≤ t' → (t < t' → bad Turns) → (s : State) → state_fits s ≡ true → Pair (loop_scale S t') (loop_weighted guard m t s) (loop_weighted guard m' t' s)
+  pair_loop S guard m m' h zero zero le lost s p = pair_value 1 (guard s) _ _ (λ z e. pair_truth 1 z _ _ _ _ (pair_sure 1 (limit Turns) refl) (pair_sure 1 (on s) p))
+  pair_loop S guard m m' h zero (suc t) le lost s p = absurd (omega arith)
+  pair_loop S guard m m' h (suc t') zero le lost s p =
+      let M = loop_scale S t' in
+      pair_value (S * M) (guard s) _ _ (λ z e. pair_truth (S * M) z _ _ _ _
+      (pair_turns (S * M) (taken_on (m s) (λ e. by_end sure e (loop_weighted guard m 0))) _ (lost (omega arith))
+      (pair_then S M (m s) (m' s) (loop_weighted guard m 0) (loop_weighted guard m' t') (h s p) (λ s' q. pair_loop S guard m m' h t' 0 (omega arith) (λ lt. lost (omega arith)) s' q)))
+      (pair_sure (S * M) (on s) p))
+  pair_loop S guard m m' h (suc t') (suc t) le lost s p =
+      let M = loop_scale S t' in
+      pair_value (S * M) (guard s) _ _ (λ z e. pair_truth (S * M) z _ _ _ _
+      (pair_then S M (m s) (m' s) (loop_weighted guard m t) (loop_weighted guard m' t') (h s p) (λ s' q. pair_loop S guard m m' h t' t (omega arith) (λ lt. lost (omega arith)) s' q))
+      (pair_sure (S * M) (on s) p))
 
-    pub pair_block : (b : Statements) → BlockWeights IsWeight b → BlockFits b → (s : State) → state_fits s ≡ true → Pair (block_scale n K b) (weighted_ends n (Some r) b s) (weighted_ends n None b s)
-    pair_block done ok f s p = pair_sure 1 (on s) p
-    pair_block (st ▸ b) ok f s p =
-        cmp_then end_fits end_fits (statement_scale n K st) (block_scale n K b) CutOff CutOff (statement_weighted n (Some r) st s) (statement_weighted n None st s) _ _ (pair_statement st ok.0 f.0 s p)
-        (λ e q. pair_end (block_scale n K b) e _ _ (pair_block b ok.1 f.1) q) (λ e q bad. dead_end (block_scale n K b) e _ _ (pair_block b ok.1 f.1) q bad)
+  -- ---- statements
+  module _ (n n' K : ℕ) (r r' : Option ℕ) (more : n ≤ n') (lost : n < n' → bad Turns)
+      (draws : (ends : List ℕ) → Ascends 0 ends → 1 ≤ last_end ends → last_end ends ≤ 2 ^ 63 → Compared (class_below (length ends)) K BadClass (weighted_classes ends r) (weighted_classes ends r')) where
+    pair_uniform : (x : ℕ) (z : ℤ) (s : State) → fits_64 z ≡ true → state_fits s ≡ true → Pair (K * 1) (uniform_weighted r x z s) (uniform_weighted r' x z s)
+    pair_uniform x (pos zero) s f p = pair_sure (K * 1) (fault BadBound) refl
+    pair_uniform x (negsuc m) s f p = pair_sure (K * 1) (fault BadBound) refl
+    pair_uniform x (pos (suc m)) s f p =
+        let e = uniform_last (suc m) in
+        let small : suc m < 2 ^ 63 = ltb-true _ _ f in
+        let ends = uniform_ends (suc m) in
+        let l = length ends in
+        let stays = λ (i : ℕ) (lt : i < l). pair_sure 1 (on (slice_set s x (pos i))) (set_fits s x (pos i) p (lt-ltb i (2 ^ 63) (let q = uniform_length (suc m) in omega arith))) in
+        cmp_then (class_below l) end_fits K 1 BadClass BadEnd (weighted_classes ends r) (weighted_classes ends r') _ _
+        (draws ends (range_ascends 0 (suc m)) (omega arith) (omega arith)) (λ o q. pair_class 1 l o _ _ stays q) (λ o q b. dead_class 1 l o _ _ stays q b)
+
+    mutual
+      pub compare_statement : (st : Statement) → StatementWeights IsWeight st → StatementFits st → (s : State) → state_fits s ≡ true →
+          Pair (statement_scale n' K st) (statement_weighted n r st s) (statement_weighted n' r' st s)
+      compare_statement skip ok f s p = pair_sure 1 (on s) p
+      compare_statement (assign x e) ok f s p = pair_value 1 (value_of e s) _ _ (λ z q. pair_sure 1 (on (slice_set s x z)) (set_fits s x z p (value_fits e s z f p q)))
+      compare_statement (observe e) ok f s p = pair_value 1 (value_of e s) _ _ (λ z q. pair_truth 1 z _ _ _ _ (pair_sure 1 (on s) p) (pair_sure 1 failed refl))
+      compare_statement (branch e a c) ok f s p =
+          let A = block_scale n' K a in
+          let C = block_scale n' K c in
+          pair_value (A * C) (value_of e s) _ _
+          (λ z q. pair_truth (A * C) z _ _ _ _
+          (cmp_more end_fits A C BadEnd _ _ (compare_block a ok.0 f.1 s p))
+          (pair_at (C * A) (A * C) _ _ (omega arith) (cmp_more end_fits C A BadEnd _ _ (compare_block c ok.1 f.2 s p))))
+      compare_statement (choice w a c) ok f s p =
+          let A = block_scale n' K a in
+          let C = block_scale n' K c in
+          let side = λ (i : ℕ) (lt : i < 2). pair_side (A * C) i _ _ _ _
+          (cmp_more end_fits A C BadEnd _ _ (compare_block a ok.1 f.0 s p))
+          (pair_at (C * A) (A * C) _ _ (omega arith) (cmp_more end_fits C A BadEnd _ _ (compare_block c ok.2 f.1 s p))) in
+          let positive = ok.0.positive in
+          let coarse = ok.0.coarse in
+          cmp_then (class_below 2) end_fits K (A * C) BadClass BadEnd (weighted_classes (choice_ends w) r) (weighted_classes (choice_ends w) r') _ _
+          (draws (choice_ends w) (omega arith, (ok.0.at_most_one, tt)) positive (omega arith))
+          (λ o q. pair_class (A * C) 2 o _ _ side q) (λ o q b. dead_class (A * C) 2 o _ _ side q b)
+      compare_statement (uniform x e) ok f s p = pair_value (K * 1) (value_of e s) _ _ (λ z q. pair_uniform x z s (value_fits e s z f p q) p)
+      compare_statement (loop e a) ok f s p = pair_loop (block_scale n' K a) (value_of e) (weighted_ends n r a) (weighted_ends n' r' a) (compare_block a ok f.1) n' n more lost s p
+
+      pub compare_block : (b : Statements) → BlockWeights IsWeight b → BlockFits b → (s : State) → state_fits s ≡ true → Pair (block_scale n' K b) (weighted_ends n r b s) (weighted_ends n' r' b s)
+      compare_block done ok f s p = pair_sure 1 (on s) p
+      compare_block (st ▸ b) ok f s p =
+          pair_then (statement_scale n' K st) (block_scale n' K b) (statement_weighted n r st s) (statement_weighted n' r' st s) (weighted_ends n r b) (weighted_ends n' r' b)
+          (compare_statement st ok.0 f.0 s p) (compare_block b ok.1 f.1)

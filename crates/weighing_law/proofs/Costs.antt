@@ -19,8 +19,9 @@ use Rattle.gcl_core.proofs.Trees.{worth, spread-add, spread-ext}
 use Rattle.gcl_core.proofs.TreeWeights.{chi}
 use Rattle.gcl_core.proofs.FittingValues.{zeros_fit}
 use Rattle.weighing_law.specs.LimitsCost.{is_cut_off, MayPass}
-use Rattle.weighing_law.proofs.ComparedBlocks.{CutOff, Pair, pair_block}
+use Rattle.weighing_law.proofs.ComparedBlocks.{Pair}
 use Rattle.weighing_law.proofs.EveryLength.{worth-all}
+use Rattle.weighing_law.proofs.LimitedBlocks.{OfAttempts, CutOff, limited_block}
 use Rattle.weighing_law.proofs.Scales.{scale_of, scales, block_scale, block_scale_pos}
 use Rattle.weighing_law.proofs.Shares.{counts_sum, sum_pos, product_pos, cancel}
 use Rattle.weighing_law.proofs.WholeRuns.{all_bits, run_tree, run_within, event_mass, tree_share, mass_pos}
@@ -61,8 +62,8 @@ module _ (p : Source) (ok : IsChecked p) (n r : ℕ) where
   abbrev scale : ℕ
   scale = block_scale n (scale_of r) p.body
 
-  abbrev pair : Pair scale (weighted_ends n (Some r) p.body (zeros (length p.names))) (weighted_ends n None p.body (zeros (length p.names)))
-  pair = pair_block n r (scale_of r) (scales r) p.body (checked_weights p ok) ok.numbers.body (zeros (length p.names)) (zeros_fit (length p.names))
+  abbrev pair : Pair OfAttempts scale (weighted_ends n (Some r) p.body (zeros (length p.names))) (weighted_ends n None p.body (zeros (length p.names)))
+  pair = limited_block n r (scale_of r) (scales r) p.body (checked_weights p ok) ok.numbers.body (zeros (length p.names)) (zeros_fit (length p.names))
 
   pub whole : Whole scale (weighted_ends n None p.body (zeros (length p.names)))
   whole = whole_block n r (scale_of r) (scales r) p.body (checked_weights p ok) ok.numbers.body (zeros (length p.names)) (zeros_fit (length p.names))

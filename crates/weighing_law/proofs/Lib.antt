@@ -13,6 +13,7 @@ pub mod WeighingLaw
 pub mod Comparing
 pub mod Scales
 pub mod ComparedBlocks
+pub mod LimitedBlocks
 pub mod WholeWeights
 pub mod Costs
 pub mod LimitsLaw

@@ -17,8 +17,8 @@ use Rattle.gcl_core.proofs.DrawTrees.{class_sum}
 use Rattle.gcl_core.proofs.TreeWeights.{chi}
 use Rattle.gcl_core.proofs.FittingValues.{end_fits, value_fits}
 use Rattle.weighing_law.proofs.Comparing.{counts_unlimited}
-use Rattle.weighing_law.proofs.ComparedBlocks.{pair_statement, pair_block}
 use Rattle.weighing_law.proofs.DrawMatching.{class_below, draw_entries}
+use Rattle.weighing_law.proofs.LimitedBlocks.{limited_statement, limited_block}
 use Rattle.weighing_law.proofs.Scales.{Scale, loop_scale, statement_scale, block_scale}
 use Rattle.weighing_law.proofs.Uniform.{range_ascends, uniform_last}
 use Rattle.weighing_law.proofs.WeightedLists.{EachEntry, Counts, counts-more, counts_taken_on}
@@ -124,12 +124,12 @@ module _ (n r K : ℕ) (scale : Scale r K) where
         (λ o q. whole_class (A * C) o _ (λ i. whole_side (A * C) i _ _ (whole_more A C _ (whole_block a ok.1 f.0 s p)) (subst (λ x. Whole x (weighted_ends n None c s)) turned (whole_more C A _ (whole_block c ok.2 f.1 s p)))))
     whole_statement (uniform x e) ok f s p = whole_value (K * 1) (value_of e s) _ (λ z q. whole_uniform x z s (value_fits e s z f p q))
     whole_statement (loop e a) ok f s p =
-        whole_loop (block_scale n K a) (value_of e) (weighted_ends n None a) (λ s' p'. (pair_block n r K scale a ok f.1 s' p').high_entries) (whole_block a ok f.1) n s p
+        whole_loop (block_scale n K a) (value_of e) (weighted_ends n None a) (λ s' p'. (limited_block n r K scale a ok f.1 s' p').high_entries) (whole_block a ok f.1) n s p
 
     pub whole_block : (b : Statements) → BlockWeights IsWeight b → BlockFits b → (s : State) → state_fits s ≡ true → Whole (block_scale n K b) (weighted_ends n None b s)
     whole_block done ok f s p = whole_sure 1 (on s)
     whole_block (st ▸ b) ok f s p =
-        whole_then end_fits (statement_scale n K st) (block_scale n K b) (statement_weighted n None st s) _ (pair_statement n r K scale st ok.0 f.0 s p).high_entries
+        whole_then end_fits (statement_scale n K st) (block_scale n K b) (statement_weighted n None st s) _ (limited_statement n r K scale st ok.0 f.0 s p).high_entries
         (whole_statement st ok.0 f.0 s p) (λ e q. whole_end (block_scale n K b) e _ (whole_block b ok.1 f.1) q)
 
 -- ---- three tests of which no two hold at once

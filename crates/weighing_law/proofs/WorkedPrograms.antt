@@ -16,10 +16,10 @@ use Rattle.weighing_law.specs.LimitsCost.{stated_mass, cut_off}
 use Rattle.weighing_law.specs.Prefixes.{is_just_read}
 use Rattle.weighing_law.specs.Counting.{ended_in, just_read_weight}
 
-abbrev limits : ℕ → ℕ → ℕ → Limits
+abbrev pub limits : ℕ → ℕ → ℕ → Limits
 limits n r R = record { turns = n; attempts = r; rounds = R }
 
-abbrev weight : ℕ → ℕ → Weight
+abbrev pub weight : ℕ → ℕ → Weight
 weight a b = record { num = a; den = b }
 
 -- so many strings are read to the outcome, and so many it has of all by its mass
@@ -27,7 +27,7 @@ abbrev Weighs : Source → Limits → ℕ → Outcome → ℕ → Type 0
 Weighs p l L x many = (outcome_weight (run_on p l) x L ≡ many) × IsShare many (2 ^ L) (limited_mass p l x)
 
 -- ---- choice 2/3 { x := 1; } or { x := 2; } return x;
-abbrev two_thirds : Source
+abbrev pub two_thirds : Source
 two_thirds = record { names = [] ∷ []; body = choice (weight 2 3) (assign 0 (number (pos 1)) ▸ done) (assign 0 (number (pos 2)) ▸ done) ▸ done; result = variable 0 }
 
 two_thirds_1 : Weighs two_thirds (limits 0 1 1) 2 (outcome.Value (pos 1)) 2
@@ -72,7 +72,7 @@ two_thirds_cut : let m = cut_off two_thirds (limits 0 2 1) in m.0 * 16 ≡ m.1
 two_thirds_cut = refl
 
 -- ---- x ~ uniform(2); y ~ uniform(2); observe x = 1 or y = 1; return x + y;
-abbrev one_of_two_coins : Source
+abbrev pub one_of_two_coins : Source
 one_of_two_coins = record {
   names = [] ∷ [] ∷ [];
   body = uniform 0 (number (pos 2)) ▸ uniform 1 (number (pos 2)) ▸ observe (binary op.Or (binary op.Eq (variable 0) (number (pos 1))) (binary op.Eq (variable 1) (number (pos 1)))) ▸ done;
@@ -89,7 +89,7 @@ two_rounds_limit : Weighs one_of_two_coins (limits 0 1 2) 4 (outcome.Limit Round
 two_rounds_limit = (refl, refl)
 
 -- ---- go := 1; while go = 1 { choice 1/2 { x := x + 1; } or { go := 0; } } return x;
-abbrev geometric : Source
+abbrev pub geometric : Source
 geometric = record {
   names = [] ∷ [] ∷ [];
   body = assign 0 (number (pos 1))
@@ -108,7 +108,7 @@ two_turns_limit : Weighs geometric (limits 2 1 1) 2 (outcome.Limit Turns) 1
 two_turns_limit = (refl, refl)
 
 -- ---- return 7;
-abbrev seven : Source
+abbrev pub seven : Source
 seven = record { names = []; body = done; result = number (pos 7) }
 
 seven_7 : Weighs seven (limits 0 1 1) 0 (outcome.Value (pos 7)) 1
