@@ -1,0 +1,26 @@
+//! How many bits a program's runs read, on average.
+#![tactic(auto)]
+
+ghost use Rattle.std.specs.Prelude.{◌≡◌, ℕ, Bool, List};
+ghost use Rattle.gcl_core.specs.declared.answers.Answer.{Answer};
+ghost use Rattle.gcl_core.specs.declared.answers.Limits.{Limits};
+ghost use Rattle.gcl_core.specs.Keeping.{IsChecked};
+ghost use Rattle.gcl_core.specs.OneDraw.{Ascends};
+ghost use Rattle.gcl_core.specs.Runs.{run_on};
+ghost use Rattle.gcl_core.specs.Syntax.{Source};
+ghost use Rattle.cost_law.specs.Costing.{DrawCosts, CostsExactly};
+ghost use Rattle.cost_law.specs.ExpectedBits.{expected_bits};
+
+/// It does nothing: its clause is the law of what one draw costs. For ends that do not decrease, the lengths of the strings that an
+/// attempt, or at most r attempts, just read to a class or to the call again, summed by their weights, are the expected bits.
+pub fn draws_cost_exactly()
+    ensures { (ends : List ℕ) (r : ℕ) → Ascends 0 ends → DrawCosts ends r }
+{}
+
+/// It does nothing: its clause is the law of costs, for every checked program, all limits, and whatever answers on bits as the run of
+/// the program does. The lengths of the strings on which it ends, summed by their weights, are at most the bits that the statements let
+/// expect, and exactly those at every length at which no string needs more bits. Such a length is the limit of rounds times the longest
+/// reading of the body.
+pub fn runs_cost_exactly()
+    ensures { (p : Source) (l : Limits) (run : List Bool → Answer) → IsChecked p → ((w : List Bool) → run w ≡ run_on p l w) → CostsExactly run p l (expected_bits p l) }
+{}
