@@ -25,7 +25,7 @@ pub use mem_files::MemFiles;
 pub use mem_sink::MemSink;
 pub use null_sink::NullSink;
 pub use one_file::OneFile;
-pub use outside::{Bits, Failed, Files, OpenError, Sink};
+pub use outside::{Bits, Failed, Files, OpenError, Ready, Sink};
 pub use source::{MOST_BYTES, SourceError, read_source};
 pub use stream_bits::{StreamBits, streams_begin_as_published};
 pub use writing::put;

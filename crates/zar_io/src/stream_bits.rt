@@ -1,11 +1,11 @@
 //! The bits of a seeded stream.
-ghost use Rattle.std.specs.Prelude.{◌≡◌, ◌≢◌, ◌==◌, ◌+◌, ◌-◌, ◌/◌, ◌%◌, ◌^◌, ◌≤◌, true, false, None, IsTrue};
+ghost use Rattle.std.specs.Prelude.{◌≡◌, ◌≢◌, ◌==◌, ◌+◌, ◌-◌, ◌/◌, ◌%◌, ◌^◌, ◌*◌, ◌<◌, ◌≤◌, min, true, false, None, IsTrue};
 ghost use Rattle.std.proofs.Common.{rules};
 ghost use Rattle.rand_chacha.specs.ChaCha.{word_at};
 ghost use Rattle.zar_io.specs.FileBits.{low_bits};
 ghost use Rattle.zar_io.specs.StreamBits.{stream_bits, stream_word, word_bits};
 
-use crate::{Bits, Failed};
+use crate::{Bits, Failed, Ready};
 use rand_chacha::ChaCha20Rng;
 use rand_core::SeedableRng;
 use rand_core::utils::NextWord;
@@ -15,16 +15,19 @@ use rand_core::utils::NextWord;
 #[derive(Drop)]
 pub struct StreamBits {
     words: ChaCha20Rng,
-    // The word that the next bit is of, where some bit of it was given.
+    // The word that was drawn last.
     word: u32,
+    // How many of its bits, the lowest, were not given yet.
+    waiting: u32,
     // How many bits were given.
     given: u64,
     // How many are left.
     left: u64,
     ended: bool,
     ghost few: { given + left ≤ 10 ^ 9 },
-    ghost place: { words.word_pos ≡ (given + 31) / 32 },
-    ghost held: { given % 32 ≢ 0 → word ≡ word_at 10 words.key words.stream (given / 32) },
+    ghost in_word: { waiting ≤ 32 },
+    ghost place: { given + waiting ≡ 32 * words.word_pos },
+    ghost held: { 0 < waiting → word ≡ word_at 10 words.key words.stream (given / 32) },
     ghost none_once_ended: { IsTrue ended → left ≡ 0 },
 }
 
@@ -45,6 +48,7 @@ impl StreamBits {
         StreamBits {
             words,
             word: 0,
+            waiting: 0,
             given: 0,
             left: budget,
             ended: false,
@@ -52,24 +56,29 @@ impl StreamBits {
     }
 }
 
-// The bit at a place of a word, the most significant of which is at 0.
+// The bit at a place of a word, the least significant of which is at 0.
 fn bit_at(word: u32, place: u32) -> bool
     requires { place ≤ 31 }
-    ensures { result ≡ (word / 2 ^ (31 - place) % 2 == 1) }
+    ensures { result ≡ (word / 2 ^ place % 2 == 1) }
 {
-    (word >> (31 - place)) % 2 == 1
+    (word >> place) % 2 == 1
 }
 
-// Draws the next word, where all bits of the last one were given.
-fn draw_word(words: &mut ChaCha20Rng, word: &mut u32, given: u64)
-    requires few { given ≤ 10 ^ 9 }
-    requires place { words.old.word_pos ≡ (given + 31) / 32 }
-    requires held { given % 32 ≢ 0 → word.old ≡ word_at 10 words.old.key words.old.stream (given / 32) }
-    ensures drawn { word.new ≡ word_at 10 words.old.key words.old.stream (given / 32) }
-    ensures words { words.new ≡ record words.old { word_pos = (given + 32) / 32 } }
-{
-    if given % 32 == 0 {
-        *word = words.next_word();
+impl StreamBits {
+    // Draws the next word, where all bits of the last one were given.
+    #[inline]
+    fn draw_word(&mut self)
+        ensures waits { 0 < self.new.waiting }
+        ensures key { self.new.words.key ≡ self.old.words.key }
+        ensures stream { self.new.words.stream ≡ self.old.words.stream }
+        ensures given { self.new.given ≡ self.old.given }
+        ensures left { self.new.left ≡ self.old.left }
+        ensures ended { self.new.ended ≡ self.old.ended }
+    {
+        if self.waiting == 0 {
+            self.word = self.words.next_word();
+            self.waiting = 32;
+        }
     }
 }
 
@@ -90,20 +99,42 @@ impl Bits for StreamBits {
 
     ghost may_be_missing = { λ s name. false };
 
+    ghost ready = { λ s. min s.waiting s.left };
+
     ghost bounded = { λ s. Prim.search rules };
 
     #[inline]
-    #[tactic(auto, using(crate::proofs::StreamBitsLemmas::stream_steps))]
+    #[tactic(auto, using(crate::proofs::StreamBitsLemmas::none_left))]
     fn next(&mut self) -> Result<Option<bool>, Failed> {
         if self.left == 0 {
             self.ended = true;
             return Ok(None);
         }
-        draw_word(&mut self.words, &mut self.word, self.given);
-        let bit = bit_at(self.word, (self.given % 32) as u32);
+        self.draw_word();
+        self.waiting -= 1;
         self.given += 1;
         self.left -= 1;
-        Ok(Some(bit))
+        Ok(Some(bit_at(self.word, self.waiting)))
+    }
+
+    #[inline]
+    fn peek(&mut self) -> Ready {
+        if self.left == 0 {
+            return Ready { word: 0, count: 0 };
+        }
+        self.draw_word();
+        let count = self.waiting.min(self.left as u32);
+        Ready {
+            word: u64::from(self.word >> (self.waiting - count)),
+            count,
+        }
+    }
+
+    #[inline]
+    fn take(&mut self, count: u32) {
+        self.waiting -= count;
+        self.given += u64::from(count);
+        self.left -= u64::from(count);
     }
 }
 
