@@ -10,3 +10,4 @@ pub mod Patch
 pub mod EmitSteps
 pub mod Written
 pub mod Lines
+pub mod GreatestDepth

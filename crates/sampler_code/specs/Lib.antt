@@ -1,4 +1,5 @@
 pub mod Instruction
+pub mod Depths
 pub mod Stored
 pub mod Views
 pub mod Code

@@ -18,6 +18,7 @@ use crate::draws::{fill, reserve};
 use crate::instructions::{Instr, Instructions};
 use bit_tree::{Bt, BtRow, Tied};
 use draw_tree::Draw;
+use formula::Formula;
 use std::alloc::{AllocError, Global};
 
 // Room for a jump, before all arms but the first.
@@ -43,8 +44,8 @@ fn emit(code: &mut Instructions, t: &Bt, next: &mut usize, alloc: Global) -> Res
 {
     match t {
         Bt::Fail => code.put(Instr::Fail),
-        Bt::Set(x, e) => code.put(Instr::Set(*x, e.copy(alloc)?)),
-        Bt::Range(x, e) => code.put(Instr::Range(*x, e.copy(alloc)?)),
+        Bt::Set(x, e) => code.put(Instr::Set(*x, Formula::of(alloc, e)?)),
+        Bt::Range(x, e) => code.put(Instr::Range(*x, Formula::of(alloc, e)?)),
         Bt::Test(e, a, b) => {
             let test = code.count();
             code.put(Instr::Goto(0))?;
@@ -53,7 +54,7 @@ fn emit(code: &mut Instructions, t: &Bt, next: &mut usize, alloc: Global) -> Res
             code.put(Instr::Goto(0))?;
             let other = code.count();
             emit(code, b, next, alloc)?;
-            code.set(test, Instr::Unless(e.copy(alloc)?, other));
+            code.set(test, Instr::Unless(Formula::of(alloc, e)?, other));
             let end = code.count();
             code.set(middle, Instr::Goto(end));
             Ok(())
@@ -70,7 +71,7 @@ fn emit(code: &mut Instructions, t: &Bt, next: &mut usize, alloc: Global) -> Res
             emit(code, body, next, alloc)?;
             let test = code.count();
             code.set(jump, Instr::Goto(test));
-            code.put(Instr::Loop(counter, first, e.copy(alloc)?))?;
+            code.put(Instr::Loop(counter, first, Formula::of(alloc, e)?))?;
             Ok(())
         }
     }
@@ -197,6 +198,7 @@ pub fn assemble(alloc: Global, t: &Tied) -> Result<Code, AllocError>
     let mut instrs = Instructions::new(alloc);
     let mut loops = 0;
     emit(&mut instrs, &t.body, &mut loops, alloc)?;
-    instrs.put(Instr::Return(t.result.copy(alloc)?))?;
+    let result = Formula::of(alloc, &t.result)?;
+    instrs.put(Instr::Return(result))?;
     Ok(Code::of(instrs, loops, t.vars))
 }

@@ -38,6 +38,7 @@ impl Code {
     ghost use Rattle.sampler_code.specs.Sound.{Sound};
     ghost use Rattle.sampler_code.specs.Assembled.{CodeReaches, Follows, IsCode};
     ghost use Rattle.sampler_code.specs.Views.{instruction_of};
+    ghost use Rattle.sampler_code.specs.Depths.{greatest_depth};
 
     // What is the code of a tree.
     pub(crate) fn of(instrs: Instructions, loops: usize, vars: u32) -> Code
@@ -69,6 +70,13 @@ impl Code {
         ensures within { i + 1 < 2 ^ 64 }
     {
         self.instrs.get(i)
+    }
+
+    /// The greatest number of values on the stack of an expression.
+    pub fn depth(&self) -> usize
+        ensures { result ≡ greatest_depth self.now.instrs }
+    {
+        self.instrs.depth()
     }
 
     /// The number of loops. Each counter of turns is below it.

@@ -1,9 +1,10 @@
 // Instructions.
 
 ghost use Rattle.std.specs.Prelude.{◌≡◌, ◌<◌, ◌+◌, ◌^◌, ◌++◌, ◌∷◌, [], length, Some, slice_get, slice_set, OnOk};
-ghost use Rattle.sampler_code.specs.Views.{instruction_of};
+ghost use Rattle.sampler_code.specs.Depths.{depth_of, greatest_depth};
+ghost use Rattle.sampler_code.specs.Views.{instruction_of, instructions_of};
 
-use gcl_core::Expr;
+use formula::Formula;
 use std::alloc::{AllocError, Global};
 use std::marker::Model;
 
@@ -11,17 +12,17 @@ use std::marker::Model;
 #[derive(Drop)]
 pub enum Instr {
     /// Stores the value of the expression in the variable, or ends with its fault.
-    Set(u32, Expr),
+    Set(u32, Formula),
     /// Stores a number below the value of the expression, each with the same weight.
-    Range(u32, Expr),
+    Range(u32, Formula),
     /// Goes to the target where the value is 0.
-    Unless(Expr, usize),
+    Unless(Formula, usize),
     /// Goes to the target, which lies further on.
     Goto(usize),
     /// Sets this counter of turns to its limit.
     Arm(usize),
     /// Where the value is not 0, takes one from this counter of turns and goes back to the target; where it is 0 already, ends.
-    Loop(usize, usize, Expr),
+    Loop(usize, usize, Formula),
     /// Sets the counter of attempts to its limit.
     Tries,
     /// Reads a bit: goes on at 0, to the target at 1.
@@ -31,7 +32,38 @@ pub enum Instr {
     /// Takes one from the rounds and begins again with every variable 0; where none is left then, ends.
     Fail,
     /// Ends with the value of the expression, or with its fault.
-    Return(Expr),
+    Return(Formula),
+}
+
+impl Instr {
+    // The greatest number of values on the stack of its expression.
+    fn depth(&self) -> usize
+        ensures { result ≡ depth_of (instruction_of self.now) }
+    {
+        match self {
+            Instr::Set(_, e)
+            | Instr::Range(_, e)
+            | Instr::Unless(e, _)
+            | Instr::Loop(_, _, e)
+            | Instr::Return(e) => e.depth(),
+            Instr::Goto(_)
+            | Instr::Arm(_)
+            | Instr::Tries
+            | Instr::Flip(_)
+            | Instr::Again(_)
+            | Instr::Fail => 0,
+        }
+    }
+}
+
+fn greatest_depth(instrs: &[Instr]) -> usize
+    ensures { result ≡ greatest_depth (instructions_of instrs.now) }
+{
+    let mut depth = 0;
+    for instr in instrs {
+        depth = instr.depth().max(depth);
+    }
+    depth
 }
 
 /// Instructions in order, by their indices from 0.
@@ -78,6 +110,13 @@ impl Instructions {
         ensures within { i + 1 < 2 ^ 64 }
     {
         &self.instrs[i]
+    }
+
+    /// The greatest depth of their expressions.
+    pub fn depth(&self) -> usize
+        ensures { result ≡ greatest_depth self.now }
+    {
+        greatest_depth(&self.instrs)
     }
 
     /// The index after that of an instruction.

@@ -68,32 +68,40 @@ fn returned(text: &mut Text, names: &Names, e: &Expr) -> Result<(), AllocError>
     text.expression(names, e)
 }
 
-fn instruction(text: &mut Text, names: &Names, i: &Instr) -> Result<(), AllocError>
+fn instruction(alloc: Global, text: &mut Text, names: &Names, i: &Instr) -> Result<(), AllocError>
     requires { (loops : ℕ) × Knows loops (length names.now) (instruction_of i.now) }
     ensures { OnOk result (text.new ≡ text.old ++ instruction_text names.now (instruction_of i.now)) }
 {
     match i {
-        Instr::Set(x, e) => stored(text, names, b"set ", *x, e),
-        Instr::Range(x, e) => stored(text, names, b"range ", *x, e),
-        Instr::Unless(e, target) => unless(text, names, e, *target),
+        Instr::Set(x, e) => stored(text, names, b"set ", *x, &e.tree(alloc)?),
+        Instr::Range(x, e) => stored(text, names, b"range ", *x, &e.tree(alloc)?),
+        Instr::Unless(e, target) => unless(text, names, &e.tree(alloc)?, *target),
         Instr::Goto(target) => numbered(text, b"goto ", *target),
         Instr::Arm(counter) => numbered(text, b"arm ", *counter),
-        Instr::Loop(counter, target, e) => repeated(text, names, *counter, *target, e),
+        Instr::Loop(counter, target, e) => {
+            repeated(text, names, *counter, *target, &e.tree(alloc)?)
+        }
         Instr::Tries => text.push(b"tries"),
         Instr::Flip(target) => numbered(text, b"flip ", *target),
         Instr::Again(target) => numbered(text, b"again ", *target),
         Instr::Fail => text.push(b"fail"),
-        Instr::Return(e) => returned(text, names, e),
+        Instr::Return(e) => returned(text, names, &e.tree(alloc)?),
     }
 }
 
-fn line(text: &mut Text, names: &Names, index: usize, i: &Instr) -> Result<(), AllocError>
+fn line(
+    alloc: Global,
+    text: &mut Text,
+    names: &Names,
+    index: usize,
+    i: &Instr,
+) -> Result<(), AllocError>
     requires { (loops : ℕ) × Knows loops (length names.now) (instruction_of i.now) }
     ensures { OnOk result (text.new ≡ text.old ++ line_of names.now index (instruction_of i.now)) }
 {
     text.digits(index as u64)?;
     text.push(b" ")?;
-    instruction(text, names, i)?;
+    instruction(alloc, text, names, i)?;
     text.push(b"\n")
 }
 
@@ -106,7 +114,7 @@ pub fn list(alloc: Global, c: &Code, names: &Names) -> Result<Vec<u8>, AllocErro
 {
     let mut text = Text::new(alloc);
     for i in 0..c.count() {
-        line(&mut text, names, i, c.at(i))?;
+        line(alloc, &mut text, names, i, c.at(i))?;
     }
     Ok(text.into_bytes())
 }

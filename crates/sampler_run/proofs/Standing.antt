@@ -47,7 +47,7 @@ rest_told stuck progress.NeedBit m f a h e = absurd h
 rest_told stuck (progress.Ended o) m f a h e = absurd (cc)
 
 module _ (code : List Instruction) (l : Limits) where
-  at_rest : (k : ℕ) (p : Progress) (m : Machine) (a : Reached) → Rests (step code l m) p → within_steps code l k m [] ≡ Some a →
+  pub at_rest : (k : ℕ) (p : Progress) (m : Machine) (a : Reached) → Rests (step code l m) p → within_steps code l k m [] ≡ Some a →
       ToldBy a p m.used m.index
   unfolding within_steps
   at_rest zero p m a h e = absurd (cc)

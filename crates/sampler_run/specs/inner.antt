@@ -2,3 +2,6 @@
 pub mod Resting
 pub mod Kept
 pub mod Coming
+pub mod Going
+pub mod Taken
+pub mod Ran

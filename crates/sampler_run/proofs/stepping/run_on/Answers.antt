@@ -1,0 +1,85 @@
+use Rattle.std.proofs.Common.{◌≤◌, ◌∙◌, refl, sym, subst, length, arith}
+use Rattle.zar_io.specs.FileBits.{low_bits}
+use Rattle.sampler_code.specs.Depths.{greatest_depth}
+use Rattle.sampler_code.specs.Sound.{Sound}
+use Rattle.sampler_run.specs.Views.{machine_of}
+use Rattle.sampler_run.proofs.Settle.{within}
+use Rattle.sampler_run.proofs.Takes.{takes_none, takes_join}
+use Rattle.sampler_run.proofs.Words.{fewer, taken_answered}
+use Rattle.sampler_run.proofs.stepping.run_on.Goals as goal
+
+pub loop-outcome-init : goal.loop-outcome-init
+loop-outcome-init c = record {
+  turns = refl;
+  vars = refl;
+  stack = refl;
+  small = c.requires.small;
+  answered = c.requires.answered;
+  takes = takes_none _ _ _ (λ v. refl);
+}
+
+pub at-requires : goal.at-requires
+at-requires c = within c.args.code.now.instrs c.args.limits.now (machine_of c.loop-outcome.m) c.loop-outcome.invariant.answered
+
+pub move_on-requires-clause-can : goal.move_on-requires-clause-can
+move_on-requires-clause-can c =
+    let code = c.args.code.now.instrs in
+    let m = c.loop-outcome.m in
+    let i = c.loop-outcome.invariant in
+    let f = fewer _ _ c.args.left.now c.loop-outcome.left c.args.word i.takes in
+    let b = c.requires.bits in
+    record {
+      room = subst (λ n. greatest_depth code ≤ n) (sym i.stack) c.requires.room;
+      sound = subst (λ n. Sound code n (length m.vars.items)) (sym i.turns) (subst (λ n. Sound code (length c.args.m.now.turns.items) n) (sym i.vars) c.requires.sound);
+      answered = i.answered;
+      small = i.small;
+      bits = omega (arith, f, b);
+    }
+
+pub loop-outcome-smaller : goal.loop-outcome-smaller
+loop-outcome-smaller c = c.in-On.ensures.moved
+
+pub loop-outcome-preserved : goal.loop-outcome-preserved
+loop-outcome-preserved c =
+    let i = c.loop-outcome.invariant in
+    let e = c.in-On.ensures in
+    record {
+      turns = e.turns ∙ i.turns;
+      vars = e.vars ∙ i.vars;
+      stack = e.stack ∙ i.stack;
+      small = e.small;
+      answered = taken_answered c.args.code.now.instrs c.args.limits.now (machine_of c.loop-outcome.m) (machine_of c.move_on.new.m) _ _ i.answered e.takes;
+      takes = takes_join _ _ _ _ _ _ i.takes e.takes;
+    }
+
+pub returns-in-NeedBit : goal.returns-in-NeedBit
+returns-in-NeedBit c =
+    let i = c.loop-outcome.invariant in
+    let e = c.in-NeedBit.ensures in
+    let t = takes_join _ _ _ (low_bits c.args.left.now c.args.word) (low_bits c.loop-outcome.left c.args.word) (low_bits c.move_on.new.left c.args.word) i.takes e.takes in
+    record {
+      takes = t;
+      rests = e.moved.0;
+      left = fewer _ _ c.args.left.now c.move_on.new.left c.args.word t;
+      used_up = λ h. e.moved.1;
+      turns = e.turns ∙ i.turns;
+      vars = e.vars ∙ i.vars;
+      stack = e.stack ∙ i.stack;
+      small = e.small;
+    }
+
+pub returns-in-Ended : goal.returns-in-Ended
+returns-in-Ended c =
+    let i = c.loop-outcome.invariant in
+    let e = c.in-Ended.ensures in
+    let t = takes_join _ _ _ (low_bits c.args.left.now c.args.word) (low_bits c.loop-outcome.left c.args.word) (low_bits c.move_on.new.left c.args.word) i.takes e.takes in
+    record {
+      takes = t;
+      rests = e.moved;
+      left = fewer _ _ c.args.left.now c.move_on.new.left c.args.word t;
+      used_up = λ h. absurd (cc);
+      turns = e.turns ∙ i.turns;
+      vars = e.vars ∙ i.vars;
+      stack = e.stack ∙ i.stack;
+      small = e.small;
+    }

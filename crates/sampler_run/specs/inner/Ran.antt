@@ -1,0 +1,52 @@
+-- Runs through the bits of a word.
+use Rattle.std.specs.Prelude.{◌≡◌, ℕ, ◌<◌, ◌≤◌, List, length}
+use Rattle.gcl_core.specs.declared.answers.Limits.{Limits}
+use Rattle.zar_io.specs.FileBits.{low_bits}
+use Rattle.sampler_code.specs.Instruction.{Instruction}
+use Rattle.sampler_code.specs.Depths.{greatest_depth}
+use Rattle.sampler_code.specs.Machine.{step, ends}
+use Rattle.sampler_code.specs.inner.Bounded.{rest_of, Answered}
+use Rattle.sampler_code.specs.Sound.{Sound}
+use Rattle.sampler_run.specs.declared.machine.Progress.{Progress}
+use Rattle.sampler_run.specs.declared.machine.Progress.TheVariants.{NeedBit}
+use Rattle.sampler_run.specs.declared.machine.Registers.{Registers}
+use Rattle.sampler_run.specs.declared.stepping.Move.{Move}
+use Rattle.sampler_run.specs.declared.stepping.Move.TheVariants as move
+use Rattle.sampler_run.specs.inner.Going.{to_go}
+use Rattle.sampler_run.specs.inner.Resting.{Asks, Rests, IsSmall}
+use Rattle.sampler_run.specs.inner.Taken.{Takes}
+use Rattle.sampler_run.specs.Views.{machine_of}
+
+-- what a run through so many bits stands on
+pub record CanRun (code : List Instruction) (l : Limits) (m : Registers) (count : ℕ) : Type 0 where
+  pub room : greatest_depth code ≤ m.stack
+  pub sound : Sound code (length m.turns.items) (length m.vars.items)
+  pub answered : Answered code l (machine_of m)
+  pub small : IsSmall (machine_of m).drawing
+  pub bits : count ≤ 64
+
+-- where it went: on, with less to go; or to rest
+abbrev pub MovedTo : List Instruction → Limits → Registers → Registers → ℕ → ℕ → Move → Type 0
+MovedTo code l old new before after (move.On read) = to_go code l after (machine_of new) < to_go code l before (machine_of old)
+MovedTo code l old new before after move.NeedBit = Asks (step code l (machine_of new)) × (after ≡ 0)
+MovedTo code l old new before after (move.Ended o) = step code l (machine_of new) ≡ ends o
+
+-- some instructions on, it took those of the lowest bits of a word that it needs
+pub record HasMoved (code : List Instruction) (l : Limits) (old new : Registers) (word before after : ℕ) (p : Move) : Type 0 where
+  pub takes : Takes (rest_of code l (machine_of old)) (rest_of code l (machine_of new)) (low_bits before word) (low_bits after word)
+  pub moved : MovedTo code l old new before after p
+  pub turns : length new.turns.items ≡ length old.turns.items
+  pub vars : length new.vars.items ≡ length old.vars.items
+  pub stack : new.stack ≡ old.stack
+  pub small : IsSmall (machine_of new).drawing
+
+-- it took those of the lowest bits of a word that it needs, and stands where they are used up and it needs one more, or has ended
+pub record HasRun (code : List Instruction) (l : Limits) (old new : Registers) (word before after : ℕ) (p : Progress) : Type 0 where
+  pub takes : Takes (rest_of code l (machine_of old)) (rest_of code l (machine_of new)) (low_bits before word) (low_bits after word)
+  pub rests : Rests (step code l (machine_of new)) p
+  pub left : after ≤ before
+  pub used_up : p ≡ NeedBit → after ≡ 0
+  pub turns : length new.turns.items ≡ length old.turns.items
+  pub vars : length new.vars.items ≡ length old.vars.items
+  pub stack : new.stack ≡ old.stack
+  pub small : IsSmall (machine_of new).drawing
