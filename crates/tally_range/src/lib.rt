@@ -15,6 +15,7 @@ mod working;
 pub use laws::{code_counts_as_program, ranges_add_up};
 pub use range::SeedRange;
 pub use share::Share;
+pub use streams::run_on_stream;
 pub use table::Tally;
 pub use tallying::tally;
 pub use working::work;

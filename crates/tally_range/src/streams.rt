@@ -24,8 +24,8 @@ fn key_of_answer(answer: Answer) -> TallyKey
     }
 }
 
-// Runs from the start on the first bits of a stream.
-fn run_on_stream(state: &mut State<'_>, seed: u64, stream: u64, budget: u64) -> TallyKey
+/// Runs from the start on the first bits of a stream, as many as the budget says: the key of the run. It takes no memory.
+pub fn run_on_stream(state: &mut State<'_>, seed: u64, stream: u64, budget: u64) -> TallyKey
     requires { budget ≤ 10 ^ 9 }
     ensures key { (run : List Bool → Answer) → IsRestOf (set_back state.old) run → result ≡ key_on run seed budget stream }
     ensures same_start { set_back state.new ≡ set_back state.old }

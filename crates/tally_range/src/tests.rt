@@ -10,12 +10,9 @@ use gcl_core::{Block, Checked, Expr, Limits, Names, Outcome, Program, Stmt, Tall
 use sampler_run::{Sampler, compile};
 use std::alloc::{AllocError, Global};
 use std::marker::{Send, Sync};
-use std::sync::atomic::AtomicU64;
-use std::sync::atomic::Ordering::SeqCst;
 use std::test::Fail;
-use std::thread;
 use std::thread::Threads;
-use zar_io::{Gate, Open};
+use zar_io::Open;
 
 const LIMITS: Limits = Limits {
     turns: 1000,
@@ -120,68 +117,6 @@ fn rows_of_streams(rt: HostRuntime) -> Result<(), Fail> {
             assert!(rt; counts_draws(&rt, alloc, &compile(alloc, &die)?)?);
         }
         _ => assert!(rt; false),
-    }
-    Ok(())
-}
-
-// Holds the block that is entered first until the three others were entered.
-#[derive(Drop)]
-struct Held {
-    blocks: [AtomicU64; 4],
-    entered: AtomicU64,
-    turns_spent: AtomicU64,
-}
-
-impl Gate for Held {
-    fn entered(&self, block: u64) {
-        if block < 4 {
-            self.blocks[block as usize].fetch_add(1, SeqCst);
-        }
-        if self.entered.fetch_add(1, SeqCst) != 0 {
-            return;
-        }
-        for _ in 0..1_000_000_000u64 {
-            if self.entered.load(SeqCst) >= 4 {
-                return;
-            }
-            thread::yield_now();
-        }
-        self.turns_spent.store(1, SeqCst);
-    }
-}
-
-// Each block was entered once, and the turns were not spent.
-fn each_entered_once(gate: &Held) -> bool {
-    for block in &gate.blocks {
-        if block.load(SeqCst) != 1 {
-            return false;
-        }
-    }
-    gate.turns_spent.load(SeqCst) == 0
-}
-
-#[test]
-fn two_workers_enter_four_blocks(rt: HostRuntime) -> Result<(), Fail> {
-    let gate = Held {
-        blocks: [
-            AtomicU64::new(0),
-            AtomicU64::new(0),
-            AtomicU64::new(0),
-            AtomicU64::new(0),
-        ],
-        entered: AtomicU64::new(0),
-        turns_spent: AtomicU64::new(0),
-    };
-    let alloc = rt.alloc();
-    match seven(alloc)? {
-        Some(program) => {
-            let sampler = compile(alloc, &program)?;
-            let range = streams(0, 256, 1000, 2);
-            let counts = tally(&rt, alloc, &sampler, &LIMITS, &range, &gate)?;
-            assert!(rt; each_entered_once(&gate));
-            assert!(rt; has_just(&counts, VALUE_7, 256));
-        }
-        None => assert!(rt; false),
     }
     Ok(())
 }
