@@ -1,0 +1,11 @@
+//! The least stream of a range whose run ends in a wanted way, hunted by several threads.
+#![tactic(auto)]
+
+mod hunter;
+mod hunting;
+mod streams;
+#[cfg(test)]
+mod tests;
+mod working;
+
+pub use hunting::hunt;

@@ -1,0 +1,52 @@
+//! The first stream of a block that is wanted.
+ghost use Rattle.std.specs.Prelude.{◌≡◌, ◌+◌, ◌*◌, ◌<◌, ◌≤◌, ◌^◌, Bool, List, IfSome};
+ghost use Rattle.gcl_core.specs.declared.answers.Answer.{Answer};
+ghost use Rattle.gcl_core.specs.Outcomes.{same_key};
+ghost use Rattle.sampler_run.specs.Held.{IsRestOf, set_back};
+ghost use Rattle.tally_range.specs.Counts.{blocks_over};
+ghost use Rattle.hunt_range.specs.Sought.{sought_of, FirstWanted};
+
+use gcl_core::TallyKey;
+use sampler_run::State;
+use tally_range::{SeedRange, run_on_stream};
+
+fn is_same(key: TallyKey, want: &TallyKey) -> bool
+    ensures { result ≡ same_key key want.now }
+{
+    key == *want
+}
+
+/// The first stream of a block of 64, of the streams from `from` up to but not including `to`.
+pub fn first_stream(from: u64, to: u64, block: u64) -> u64
+    requires order { from ≤ to }
+    requires block { block < blocks_over from to }
+    ensures first { result ≡ from + 64 * block }
+    ensures inside { result < to }
+{
+    from + 64 * block
+}
+
+/// The first stream of a block whose run has the key, if there is one. It takes no memory.
+pub fn first_wanted(
+    state: &mut State<'_>,
+    range: &SeedRange,
+    want: &TallyKey,
+    first: u64,
+) -> Option<u64>
+    requires inside { first < range.now.to }
+    requires budget { range.now.budget ≤ 10 ^ 9 }
+    ensures first { (run : List Bool → Answer) → IsRestOf (set_back state.old) run → FirstWanted (sought_of run range.now want.now) first range.now.to result }
+    ensures within { IfSome result (λ x. (first ≤ x) × (x < range.now.to)) }
+    ensures same_start { set_back state.new ≡ set_back state.old }
+{
+    let count = (range.to - first).min(64);
+    let mut at = 0;
+    while at < count {
+        let key = run_on_stream(state, range.seed, first + at, range.budget);
+        if is_same(key, want) {
+            return Some(first + at);
+        }
+        at += 1;
+    }
+    None
+}
