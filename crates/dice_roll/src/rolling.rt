@@ -2,6 +2,7 @@
 ghost use Rattle.std.specs.Prelude.{◌≡◌, ◌<◌, ◌≤◌, ◌^◌, drop, IfOk, IsTrue};
 ghost use Rattle.zar_io.specs.Faults.{Counts};
 ghost use Rattle.zar_io.specs.Bits.{broken_after};
+ghost use Rattle.dice_roll.specs.declared.rules.TheConstants as rule;
 ghost use Rattle.dice_roll.specs.FastRoll.{fast_roll};
 ghost use Rattle.dice_roll.specs.Fair.{IsFair};
 ghost use Rattle.dice_roll.specs.Rolled.{flips_of, NeedsEach, IsWithin, ended_by};
@@ -17,9 +18,9 @@ use zar_io::{Bits, Failed};
 /// failed, and then a fault was counted.
 #[tactic(auto, using(crate::proofs::Fairness::fair, crate::proofs::Fairness::needs_each))]
 pub fn roll<B: Bits>(m: u64, flips: u64, bits: &mut B) -> Result<Roll, Failed>
-    requires low { 2 ≤ m }
-    requires high { m ≤ 2 ^ 62 }
-    requires few { flips ≤ 10 ^ 9 }
+    requires low { rule.LEAST_LABELS ≤ m }
+    requires high { m ≤ rule.MOST_LABELS }
+    requires few { flips ≤ rule.MOST_FLIPS }
     ensures answer { IfOk result (λ r. IsTrue B.told → fast_roll m flips (B.left bits.old) ≡ r) }
     ensures taken { IfOk result (λ r. IsTrue B.told → B.left bits.new ≡ drop (flips_of r) (B.left bits.old)) }
     ensures needed { NeedsEach m flips (B.left bits.old) }
@@ -29,6 +30,8 @@ pub fn roll<B: Bits>(m: u64, flips: u64, bits: &mut B) -> Result<Roll, Failed>
     ensures count { Counts result (B.faults bits.old) (B.faults bits.new) }
     ensures broken { B.broken bits.new ≡ broken_after result (B.broken bits.old) }
     ensures same_source { B.source bits.new ≡ B.source bits.old }
+    ensures same_files { B.file bits.new ≡ B.file bits.old }
+    ensures same_names { B.may_be_missing bits.new ≡ B.may_be_missing bits.old }
     ensures law { IsFair m }
 {
     // A number below `range`, each as likely: the strings of the bits so far that have no label, numbered.

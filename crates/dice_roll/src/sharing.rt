@@ -1,5 +1,6 @@
 //! What the labels of a draw weigh.
 ghost use Rattle.std.specs.Prelude.{◌≡◌, ◌≤◌, ◌^◌};
+ghost use Rattle.dice_roll.specs.declared.rules.TheConstants as rule;
 ghost use Rattle.dice_roll.specs.Fair.{IsFair};
 ghost use Rattle.dice_roll.specs.Shares.{shares_of};
 
@@ -9,9 +10,9 @@ use frac128::Frac;
 /// lowest terms. `None` comes exactly where there are more than 127 bits.
 #[tactic(auto, using(crate::proofs::Fairness::fair))]
 pub fn share(m: u64, flips: u64) -> Option<(Frac, Frac)>
-    requires low { 2 ≤ m }
-    requires high { m ≤ 2 ^ 62 }
-    requires few { flips ≤ 10 ^ 9 }
+    requires low { rule.LEAST_LABELS ≤ m }
+    requires high { m ≤ rule.MOST_LABELS }
+    requires few { flips ≤ rule.MOST_FLIPS }
     ensures value { result ≡ shares_of m flips }
     ensures law { IsFair m }
 {

@@ -1,41 +1,36 @@
 // Rolls and shares that were worked by hand.
 
-use crate::{Roll, roll, share};
+use crate::{LEAST_LABELS, MOST_FLIPS, MOST_LABELS, Roll, roll, share};
 use frac128::Frac;
 use std::test::Fail;
 use zar_io::{Failed, FileBits, Files, ListBits, MemFiles};
 
-// The greatest number of labels.
-const MOST: u64 = 1 << 62;
-
-const MOST_FLIPS: u64 = 1_000_000_000;
-
 // The bits of the bytes d4 and c0.
-const D4: &[bool] = &[true, true, false, true, false, true, false, false];
+const HEX_D4: &[bool] = &[true, true, false, true, false, true, false, false];
 
-const C0: &[bool] = &[true, true, false, false, false, false, false, false];
+const HEX_C0: &[bool] = &[true, true, false, false, false, false, false, false];
 
 const ONES: &[bool] = &[true; 62];
 
 #[test]
 fn rolls_a_label_or_says_why_not(rt: HostRuntime) -> Result<(), Fail> {
     let table: [(u64, u64, &[bool], Roll); 12] = [
-        (6, 1000, D4, Roll::Label(2, 5)),
-        (6, 5, D4, Roll::Label(2, 5)),
-        (6, 4, D4, Roll::Limit(4)),
-        (3, 1000, C0, Roll::Label(0, 4)),
-        (3, 3, C0, Roll::Limit(3)),
+        (6, 1000, HEX_D4, Roll::Label(2, 5)),
+        (6, 5, HEX_D4, Roll::Label(2, 5)),
+        (6, 4, HEX_D4, Roll::Limit(4)),
+        (3, 1000, HEX_C0, Roll::Label(0, 4)),
+        (3, 3, HEX_C0, Roll::Limit(3)),
         (3, 1000, &[], Roll::MoreBits(0)),
         (3, 0, &[], Roll::Limit(0)),
         (6, 1000, &[true, false, true], Roll::Label(5, 3)),
         (6, 1000, &[true, true, true, true], Roll::MoreBits(4)),
         (2, 1, &[true], Roll::Label(1, 1)),
-        (MOST, 62, ONES, Roll::Label(MOST - 1, 62)),
-        (MOST - 1, MOST_FLIPS, ONES, Roll::MoreBits(62)),
+        (MOST_LABELS, 62, ONES, Roll::Label(MOST_LABELS - 1, 62)),
+        (MOST_LABELS - 1, MOST_FLIPS, ONES, Roll::MoreBits(62)),
     ];
     for (m, flips, bits, want) in table {
-        assert!(rt; m >= 2);
-        assert!(rt; m <= MOST);
+        assert!(rt; m >= LEAST_LABELS);
+        assert!(rt; m <= MOST_LABELS);
         assert!(rt; flips <= MOST_FLIPS);
         let mut bits = ListBits::new(rt.alloc(), bits)?;
         assert_eq!(rt;
@@ -76,8 +71,8 @@ fn labels_share_what_the_limit_leaves(rt: HostRuntime) {
         (6, 128, None),
     ];
     for (m, flips, want) in table {
-        assert!(rt; m >= 2);
-        assert!(rt; m <= MOST);
+        assert!(rt; m >= LEAST_LABELS);
+        assert!(rt; m <= MOST_LABELS);
         assert!(rt; flips <= MOST_FLIPS);
         let shares = share(m, flips).map(|(each, left)| [parts(each), parts(left)]);
         assert_eq!(rt; shares, want, "{m} labels, {flips} flips");

@@ -1,6 +1,6 @@
 -- The lines that are printed, one for each answer and each refusal. This project's own format: words of plain letters, numbers in
 -- decimal digits with a minus sign before one below 0, and one line feed, the byte 10, at the end.
-use Rattle.std.specs.Prelude.{ℕ, List, [], ◌∷◌, ◌++◌, Some, None, codes, decimal, map, slice_get, unwrap_or}
+use Rattle.std.specs.Prelude.{ℕ, List, [], ◌++◌, Some, None, codes, decimal, map, slice_get, unwrap_or}
 use Rattle.std.specs.Fmt.{signed_decimal}
 use Rattle.gcl_core.specs.declared.answers.Fault.TheVariants.{Overflow, ZeroDivisor, BadBound}
 use Rattle.gcl_core.specs.declared.answers.Limit.TheVariants.{Turns, Attempts, Rounds}
@@ -11,6 +11,10 @@ use Rattle.gcl_core.specs.declared.answers.Answer.TheVariants.{Ended, MoreBits}
 use Rattle.gcl_core.specs.declared.answers.TallyKey.{TallyKey}
 use Rattle.gcl_core.specs.declared.answers.TallyKey.TheVariants as key
 use Rattle.gcl_core.specs.declared.refusals.TheConstants.{CODE_WORDS}
+use Rattle.dice_roll.specs.declared.answers.Roll.{Roll}
+use Rattle.dice_roll.specs.declared.answers.Roll.TheVariants as rolled
+use Rattle.report_text.specs.declared.counts.Count.{Count}
+use Rattle.report_text.specs.declared.counts.Count.TheVariants.{Statements, Bytes, Streams}
 use Rattle.report_text.specs.declared.refusals.Refusal.{Refusal}
 use Rattle.report_text.specs.declared.refusals.Refusal.TheVariants.{Coded, Read, Write, Memory, NoFile}
 
@@ -32,18 +36,53 @@ answer_text (MoreBits bits) = codes "more bits " ++ decimal bits ++ codes "\n"
 abbrev pub accepted_text : ℕ → ℕ → List ℕ
 accepted_text statements names = codes "ok statements " ++ decimal statements ++ codes " names " ++ decimal names ++ codes "\n"
 
+abbrev pub fraction_text : ℕ × ℕ → List ℕ
+fraction_text f = decimal f.0 ++ codes "/" ++ decimal f.1
+
 -- an outcome with its mass, a fraction
 abbrev pub mass_text : Outcome → ℕ × ℕ → List ℕ
-mass_text outcome mass = outcome_text outcome ++ codes " mass " ++ decimal mass.0 ++ codes "/" ++ decimal mass.1 ++ codes "\n"
+mass_text outcome mass = outcome_text outcome ++ codes " mass " ++ fraction_text mass ++ codes "\n"
+
+-- an outcome with its two bounds, fractions
+abbrev pub bound_text : Outcome → ℕ × ℕ → ℕ × ℕ → List ℕ
+bound_text outcome low high = outcome_text outcome ++ codes " from " ++ fraction_text low ++ codes " to " ++ fraction_text high ++ codes "\n"
+
+-- what all others have at most
+abbrev pub other_text : ℕ × ℕ → List ℕ
+other_text high = codes "other from 0/1 to " ++ fraction_text high ++ codes "\n"
 
 -- the share of the strings on which a run needs more
 abbrev pub undecided_text : ℕ × ℕ → List ℕ
-undecided_text share = codes "undecided mass " ++ decimal share.0 ++ codes "/" ++ decimal share.1 ++ codes "\n"
+undecided_text share = codes "undecided mass " ++ fraction_text share ++ codes "\n"
+
+-- an expected number of bits, a fraction
+abbrev pub cost_text : ℕ × ℕ → List ℕ
+cost_text bits = codes "bits " ++ decimal bits.0 ++ codes "/" ++ decimal bits.1 ++ codes "\n"
 
 -- how many streams have runs that end in an outcome, or that need more bits
 abbrev pub tally_text : TallyKey → ℕ → List ℕ
 tally_text (key.Outcome outcome) n = outcome_text outcome ++ codes " count " ++ decimal n ++ codes "\n"
 tally_text key.MoreBits n = codes "more bits count " ++ decimal n ++ codes "\n"
+
+-- how many there are of something
+abbrev pub number_text : Count → ℕ → List ℕ
+number_text Statements n = codes "statements " ++ decimal n ++ codes "\n"
+number_text Bytes n = codes "bytes " ++ decimal n ++ codes "\n"
+number_text Streams n = codes "streams " ++ decimal n ++ codes "\n"
+
+-- the label of a roll with the number of its flips, or that number where there is none
+abbrev pub roll_text : Roll → List ℕ
+roll_text (rolled.Label c flips) = codes "value " ++ decimal c ++ codes " bits " ++ decimal flips ++ codes "\n"
+roll_text (rolled.Limit flips) = codes "limit flips bits " ++ decimal flips ++ codes "\n"
+roll_text (rolled.MoreBits flips) = codes "more bits " ++ decimal flips ++ codes "\n"
+
+-- the weight of each label of a roll, a fraction
+abbrev pub each_text : ℕ × ℕ → List ℕ
+each_text weight = codes "each mass " ++ fraction_text weight ++ codes "\n"
+
+-- the weight that is left to the limit of flips, a fraction
+abbrev pub flips_text : ℕ × ℕ → List ℕ
+flips_text weight = codes "limit flips mass " ++ fraction_text weight ++ codes "\n"
 
 -- the words of a code; there are none for a number that is no code
 abbrev pub code_words : ℕ → List ℕ

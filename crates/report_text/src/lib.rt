@@ -6,12 +6,14 @@ mod counts;
 mod line;
 mod outcomes;
 mod refusals;
+mod rolls;
 mod shares;
 #[cfg(test)]
 mod tests;
 
 pub use answers::{check_line, sample_line};
-pub use counts::tally_line;
+pub use counts::{Count, number_line, tally_line};
 pub use line::Line;
 pub use refusals::{Refusal, fault_line};
-pub use shares::{mass_line, undecided_line};
+pub use rolls::{each_line, flips_line, roll_line};
+pub use shares::{bound_line, cost_line, mass_line, other_line, undecided_line};

@@ -1,13 +1,17 @@
 // A line in a fixed buffer.
 
 ghost use Rattle.std.specs.Prelude.{◌≡◌, ◌+◌, ◌≤◌, ◌++◌, [], length};
+ghost use Rattle.report_text.specs.Lines.{fraction_text};
+ghost use Rattle.report_text.specs.declared.line.TheConstants as rule;
 
+use frac128::Frac;
 use itoa::{Buffer, Integer};
 use std::marker::Model;
 
-const LINE_BYTES: usize = 160;
+// The greatest length of a line: that of an outcome with two fractions fits.
+const LINE_BYTES: usize = 224;
 
-/// A line of at most 160 bytes, its line feed included. It is seen as a list of bytes.
+/// A line of at most [`LINE_BYTES`] bytes, its line feed included. It is seen as a list of bytes.
 #[derive(Drop)]
 pub struct Line {
     buffer: [u8; LINE_BYTES],
@@ -16,12 +20,13 @@ pub struct Line {
 
 impl Model for Line {
     ghost use Rattle.std.specs.Prelude.{List, ℕ, ◌≤◌, take};
+    ghost use Rattle.report_text.specs.declared.line.TheConstants as rule;
 
     ghost Value = { List ℕ };
 
     ghost view = { λ l. take l.length l.buffer };
 
-    ghost invariant = { λ l. l.length ≤ 160 };
+    ghost invariant = { λ l. l.length ≤ rule.LINE_BYTES };
 }
 
 impl Line {
@@ -37,7 +42,7 @@ impl Line {
 
     // A line of this text.
     pub(crate) fn of(text: &[u8]) -> Line
-        requires { length text.now ≤ 160 }
+        requires { length text.now ≤ rule.LINE_BYTES }
         ensures { result ≡ text.now }
     {
         let mut line = Line::new();
@@ -53,7 +58,7 @@ impl Line {
     }
 
     pub(crate) fn push(&mut self, text: &[u8])
-        requires { length self.old + length text.now ≤ 160 }
+        requires { length self.old + length text.now ≤ rule.LINE_BYTES }
         ensures text { self.new ≡ self.old ++ text.now }
     {
         let end = self.length + text.len();
@@ -62,10 +67,20 @@ impl Line {
     }
 
     pub(crate) fn push_number<I: Integer>(&mut self, n: I)
-        requires { length self.old + 40 ≤ 160 }
+        requires { length self.old + 40 ≤ rule.LINE_BYTES }
         ensures text { self.new ≡ self.old ++ I.text n }
         ensures within { length self.new ≤ length self.old + 40 }
     {
         self.push(Buffer::new().format(n).as_bytes());
+    }
+
+    pub(crate) fn push_fraction(&mut self, f: &Frac)
+        requires { length self.old + 81 ≤ rule.LINE_BYTES }
+        ensures text { self.new ≡ self.old ++ fraction_text f.now }
+        ensures within { length self.new ≤ length self.old + 81 }
+    {
+        self.push_number(f.num());
+        self.push(b"/");
+        self.push_number(f.den());
     }
 }

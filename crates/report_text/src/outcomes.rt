@@ -8,7 +8,7 @@ use gcl_core::{Fault, Limit, Outcome};
 
 pub fn outcome_line(outcome: &Outcome) -> Line
     ensures text { result ≡ outcome_text outcome.now }
-    ensures within { length result ≤ 60 }
+    ensures within { length result ≤ 46 }
 {
     let mut line = Line::new();
     match outcome {

@@ -1,7 +1,7 @@
 // The lines of shares.
 
 ghost use Rattle.std.specs.Prelude.{◌≡◌};
-ghost use Rattle.report_text.specs.Lines.{mass_text, undecided_text};
+ghost use Rattle.report_text.specs.Lines.{mass_text, bound_text, other_text, undecided_text, cost_text};
 
 use crate::line::Line;
 use crate::outcomes::outcome_line;
@@ -14,9 +14,31 @@ pub fn mass_line(outcome: &Outcome, mass: &Frac) -> Line
 {
     let mut line = outcome_line(outcome);
     line.push(b" mass ");
-    line.push_number(mass.num());
-    line.push(b"/");
-    line.push_number(mass.den());
+    line.push_fraction(mass);
+    line.push(b"\n");
+    line
+}
+
+/// The line of an outcome and its two bounds, fractions in lowest terms. It takes no memory.
+pub fn bound_line(outcome: &Outcome, low: &Frac, high: &Frac) -> Line
+    ensures { result ≡ bound_text outcome.now low.now high.now }
+{
+    let mut line = outcome_line(outcome);
+    line.push(b" from ");
+    line.push_fraction(low);
+    line.push(b" to ");
+    line.push_fraction(high);
+    line.push(b"\n");
+    line
+}
+
+/// The line of what all other outcomes have at most, a fraction in lowest terms. It takes no memory.
+pub fn other_line(high: &Frac) -> Line
+    ensures { result ≡ other_text high.now }
+{
+    let mut line = Line::new();
+    line.push(b"other from 0/1 to ");
+    line.push_fraction(high);
     line.push(b"\n");
     line
 }
@@ -27,9 +49,20 @@ pub fn undecided_line(share: &Frac) -> Line
 {
     let mut line = Line::new();
     line.push(b"undecided mass ");
-    line.push_number(share.num());
+    line.push_fraction(share);
+    line.push(b"\n");
+    line
+}
+
+/// The line of an expected number of bits, a fraction in lowest terms. It takes no memory.
+pub fn cost_line(bits: &Frac) -> Line
+    ensures { result ≡ cost_text bits.now }
+{
+    let mut line = Line::new();
+    line.push(b"bits ");
+    line.push_number(bits.num());
     line.push(b"/");
-    line.push_number(share.den());
+    line.push_number(bits.den());
     line.push(b"\n");
     line
 }

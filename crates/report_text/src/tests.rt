@@ -1,6 +1,9 @@
 // The lines, byte by byte.
 
-use crate::{Refusal, check_line, fault_line, mass_line, sample_line, tally_line, undecided_line};
+use crate::{
+    Refusal, bound_line, check_line, cost_line, fault_line, mass_line, other_line, sample_line,
+    tally_line, undecided_line,
+};
 use frac128::Frac;
 use gcl_core::{Answer, Fault, Limit, Outcome, TallyKey};
 
@@ -76,6 +79,10 @@ fn rows_and_programs_have_their_lines(rt: HostRuntime) {
         b"limit turns mass 1/1\n".as_slice()
     );
     assert_eq!(rt;
+        cost_line(&Frac::of(30, 16)).bytes(),
+        b"bits 15/8\n".as_slice()
+    );
+    assert_eq!(rt;
         undecided_line(&Frac::of(2, 16)).bytes(),
         b"undecided mass 1/8\n".as_slice()
     );
@@ -90,5 +97,32 @@ fn rows_and_programs_have_their_lines(rt: HostRuntime) {
     assert_eq!(rt;
         check_line(3, 1).bytes(),
         b"ok statements 3 names 1\n".as_slice()
+    );
+}
+
+#[test]
+fn bounds_have_their_lines(rt: HostRuntime) {
+    let quarter = Frac::of(1, 4);
+    let half = Frac::of(1, 2);
+    let narrow = Frac::of(u128::MAX - 1, u128::MAX);
+    assert_eq!(rt;
+        bound_line(&Outcome::Value(1), &quarter, &half).bytes(),
+        b"value 1 from 1/4 to 1/2\n".as_slice()
+    );
+    assert_eq!(rt;
+        bound_line(&Outcome::Fault(Fault::ZeroDivisor), &half, &half).bytes(),
+        b"fault zero divisor from 1/2 to 1/2\n".as_slice()
+    );
+    assert_eq!(rt;
+        bound_line(&Outcome::Value(i64::MIN), &narrow, &narrow).bytes(),
+        b"value -9223372036854775808 from 340282366920938463463374607431768211454/340282366920938463463374607431768211455 to 340282366920938463463374607431768211454/340282366920938463463374607431768211455\n".as_slice()
+    );
+    assert_eq!(rt;
+        other_line(&quarter).bytes(),
+        b"other from 0/1 to 1/4\n".as_slice()
+    );
+    assert_eq!(rt;
+        other_line(&Frac::of(7, 7)).bytes(),
+        b"other from 0/1 to 1/1\n".as_slice()
     );
 }

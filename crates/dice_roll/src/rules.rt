@@ -1,0 +1,8 @@
+// Numbers that bound a roll.
+
+/// The fewest labels.
+pub const LEAST_LABELS: u64 = 2;
+/// The most labels, 2^62.
+pub const MOST_LABELS: u64 = 1 << 62;
+/// The greatest limit of flips.
+pub const MOST_FLIPS: u64 = 1_000_000_000;
