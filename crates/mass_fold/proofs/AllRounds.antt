@@ -15,7 +15,7 @@ use Rattle.mass_tables.proofs.Wholes.{cancel}
 use Rattle.mass_fold.specs.declared.error.MassError.{MassError}
 use Rattle.mass_fold.specs.declared.error.MassError.TheVariants.{TooWide, TooManyStates, AllFailed, OutOfMemory}
 use Rattle.mass_fold.specs.Amounts.{held}
-use Rattle.mass_fold.specs.Masses.{counted, Holds, RoundGives}
+use Rattle.mass_fold.specs.Masses.{counted, Holds, RoundGives, WholeWithin}
 use Rattle.mass_fold.specs.Refused.{IsLimit, RoundRefused, MassRefused}
 use Rattle.mass_fold.specs.Rounds.{geometric, scale_of, InRounds, RoundsBlame, OverRest, OverRestBlames}
 use Rattle.mass_fold.specs.Rows.{Rows}
@@ -42,7 +42,7 @@ same_powers f g e (suc k) = more f.0 f.1 g.0 g.1 (power f k).0 (power f k).1 (po
     more a b c d P p Q q e i = let x = ap (λ z. z * (q * P)) e in let y = ap (λ z. c * b * z) i in omega arith
 
 -- and sums of powers; that of f is so many parts of a power of its denominator
-same_sums : (f g : Fraction) → IsEqual f g → (R : ℕ) → f.1 * ((power_sum g R).1 * geometric f R) ≡ (power_sum g R).0 * f.1 ^ R
+pub same_sums : (f g : Fraction) → IsEqual f g → (R : ℕ) → f.1 * ((power_sum g R).1 * geometric f R) ≡ (power_sum g R).0 * f.1 ^ R
 same_sums f g e zero = omega arith
 same_sums f g e (suc k) =
     rw (pow-suc f.1 k) (more f.0 f.1 g.0 g.1 (power_sum g k).0 (power_sum g k).1 (geometric f k) (f.1 ^ k) e (same_sums f g e k))
@@ -156,6 +156,18 @@ module _ (p : Source) (n : ℕ) (r : Option ℕ) (rows : Rows) (f : Fraction) (r
       joined : (m0 m1 h : ℕ) → m1 * h ≡ m0 * Q → m1 * (g.1 - g.0) * h ≡ m0 * g.1 * (Q - whole Q f)
       joined m0 m1 h e = let x = ap (λ z. (g.1 - g.0) * z) e in let y = ap (λ z. m0 * z) rest_exact in omega arith
 
+  -- the masses are parts of what does not fail
+  pub rest_parts : f.0 < f.1 → (masses : Rows) → OverRest f rows masses → WholeWithin Q masses
+  rest_parts below masses h =
+      let s = h Q round.parts in
+      record {
+        scale = Q - whole Q f;
+        positive = rest_above f rows below Q round.parts;
+        within = omega arith;
+        kept = s.0;
+        sum = let z = s.1 (λ x. 1) in let y = round.parts.sum in omega arith;
+      }
+
   -- ---- why they are refused
   pub rounds_refused : InLowest f → (R : ℕ) → 1 ≤ R → (e : MassError) → RoundsBlame e f R rows → MassRefused e p n r (Some R)
   rounds_refused l R some TooWide h =
@@ -187,3 +199,13 @@ pub if_passes : {A : Type 0} (result : Result A MassError) (R : Option ℕ) (f :
 if_passes (Ok a) None f h = h
 if_passes (Ok a) (Some k) f h = tt
 if_passes (Err e) R f h = tt
+
+pub if_parts : (es : Rows) (result : Result Rows MassError) (R : Option ℕ) (most : ℕ) → WholeWithin most es → IfOk result (λ rows. rows ≡ es) → IfOk result (λ rows. IfNone R (WholeWithin most rows))
+if_parts es (Ok rows) None most h p = subst (WholeWithin most) (sym p) h
+if_parts es (Ok rows) (Some k) most h p = tt
+if_parts es (Err e) R most h p = tt
+
+pub no_parts : {A : Type 0} (result : Result A MassError) (R : Option ℕ) (k : ℕ) (Fact : A → Type 0) → R ≡ Some k → IfOk result (λ a. IfNone R (Fact a))
+no_parts (Ok a) None k Fact e = cc
+no_parts (Ok a) (Some k) l Fact e = tt
+no_parts (Err e) R k Fact p = tt

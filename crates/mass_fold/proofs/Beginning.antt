@@ -19,11 +19,14 @@ use Rattle.mass_fold.specs.declared.ended.Ended.{Ended}
 use Rattle.mass_fold.specs.Amounts.{Entries, Blames}
 use Rattle.mass_fold.specs.Ended.{IsNoWeight, IsNone}
 use Rattle.mass_fold.specs.Fold.{Stands, EndStands, FoldsTo, FoldBlames}
-use Rattle.mass_fold.specs.Body.{BodyGives}
+use Rattle.mass_fold.specs.Body.{BodyGives, BodyMeters}
+use Rattle.mass_fold.specs.declared.meter.Meter.{Meter}
+use Rattle.mass_fold.specs.Metering.{Meters}
+use Rattle.mass_tables.specs.Reached.{block_draws}
 use Rattle.mass_fold.proofs.Powers.{equal_whole}
 use Rattle.mass_fold.proofs.BodyMasses.{masses_held, failed_equal}
 
-no_weight : (N : ℕ) (f : Fraction) → IsNoWeight f → (whole N f ≡ 0) × Whole N f
+pub no_weight : (N : ℕ) (f : Fraction) → IsNoWeight f → (whole N f ≡ 0) × Whole N f
 no_weight N f h = whole_from N f 0 h.1 (let z = ap (λ x. x * N) h.0 in omega arith)
 
 none_stands : (N : ℕ) (E : Ended) → IsNone E → EndStands N E []
@@ -61,3 +64,8 @@ module _ (p : Source) (n : ℕ) (r : Option ℕ) (w : BlockWeights IsWeight p.bo
       let a = at_width p n r w in
       let one_whole : whole Q (1, 1) ≡ Q = (whole_from Q (1, 1) Q (omega arith) (omega arith)).0 in
       d Q (peak_of p n r) (sure (zeros (length p.names))) [] a.positive (sure_stands Q f (zeros (length p.names)) s es fa fb fe se ee) (none_stands Q E no) a.within (omega arith)
+
+  pub body_meters : (m m' : Meter) → Meters r (block_flow n r p.body) (block_draws n r p.body) es E m m' → BodyMeters p n r m m'
+  body_meters m m' d M Mp k =
+      let a = at_width p n r w in
+      d Q M (peak_of p n r) (sure (zeros (length p.names))) [] a.positive Mp (sure_stands Q f (zeros (length p.names)) s es fa fb fe se ee) (none_stands Q E no) a.within k

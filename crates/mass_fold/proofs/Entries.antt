@@ -19,6 +19,7 @@ use Rattle.mass_tables.specs.Tables.{Table, states}
 use Rattle.mass_tables.specs.Scale.{whole, Whole, amount}
 use Rattle.mass_fold.specs.Amounts.{Entries, held, Held, PartOf, order, found, Sized, PutSized}
 use Rattle.mass_fold.proofs.Insertion.{whole_pos}
+use Rattle.mass_fold.specs.declared.table.TheConstants.{MOST_STATES}
 
 abbrev pub same : State → State → Bool
 same = pointwise int_eq
@@ -85,8 +86,8 @@ member_unique (x ∷ xs) q h = at_head (is_member same xs x) (same q x) refl ref
     at_head false true p r k i = rw r refl
     at_head false false p r k i = rw r (i k)
 
-pub put_many : (s : State) (f : Fraction) (es : Entries) (N : ℕ) (I : Table) → IsStrictlySortedBy order (keys_of es) → found order s es ≡ None → 65536 ≤ length es →
-    0 < N → Held N es → 0 < f.0 → Whole N f → PartOf N es s f I → 65536 < states I
+pub put_many : (s : State) (f : Fraction) (es : Entries) (N : ℕ) (I : Table) → IsStrictlySortedBy order (keys_of es) → found order s es ≡ None → MOST_STATES ≤ length es →
+    0 < N → Held N es → 0 < f.0 → Whole N f → PartOf N es s f I → MOST_STATES < states I
 put_many s f es N I h e full pos k p w within =
     let ks = keys_of es in
     let d : IsDistinct same ks = subst (λ E. IsDistinct E ks) (sym same_is_eq) (IsDistinct-from_sorted order ks h) in

@@ -92,7 +92,7 @@ module _ (n : ℕ) (r : Option ℕ) where
   last_few N L done I w = (w.0, w.1)
   last_few N L (st ▸ b) I w = last_few N L b (statement_flow n r st I).next (tables_second N L (statement_flow n r st I).tables _ w.2)
 
-  first_of : (N L : ℕ) (st : Statement) (b : Statements) (I : Table) → Within N L (block_flow n r (st ▸ b) I) → Around N L I (statement_flow n r st I) × Within N L (block_flow n r b (statement_flow n r st I).next)
+  pub first_of : (N L : ℕ) (st : Statement) (b : Statements) (I : Table) → Within N L (block_flow n r (st ▸ b) I) → Around N L I (statement_flow n r st I) × Within N L (block_flow n r b (statement_flow n r st I).next)
   first_of N L st b I w =
       let f = statement_flow n r st I in
       let g = block_flow n r b f.next in

@@ -25,3 +25,9 @@ pub mod BodyMasses
 pub mod RoundMasses
 pub mod AllRounds
 pub mod Beginning
+pub mod Weighed
+pub mod Meters
+pub mod Prices
+pub mod RoundBits
+pub mod MeterFolds
+pub mod MeterLoops

@@ -1,5 +1,5 @@
 -- Loops and choices of a fold.
-use Rattle.std.proofs.Common.{◌≡◌, ℕ, zero, suc, ◌+◌, ◌≤◌, [], ◌++◌, Option, refl, sym, ap, ◌∙◌, subst, arith}
+use Rattle.std.proofs.Common.{◌≡◌, ℕ, zero, suc, ◌+◌, ◌≤◌, ◌<◌, [], ◌++◌, Option, refl, sym, ap, ◌∙◌, subst, arith}
 use Rattle.gcl_core.specs.declared.answers.Limit.TheVariants as limit_kind
 use Rattle.gcl_core.specs.Syntax.{Expression, Statements}
 use Rattle.gcl_core.specs.Bounds.{IsWeight, BlockWeights}
@@ -49,7 +49,7 @@ module _ (n : ℕ) (r : Option ℕ) (e : Expression) (b : Statements) (es : Entr
   head_turn N L (suc t) I w = w.tables.1
 
   -- what is inside one turn
-  turn_inside : (N L t : ℕ) (K : Table) → Within N L (turns (suc t) K) → Within N L (body (only (holds v) K)) × Within N L (turns t (body (only (holds v) K)).next)
+  pub turn_inside : (N L t : ℕ) (K : Table) → Within N L (turns (suc t) K) → Within N L (body (only (holds v) K)) × Within N L (turns t (body (only (holds v) K)).next)
   turn_inside N L t K w =
       let f = body (only (holds v) K) in
       let g = turns t f.next in (
@@ -98,11 +98,12 @@ module _ (n : ℕ) (r : Option ℕ) (e : Expression) (b : Statements) (es : Entr
           exits_in zero K U o y h = omega arith
           exits_in (suc t) K U o y h = let a = amount_append N U (only (fails v) K) (turns t (body (only (holds v) K)).next).next in omega arith
 
-  module _ (t : ℕ) (now exits : Entries) (F : Ended) (l : LoopsOn turns n (suc t) es E now exits F) (first second : Entries) (G : Ended)
+  module _ (t : ℕ) (now exits : Entries) (F : Ended) (first second : Entries) (G : Ended)
       (d : StepsTo (kept_if (holds v)) (stopped v) [] now F first G) (c : StepsTo (kept_if (fails v)) (stopped v) [] now F second G) where
-    pub loop_turn : (exits' now' : Entries) (H : Ended) → ((E : Ended) → StepsTo all_kept none_stopped exits second E exits' E) → FoldsTo body first G now' H → LoopsOn turns n t es E now' exits' H
-    loop_turn exits' now' H m x N L I J Np s u w =
-        let at = l N L I J Np s u w in
+    -- from what stands before a turn to what stands after it
+    abbrev pub turned : (exits' now' : Entries) (H : Ended) → ((E : Ended) → StepsTo all_kept none_stopped exits second E exits' E) → FoldsTo body first G now' H →
+        (N L : ℕ) (I : Table) (J : Weighted End) → 0 < N → LoopAt turns n (suc t) now exits F N L I J → LoopAt turns n t now' exits' H N L I J
+    turned exits' now' H m x N L I J Np at =
         let K = at.table in
         let A = only (holds v) K in
         let f = body A in
@@ -123,6 +124,11 @@ module _ (n : ℕ) (r : Option ℕ) (e : Expression) (b : Statements) (es : Entr
           stopping = λ U. let p = at.stopping U in let q = amount_append N U (at.gone ++ faults v K) f.ended in let o = amount_append N U at.gone (faults v K) in
               let x = amount_append N U (faults v K) (f.ended ++ g.ended) in let y = amount_append N U f.ended g.ended in omega arith;
         }
+
+  module _ (t : ℕ) (now exits : Entries) (F : Ended) (l : LoopsOn turns n (suc t) es E now exits F) (first second : Entries) (G : Ended)
+      (d : StepsTo (kept_if (holds v)) (stopped v) [] now F first G) (c : StepsTo (kept_if (fails v)) (stopped v) [] now F second G) where
+    pub loop_turn : (exits' now' : Entries) (H : Ended) → ((E : Ended) → StepsTo all_kept none_stopped exits second E exits' E) → FoldsTo body first G now' H → LoopsOn turns n t es E now' exits' H
+    loop_turn exits' now' H m x N L I J Np s u w = turned t now exits F first second G d c exits' now' H m x N L I J Np (l N L I J Np s u w)
 
     pub body_blames : (error : MassError) → BlockWeights IsWeight b → FoldBlames body first G error → OneBlames (turns n) es E error
     body_blames error wb x N L I J Np s u w m =

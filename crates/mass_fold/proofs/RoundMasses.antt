@@ -36,7 +36,7 @@ module _ (p : Source) (n : ℕ) (r : Option ℕ) (w : BlockWeights IsWeight p.bo
   abbrev Q : ℕ
   Q = round_width p n r
 
-  round_positive : (is : End → Bool) → 0 < (sum_of is (weighted_ends n r p.body (zeros (length p.names)))).1
+  pub round_positive : (is : End → Bool) → 0 < (sum_of is (weighted_ends n r p.body (zeros (length p.names)))).1
   round_positive is = sum_positive is (weighted_ends n r p.body (zeros (length p.names))) (ends_positive n r p.body (zeros (length p.names)) w)
 
   -- the width of some rounds is no less than that of one

@@ -180,19 +180,19 @@ draws_head N (d ∷ es) [] ws Np s h w = absurd (let z = s.same (λ s. 1) in let
 draws_head N (d ∷ es) (e ∷ I) ws Np s h w = draws_first N ws (draws_each ws I) w
 
 module _ (n : ℕ) (r : Option ℕ) (p : Weight) (a c : Statements) (w : IsWeight p) (es : Entries) (E : Ended) where
-  abbrev A : Table → Table
+  abbrev pub A : Table → Table
   A I = scaled (class_weight p.den r p.num) I
 
-  abbrev C : Table → Table
+  abbrev pub C : Table → Table
   C I = scaled (class_weight p.den r (p.den - p.num)) I
 
-  abbrev Z : Table → Weighted End
+  abbrev pub Z : Table → Weighted End
   Z I = all_end (limit limit_kind.Attempts) (scaled (no_class_weight p.den r) I)
 
-  inside : (N L : ℕ) (I : Table) → Around N L I (statement_flow n r (choice p a c) I) → Within N L (both (Z I) (block_flow n r a (A I)) (block_flow n r c (C I)))
+  pub inside : (N L : ℕ) (I : Table) → Around N L I (statement_flow n r (choice p a c) I) → Within N L (both (Z I) (block_flow n r a (A I)) (block_flow n r c (C I)))
   inside N L I h = record { tables = h.inside.tables; ended = h.inside.ended; draws = draws_second N (draws_each (draw_weights p.den r) I) ((block_flow n r a (A I)).draws ++ (block_flow n r c (C I)).draws) h.inside.draws }
 
-  sides_within : (N L : ℕ) (I : Table) → Around N L I (statement_flow n r (choice p a c) I) → SidesWithin N L p r I
+  pub sides_within : (N L : ℕ) (I : Table) → Around N L I (statement_flow n r (choice p a c) I) → SidesWithin N L p r I
   sides_within N L I h =
       let fa = block_flow n r a (A I) in
       let fc = block_flow n r c (C I) in

@@ -12,6 +12,7 @@ use Rattle.mass_tables.specs.Tables.{Table, states}
 use Rattle.mass_tables.specs.Scale.{whole, Whole, amount, weight}
 use Rattle.mass_fold.specs.declared.error.MassError.{MassError}
 use Rattle.mass_fold.specs.declared.error.MassError.TheVariants.{TooWide, TooManyStates, AllFailed, OutOfMemory}
+use Rattle.mass_fold.specs.declared.table.TheConstants.{MOST_STATES}
 
 abbrev pub Entries : Type 0
 Entries = List (State × Fraction)
@@ -29,7 +30,7 @@ Held N (e ∷ es) = (0 < e.1.0) × Whole N e.1 × Held N es
 -- why work is refused whose fractions are whole at scale N, and whose tables have at most L states
 abbrev pub Blames : MassError → ℕ → ℕ → Type 0
 Blames TooWide N L = 2 ^ 128 ≤ N
-Blames TooManyStates N L = 65536 < L
+Blames TooManyStates N L = MOST_STATES < L
 Blames AllFailed N L = ⊥
 Blames OutOfMemory N L = Unit {0}
 

@@ -1,18 +1,22 @@
 -- What the fold of a program's body gives.
-use Rattle.std.specs.Prelude.{◌≡◌, ℕ, ◌+◌, ◌*◌, Bool, cond, length, Option}
+use Rattle.std.specs.Prelude.{◌≡◌, ℕ, ◌+◌, ◌*◌, ◌^◌, ◌<◌, ◌≤◌, Bool, cond, length, Option, Some, None}
 use Rattle.gcl_core.specs.Syntax.{Source}
 use Rattle.gcl_core.specs.Blocks.{End, on}
 use Rattle.gcl_core.specs.Runs.{zeros}
 use Rattle.gcl_core.specs.WeightedEnds.{weighted_ends}
 use Rattle.gcl_core.specs.Mass.{sum_of, failed_mass}
 use Rattle.frac128.specs.Fraction.{IsEqual}
-use Rattle.mass_tables.specs.Scale.{amount}
+use Rattle.gcl_core.specs.Fractions.{Fraction}
+use Rattle.mass_tables.specs.Scale.{whole, Whole, amount}
+use Rattle.mass_tables.specs.Reached.{draws_of}
 use Rattle.mass_tables.specs.Tables.{tables_of}
 use Rattle.mass_tables.specs.Width.{round_width}
 use Rattle.mass_fold.specs.declared.ended.Ended.{Ended}
+use Rattle.mass_fold.specs.declared.meter.Meter.{Meter}
 use Rattle.mass_fold.specs.Amounts.{Entries, held}
 use Rattle.mass_fold.specs.Ended.{rows_of}
 use Rattle.mass_fold.specs.Fold.{Stands, EndStands}
+use Rattle.mass_fold.specs.Metering.{Counted, Priced, price}
 
 -- At the common denominator of a round, the table and what ended stand for those of the definition. Whatever ends of the body are
 -- meant, in a state or otherwise, they hold together as much as the weighted ends of the body give them.
@@ -23,3 +27,21 @@ pub record BodyGives (p : Source) (n : ℕ) (r : Option ℕ) (es : Entries) (E :
   pub failed : IsEqual E.failed (failed_mass p n r)
   pub ends : EndStands (round_width p n r) E (tables_of p n r).ended
   pub total : held (round_width p n r) (λ s. 1) es + amount (round_width p n r) (λ x. 1) (rows_of E) ≡ round_width p n r
+
+-- At the common denominator times a scale at which the parts of each draw that is reached are whole, the meter counts their bits.
+abbrev pub BodyMeters : Source → ℕ → Option ℕ → Meter → Meter → Type 0
+BodyMeters p n r m m' = (M : ℕ) → 0 < M → Priced r M (draws_of p n r) → Counted (round_width p n r * M) (amount (round_width p n r) (price r M) (draws_of p n r)) m m'
+
+-- so many of X parts of a bit; none, where 128 bits are too few for X times any bound of them
+abbrev pub BitsAt : ℕ → ℕ → Option Fraction → Type 0
+BitsAt X many (Some f) = Whole X f × (whole X f ≡ many)
+BitsAt X many None = (C : ℕ) → 1 ≤ C → many ≤ X * C → 2 ^ 128 ≤ X * C
+
+-- the bits of all draws that a round reaches
+abbrev pub RoundBits : Source → ℕ → Option ℕ → Option Fraction → Type 0
+RoundBits p n r bits = (M : ℕ) → 0 < M → Priced r M (draws_of p n r) → BitsAt (round_width p n r * M) (amount (round_width p n r) (price r M) (draws_of p n r)) bits
+
+-- a whole number of N parts, and no more than all
+pub record IsMass (N : ℕ) (f : Fraction) : Type 0 where
+  pub parts : Whole N f
+  pub at_most_all : whole N f ≤ N

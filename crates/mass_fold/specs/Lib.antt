@@ -8,3 +8,5 @@ pub mod Outcomes
 pub mod Rounds
 pub mod Masses
 pub mod Refused
+pub mod Weighed
+pub mod Metering

@@ -26,12 +26,20 @@ pub record AreParts (N : ℕ) (s f : Fraction) : Type 0 where
   pub second : Whole N f
   pub sum : whole N s + whole N f ≤ N
 
+-- s, and f for a further round, where s in some of R rounds is never above C
+pub record MayRepeat (N C : ℕ) (s f : Fraction) (R : ℕ) : Type 0 where
+  pub positive : 0 < N
+  pub some : 1 ≤ C
+  pub first : Whole N s
+  pub second : Whole N f
+  pub bound : (k : ℕ) → k < R → geometric f (suc k) * whole N s ≤ N * f.1 ^ k * C
+
 -- t is s in one of R rounds
 abbrev pub IsRepeated : Fraction → Fraction → ℕ → Fraction → Type 0
-IsRepeated s f R t = (N : ℕ) → AreParts N s f → Whole (scale_of N f R) t × (whole (scale_of N f R) t ≡ geometric f R * whole N s)
+IsRepeated s f R t = (N : ℕ) → 0 < N → Whole N s → Whole N f → Whole (scale_of N f R) t × (whole (scale_of N f R) t ≡ geometric f R * whole N s)
 
 abbrev pub RepeatBlames : Fraction → Fraction → ℕ → Type 0
-RepeatBlames s f R = (N : ℕ) → AreParts N s f → 2 ^ 128 ≤ scale_of N f R
+RepeatBlames s f R = (N C : ℕ) → MayRepeat N C s f R → 2 ^ 128 ≤ scale_of N f R * C
 
 -- ---- all outcomes
 

@@ -10,6 +10,7 @@ ghost use Rattle.gcl_core.specs.Views.{expression_of};
 ghost use Rattle.gcl_core.specs.Value.{value_of, Reads};
 ghost use Rattle.mass_tables.specs.Counts.{part_at, rest_at, drawn, undrawn, all_kept, none_kept, all_stopped, none_stopped};
 ghost use Rattle.mass_fold.specs.declared.ended.Ended.{Ended};
+ghost use Rattle.mass_fold.specs.declared.error.MassError.TheVariants.{TooWide};
 ghost use Rattle.mass_fold.specs.Ended.{end_of};
 ghost use Rattle.mass_fold.specs.Amounts.{Fits, SameSize, Sized};
 ghost use Rattle.mass_fold.specs.Steps.{DrawsTo, DrawBlames, IsParts, PartsBlame, IsPower, PowerBlames, SpreadGives, SpreadBlames, AddedBy, StoppedBy, BlamedBy, at_numbers};
@@ -49,6 +50,7 @@ pub fn parts(bound: u64, attempts: Option<u64>) -> Result<(Frac, Frac), MassErro
     requires some { IfSome attempts (λ r. 1 ≤ r) }
     ensures ok { IfOk result (λ t. IsParts bound attempts t.0 t.1) }
     ensures cause { IfErr result (PartsBlame bound attempts) }
+    ensures wide { IfErr result (λ e. e ≡ TooWide) }
 {
     let nothing = Frac::of(0, 1);
     let wide = u128::from(bound);

@@ -6,12 +6,15 @@ ghost use Rattle.gcl_core.specs.Views.{expression_of, statement_of, statements_o
 ghost use Rattle.gcl_core.specs.Value.{value_of, Reads};
 ghost use Rattle.mass_tables.specs.Tables.{statement_flow, block_flow, loop_flow};
 ghost use Rattle.mass_fold.specs.Amounts.{Fits, SameSize};
+ghost use Rattle.mass_tables.specs.Reached.{statement_draws, block_draws, loop_draws};
 ghost use Rattle.mass_fold.specs.Fold.{FoldsTo, FoldBlames, FoldsOne, OneBlames};
+ghost use Rattle.mass_fold.specs.Metering.{Meters, MetersOne};
 
 use crate::choosing::sides;
 use crate::draws::draw;
 use crate::ended::{Ended, Gone};
 use crate::error::MassError;
+use crate::meter::{Meter, count_choice, count_uniform};
 use crate::state::State;
 use crate::steps::{assign, end_all, merge, split};
 use frac128::Frac;
@@ -19,7 +22,7 @@ use gcl_core::{Block, Expr, Stmt};
 use std::alloc::Global;
 use std::collections::BTreeMap;
 
-/// The table after a block; what ended is added.
+/// The table after a block; what ended is added, and the bits of the draws that are reached.
 #[cycle(fold)]
 pub fn fold_block(
     alloc: Global,
@@ -28,17 +31,19 @@ pub fn fold_block(
     attempts: Option<u64>,
     table: BTreeMap<State, Frac>,
     ended: &mut Ended,
+    meter: &mut Meter,
 ) -> Result<BTreeMap<State, Frac>, MassError>
     requires fits { Fits (λ m. BlockBelow m (statements_of b.now)) table.entries }
     requires weights { BlockWeights IsWeight (statements_of b.now) }
     requires some { IfSome attempts (λ r. 1 ≤ r) }
     ensures ok { IfOk result (λ t. FoldsTo (block_flow turns attempts (statements_of b.now)) table.entries ended.old t.entries ended.new) }
+    ensures bits { IfOk result (λ t. Meters attempts (block_flow turns attempts (statements_of b.now)) (block_draws turns attempts (statements_of b.now)) table.entries ended.old meter.old meter.new) }
     ensures sized { IfOk result (λ t. SameSize table.entries t.entries) }
     ensures cause { IfErr result (FoldBlames (block_flow turns attempts (statements_of b.now)) table.entries ended.old) }
 {
     let mut now = table;
     for s in &b.stmts {
-        match fold_stmt(alloc, s, turns, attempts, now, ended) {
+        match fold_stmt(alloc, s, turns, attempts, now, ended, meter) {
             Ok(next) => now = next,
             Err(error) => return Err(error),
         }
@@ -55,11 +60,13 @@ fn fold_stmt(
     attempts: Option<u64>,
     table: BTreeMap<State, Frac>,
     ended: &mut Ended,
+    meter: &mut Meter,
 ) -> Result<BTreeMap<State, Frac>, MassError>
     requires fits { Fits (λ m. StatementBelow m (statement_of s.now)) table.entries }
     requires weights { StatementWeights IsWeight (statement_of s.now) }
     requires some { IfSome attempts (λ r. 1 ≤ r) }
     ensures ok { IfOk result (λ t. FoldsOne (statement_flow turns attempts (statement_of s.now)) table.entries ended.old t.entries ended.new) }
+    ensures bits { IfOk result (λ t. MetersOne attempts (statement_flow turns attempts (statement_of s.now)) (statement_draws turns attempts (statement_of s.now)) table.entries ended.old meter.old meter.new) }
     ensures sized { IfOk result (λ t. SameSize table.entries t.entries) }
     ensures cause { IfErr result (OneBlames (statement_flow turns attempts (statement_of s.now)) table.entries ended.old) }
 {
@@ -72,10 +79,13 @@ fn fold_stmt(
             Ok(next) => Ok(next),
             Err(error) => Err(error),
         },
-        Stmt::Uniform(x, e) => match draw(alloc, *x, e, attempts, table, ended) {
-            Ok(next) => Ok(next),
-            Err(error) => Err(error),
-        },
+        Stmt::Uniform(x, e) => {
+            *meter = count_uniform(*meter, e, attempts, &table);
+            match draw(alloc, *x, e, attempts, table, ended) {
+                Ok(next) => Ok(next),
+                Err(error) => Err(error),
+            }
+        }
         Stmt::Observe(e) => match split(alloc, e, table, ended) {
             Ok((first, second)) => match end_all(Gone::Failed, second, ended) {
                 Ok(()) => Ok(first),
@@ -84,8 +94,10 @@ fn fold_stmt(
             Err(error) => Err(error),
         },
         Stmt::If(e, a, c) => match split(alloc, e, table, ended) {
-            Ok((first, second)) => match fold_block(alloc, a, turns, attempts, first, ended) {
-                Ok(mut left) => match fold_block(alloc, c, turns, attempts, second, ended) {
+            Ok((first, second)) => match fold_block(
+                alloc, a, turns, attempts, first, ended, meter,
+            ) {
+                Ok(mut left) => match fold_block(alloc, c, turns, attempts, second, ended, meter) {
                     Ok(right) => match merge(&mut left, right) {
                         Ok(()) => Ok(left),
                         Err(error) => Err(error),
@@ -96,23 +108,32 @@ fn fold_stmt(
             },
             Err(error) => Err(error),
         },
-        Stmt::While(e, body) => match fold_loop(alloc, body, e, turns, attempts, table, ended) {
+        Stmt::While(e, body) => match fold_loop(
+            alloc, body, e, turns, attempts, table, ended, meter,
+        ) {
             Ok(next) => Ok(next),
             Err(error) => Err(error),
         },
-        Stmt::Choice(p, a, c) => match sides(alloc, *p, attempts, &table, ended) {
-            Ok((first, second)) => match fold_block(alloc, a, turns, attempts, first, ended) {
-                Ok(mut left) => match fold_block(alloc, c, turns, attempts, second, ended) {
-                    Ok(right) => match merge(&mut left, right) {
-                        Ok(()) => Ok(left),
+        Stmt::Choice(p, a, c) => {
+            *meter = count_choice(*meter, *p, attempts, &table);
+            match sides(alloc, *p, attempts, &table, ended) {
+                Ok((first, second)) => {
+                    match fold_block(alloc, a, turns, attempts, first, ended, meter) {
+                        Ok(mut left) => {
+                            match fold_block(alloc, c, turns, attempts, second, ended, meter) {
+                                Ok(right) => match merge(&mut left, right) {
+                                    Ok(()) => Ok(left),
+                                    Err(error) => Err(error),
+                                },
+                                Err(error) => Err(error),
+                            }
+                        }
                         Err(error) => Err(error),
-                    },
-                    Err(error) => Err(error),
-                },
+                    }
+                }
                 Err(error) => Err(error),
-            },
-            Err(error) => Err(error),
-        },
+            }
+        }
     }
 }
 
@@ -125,11 +146,13 @@ fn fold_loop(
     attempts: Option<u64>,
     table: BTreeMap<State, Frac>,
     ended: &mut Ended,
+    meter: &mut Meter,
 ) -> Result<BTreeMap<State, Frac>, MassError>
     requires fits { Fits (λ m. Reads (expression_of e.now) m × BlockBelow m (statements_of body.now)) table.entries }
     requires weights { BlockWeights IsWeight (statements_of body.now) }
     requires some { IfSome attempts (λ r. 1 ≤ r) }
     ensures ok { IfOk result (λ t. FoldsOne (loop_flow (value_of (expression_of e.now)) (block_flow turns attempts (statements_of body.now)) turns) table.entries ended.old t.entries ended.new) }
+    ensures bits { IfOk result (λ t. MetersOne attempts (loop_flow (value_of (expression_of e.now)) (block_flow turns attempts (statements_of body.now)) turns) (loop_draws (value_of (expression_of e.now)) (block_draws turns attempts (statements_of body.now)) (block_flow turns attempts (statements_of body.now)) turns) table.entries ended.old meter.old meter.new) }
     ensures sized { IfOk result (λ t. SameSize table.entries t.entries) }
     ensures cause { IfErr result (OneBlames (loop_flow (value_of (expression_of e.now)) (block_flow turns attempts (statements_of body.now)) turns) table.entries ended.old) }
 {
@@ -144,7 +167,7 @@ fn fold_loop(
                 if let Err(error) = merge(&mut exits, second) {
                     return Err(error);
                 }
-                match fold_block(alloc, body, turns, attempts, first, ended) {
+                match fold_block(alloc, body, turns, attempts, first, ended, meter) {
                     Ok(next) => now = next,
                     Err(error) => return Err(error),
                 }

@@ -1,6 +1,7 @@
-//! Exact masses by merged tables of states.
+//! Exact masses by merged tables of states, and the bits of the draws on their way.
 #![tactic(auto)]
 
+mod bits;
 mod body;
 mod choosing;
 mod draws;
@@ -9,6 +10,7 @@ mod error;
 mod fold;
 mod laws;
 mod masses;
+mod meter;
 mod outcomes;
 mod rounds;
 mod rows;
@@ -18,7 +20,9 @@ mod table;
 #[cfg(test)]
 mod tests;
 
+pub use bits::round_bits;
 pub use error::MassError;
-pub use laws::masses_have_one_list;
+pub use laws::{masses_are_weighed, masses_have_one_list};
 pub use masses::{mass, round};
+pub use rounds::repeated;
 pub use rows::{FracRows, Round};

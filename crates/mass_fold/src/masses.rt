@@ -6,13 +6,15 @@ ghost use Rattle.gcl_core.specs.Fractions.{IsBelowOne};
 ghost use Rattle.gcl_core.specs.Mass.{round_mass, failed_mass, mass_of};
 ghost use Rattle.gcl_core.specs.Outcomes.{same_outcome};
 ghost use Rattle.gcl_core.specs.Views.{source_of};
+ghost use Rattle.gcl_core.specs.declared.rules.TheConstants.{MOST_LIMIT};
 ghost use Rattle.mass_tables.specs.Width.{round_width, width_of};
-ghost use Rattle.mass_fold.specs.Masses.{RoundGives};
+ghost use Rattle.mass_fold.specs.Masses.{RoundGives, WholeWithin};
 ghost use Rattle.mass_fold.specs.Refused.{IsLimit, RoundRefused, MassRefused};
 ghost use Rattle.mass_fold.specs.Rows.{AreMasses};
 
 use crate::body::fold_body;
 use crate::error::MassError;
+use crate::meter::Meter;
 use crate::outcomes::{add_ended, add_results};
 use crate::rounds::{in_rounds, over_rest};
 use crate::rows::{FracRows, Round};
@@ -34,7 +36,8 @@ fn one_round(
     ensures wider { (R : Option ℕ) → round_width (source_of p.now) turns attempts ≤ width_of (source_of p.now) turns attempts R }
 {
     let program = p.program();
-    let (table, ended) = fold_body(alloc, p, turns, attempts)?;
+    let mut meter = Meter::Off;
+    let (table, ended) = fold_body(alloc, p, turns, attempts, &mut meter)?;
     let mut rows = BTreeMap::new(alloc);
     add_results(&program.result, &table, &mut rows)?;
     add_ended(&ended, &mut rows)?;
@@ -54,7 +57,7 @@ pub fn round(
     turns: u64,
     attempts: Option<u64>,
 ) -> Result<Round, MassError>
-    requires turns { turns ≤ 1000000000 }
+    requires turns { turns ≤ MOST_LIMIT }
     requires attempts { IfSome attempts IsLimit }
     ensures rows { IfOk result (λ t. AreMasses (λ x. round_mass (source_of p.now) turns attempts (same_outcome x)) t.rows) }
     ensures failed { IfOk result (λ t. t.failed ≡ lowest (failed_mass (source_of p.now) turns attempts)) }
@@ -83,11 +86,12 @@ pub fn mass(
     attempts: Option<u64>,
     rounds: Option<u64>,
 ) -> Result<FracRows, MassError>
-    requires turns { turns ≤ 1000000000 }
+    requires turns { turns ≤ MOST_LIMIT }
     requires attempts { IfSome attempts IsLimit }
     requires rounds { IfSome rounds IsLimit }
     ensures rows { IfOk result (AreMasses (mass_of (source_of p.now) turns attempts rounds)) }
     ensures passes { IfOk result (λ rows. IfNone rounds (IsBelowOne (failed_mass (source_of p.now) turns attempts))) }
+    ensures parts { IfOk result (λ rows. IfNone rounds (WholeWithin (width_of (source_of p.now) turns attempts rounds) rows)) }
     ensures refused { IfErr result (λ e. MassRefused e (source_of p.now) turns attempts rounds) }
 {
     let (table, failed) = one_round(alloc, p, turns, attempts)?;

@@ -12,8 +12,8 @@ use gcl_core::{Limit, Outcome};
 use std::alloc::Global;
 use std::collections::BTreeMap;
 
-// s + f s + .. for so many rounds; none where it does not fit. Where f is 0, one round is all.
-fn repeated(s: &Frac, f: &Frac, rounds: u64) -> Option<Frac>
+/// s + f s + .. for so many rounds; none where it does not fit. Where f is 0, one round is all.
+pub fn repeated(s: &Frac, f: &Frac, rounds: u64) -> Option<Frac>
     requires { 1 ≤ rounds }
     ensures value { IfSome result (IsRepeated s.now f.now rounds) }
     ensures cause { IfNone result (RepeatBlames s.now f.now rounds) }

@@ -8,7 +8,7 @@ use crate::state::State;
 use frac128::Frac;
 use std::collections::BTreeMap;
 
-pub const LIMIT: usize = 65536;
+pub const MOST_STATES: usize = 65_536;
 
 // What the state weighs once f is added.
 fn sum_at(table: &BTreeMap<State, Frac>, s: &State, f: &Frac) -> Result<Frac, MassError>
@@ -26,7 +26,7 @@ fn sum_at(table: &BTreeMap<State, Frac>, s: &State, f: &Frac) -> Result<Frac, Ma
             }
         }
         None => {
-            if count >= LIMIT {
+            if count >= MOST_STATES {
                 Err(MassError::TooManyStates)
             } else {
                 Ok(*f)

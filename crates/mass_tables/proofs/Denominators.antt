@@ -71,7 +71,7 @@ pub all_second : (N : ℕ) (ps qs : List Fraction) → AllWhole N (ps ++ qs) →
 all_second N [] qs w = w
 all_second N (p ∷ ps) qs w = all_second N ps qs w.1
 
-weights_whole : {A : Type 0} (N : ℕ) (m : Weighted A) → AllWhole N (weights m) → Wholes N m
+pub weights_whole : {A : Type 0} (N : ℕ) (m : Weighted A) → AllWhole N (weights m) → Wholes N m
 weights_whole N [] h = tt
 weights_whole N (e ∷ m) h = (h.0, weights_whole N m h.1)
 

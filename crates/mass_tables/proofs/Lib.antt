@@ -8,3 +8,4 @@ pub mod Kept
 pub mod Positive
 pub mod Paths
 pub mod AtWidth
+pub mod NoneReached

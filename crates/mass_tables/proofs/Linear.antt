@@ -201,7 +201,7 @@ module _ (n : ℕ) (r : Option ℕ) where
   no_turns v b h (suc t) J = no_append (faults v J) _ (no_faults v J) (no_append (block_flow n r b (only (holds v) J)).ended _ (h (only (holds v) J)) (no_turns v b h t (block_flow n r b (only (holds v) J)).next))
 
   mutual
-    no_one : (st : Statement) (I : Table) → NoOn (statement_flow n r st I).ended
+    pub no_one : (st : Statement) (I : Table) → NoOn (statement_flow n r st I).ended
     no_one skip I = no_gone (taken_on I (statement_weighted n r skip))
     no_one (assign x e) I = no_gone (taken_on I (statement_weighted n r (assign x e)))
     no_one (observe e) I = no_gone (taken_on I (statement_weighted n r (observe e)))
@@ -212,7 +212,7 @@ module _ (n : ℕ) (r : Option ℕ) where
         (no_append (block_flow n r a (scaled (class_weight p.den r p.num) I)).ended _ (no_all a (scaled (class_weight p.den r p.num) I)) (no_all c (scaled (class_weight p.den r (p.den - p.num)) I)))
     no_one (loop e a) I = no_turns (value_of e) a (no_all a) n I
 
-    no_all : (b : Statements) (I : Table) → NoOn (block_flow n r b I).ended
+    pub no_all : (b : Statements) (I : Table) → NoOn (block_flow n r b I).ended
     no_all done I = tt
     no_all (st ▸ b) I = no_append (statement_flow n r st I).ended _ (no_one st I) (no_all b (statement_flow n r st I).next)
 

@@ -41,7 +41,7 @@ module _ (n : ℕ) (r : Option ℕ) where
       by_guard (v s) _ _ (p_taken (body s) _ (h s) (λ e. go_on e (loop_weighted v body t) (turns_positive v body h t))) (p_sure (on s))
 
   mutual
-    statement_positive : (st : Statement) (s : State) → StatementWeights IsWeight st → Positive (statement_weighted n r st s)
+    pub statement_positive : (st : Statement) (s : State) → StatementWeights IsWeight st → Positive (statement_weighted n r st s)
     statement_positive skip s w = p_sure (on s)
     statement_positive (assign x e) s w = p_set n r x (value_of e s) s
     statement_positive (observe e) s w = p_seen n r (value_of e s) s

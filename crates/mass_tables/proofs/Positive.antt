@@ -40,7 +40,7 @@ a_append : (m n : List Fraction) → AllPositive m → AllPositive n → AllPosi
 a_append [] n h k = k
 a_append (e ∷ m) n h k = (h.0, a_append m n h.1 k)
 
-p_scaled : {A : Type 0} (w : Fraction) (m : Weighted A) → 0 < w.1 → Positive m → Positive (scaled w m)
+pub p_scaled : {A : Type 0} (w : Fraction) (m : Weighted A) → 0 < w.1 → Positive m → Positive (scaled w m)
 p_scaled (zero, d) m h k = tt
 p_scaled (suc n, d) [] h k = tt
 p_scaled (suc n, d) (e ∷ m) h k = (product_pos d e.0.1 h k.0, p_scaled (suc n, d) m h k.1)
@@ -52,7 +52,7 @@ p_taken (e ∷ m) k h g = p_append (scaled e.0 (k e.1)) (taken_on m k) (p_scaled
 pub p_sure : {A : Type 0} (x : A) → Positive (sure x)
 p_sure x = (omega arith, tt)
 
-p_going : (m : Weighted End) → Positive m → Positive (going_on m)
+pub p_going : (m : Weighted End) → Positive m → Positive (going_on m)
 p_going [] h = tt
 p_going ((w, on s) ∷ m) h = (h.0, p_going m h.1)
 p_going ((w, failed) ∷ m) h = p_going m h.1
@@ -66,7 +66,7 @@ p_gone ((w, failed) ∷ m) h = (h.0, p_gone m h.1)
 p_gone ((w, fault f) ∷ m) h = (h.0, p_gone m h.1)
 p_gone ((w, limit l) ∷ m) h = (h.0, p_gone m h.1)
 
-p_only : (test : State → Bool) (I : Table) → Positive I → Positive (only test I)
+pub p_only : (test : State → Bool) (I : Table) → Positive I → Positive (only test I)
 p_only test [] h = tt
 p_only test (e ∷ I) h = at_head (test e.1) (p_only test I h.1)
   where
@@ -175,7 +175,7 @@ module _ (n : ℕ) (r : Option ℕ) where
       }
 
   mutual
-    p_one : (st : Statement) (I : Table) → StatementWeights IsWeight st → Positive I → FlowPositive (statement_flow n r st I)
+    pub p_one : (st : Statement) (I : Table) → StatementWeights IsWeight st → Positive I → FlowPositive (statement_flow n r st I)
     p_one skip I w p = p_each (statement_weighted n r skip) [] I (λ s. p_sure (on s)) tt p
     p_one (assign x e) I w p = p_each (statement_weighted n r (assign x e)) [] I (λ s. p_set x (value_of e s) s) tt p
     p_one (observe e) I w p = p_each (statement_weighted n r (observe e)) [] I (λ s. p_seen (value_of e s) s) tt p

@@ -2,7 +2,7 @@
 use Rattle.std.proofs.Common.{◌≡◌, ℕ, zero, suc, ◌+◌, ◌*◌, ◌/◌, ◌≤◌, ◌<◌, ◌^◌, Some, None, true, false, cond, Bool, ◌&&◌, refl, sym, ap, ◌∙◌, subst, arith, ⊎_elim}
 use Prim.Native.Nat.{◌∣◌}
 use native.Mathlib.Nat.{mul-div_cancel', mul-div_right, dvd-mul_right, le_of_dvd, dvd_of_mul-dvd-mul_left, mul-dvd-mul_left}
-use Rattle.std.proofs.Math.Nat.{le_of_mul-le-mul_right, mul-le-mul_left}
+use Rattle.std.proofs.Math.Nat.{le_of_mul-le-mul_right, mul-le-mul_left, mul-le-mul_right}
 use Rattle.std.proofs.lemmas.Bool.{cases_lt}
 use Rattle.std.proofs.lemmas.Bool.Decides.{nat_tests}
 use Rattle.std.proofs.lemmas.Nat.Gcd.{IsGcd-swap}
@@ -107,11 +107,13 @@ module _ (N : ℕ) (p q : Fraction) (wp : Whole N p) (wq : Whole N q) where
       pos_right d zero N pos e = absurd (omega arith)
       pos_right d (suc x) N pos e = omega arith
 
-  -- where the scale is below the limit, so is each number of the sum
-  sum_fits : 0 < N → N < 2 ^ 128 → InLowest p → InLowest q → whole N p + whole N q ≤ N → (over < 2 ^ 128) × (numerators < 2 ^ 128)
-  sum_fits pos small lp lq h =
+  -- where the scale times a bound of the sum is below the limit, so is each number of the sum
+  sum_fits : (C : ℕ) → 0 < N → 1 ≤ C → N * C < 2 ^ 128 → InLowest p → InLowest q → whole N p + whole N q ≤ N * C → (over < 2 ^ 128) × (numerators < 2 ^ 128)
+  sum_fits C pos some small lp lq h =
       let a : over ≤ N = le_of_dvd pos (over_divides pos lp lq) in
-      let b : numerators ≤ over = le_of_mul-le-mul_right {k = N} (let m = mul-le-mul_left over h in omega (arith, sum_exact)) pos in
+      let b : numerators ≤ over * C = le_of_mul-le-mul_right {k = N} (let m = mul-le-mul_left over h in omega (arith, sum_exact)) pos in
+      let c : over * C ≤ N * C = mul-le-mul_right C a in
+      let d : N * 1 ≤ N * C = mul-le-mul_left N some in
       (omega arith, omega arith)
 
 sum_some : (l a b : ℕ) → l < 2 ^ 128 → a + b < 2 ^ 128 → sum_over (if_all_fit (l, a, b)) ≡ Some (lowest (a + b, l))
@@ -143,11 +145,14 @@ sum_whole N p q h wp wq e =
     let b = whole_lowest N n l a.1 in
     (ap (whole N) is ∙ b.0 ∙ a.0, subst (Whole N) (sym is) b.1)
 
-pub sum_refused : (N : ℕ) (p q : Fraction) → 0 < N → Whole N p → Whole N q → InLowest p → InLowest q → whole N p + whole N q ≤ N → sum_of p q ≡ None → 2 ^ 128 ≤ N
-sum_refused N p q pos wp wq lp lq h e =
-    ⊎_elim (λ small. let f = sum_fits N p q wp wq pos small lp lq h in
+pub sum_wide : (N C : ℕ) (p q : Fraction) → 0 < N → 1 ≤ C → Whole N p → Whole N q → InLowest p → InLowest q → whole N p + whole N q ≤ N * C → sum_of p q ≡ None → 2 ^ 128 ≤ N * C
+sum_wide N C p q pos one wp wq lp lq h e =
+    ⊎_elim (λ small. let f = sum_fits N p q wp wq C pos one small lp lq h in
     let some = ap sum_over (sum_parts N p q wp wq) ∙ sum_some _ _ _ f.0 f.1 in
-    let bad : None ≡ Some _ = sym e ∙ some in cc) (λ large. large) (cases_lt N (2 ^ 128))
+    let bad : None ≡ Some _ = sym e ∙ some in cc) (λ large. large) (cases_lt (N * C) (2 ^ 128))
+
+pub sum_refused : (N : ℕ) (p q : Fraction) → 0 < N → Whole N p → Whole N q → InLowest p → InLowest q → whole N p + whole N q ≤ N → sum_of p q ≡ None → 2 ^ 128 ≤ N
+sum_refused N p q pos wp wq lp lq h e = let all = sum_wide N 1 p q pos (omega arith) wp wq lp lq (omega arith) e in omega arith
 
 -- ---- products
 same_if_fits : (f h : Fraction) → if_fits f ≡ Some h → h ≡ f
@@ -164,15 +169,20 @@ product_whole N p q h w e =
     let is : h ≡ lowest (p.0 * q.0, p.1 * q.1) = same_if_fits (lowest (p.0 * q.0, p.1 * q.1)) h e in
     (ap (whole N) is ∙ b.0, subst (Whole N) (sym is) b.1)
 
-pub product_refused : (N : ℕ) (p q : Fraction) → 0 < N → Whole N (p.0 * q.0, p.1 * q.1) → whole N (p.0 * q.0, p.1 * q.1) ≤ N → product_of p q ≡ None → 2 ^ 128 ≤ N
-product_refused N p q pos w h e =
+pub product_wide : (N C : ℕ) (p q : Fraction) → 0 < N → 1 ≤ C → Whole N (p.0 * q.0, p.1 * q.1) → whole N (p.0 * q.0, p.1 * q.1) ≤ N * C → product_of p q ≡ None → 2 ^ 128 ≤ N * C
+product_wide N C p q pos one w h e =
     let n = p.0 * q.0 in
     let d = p.1 * q.1 in
     let low = lowest_in_lowest n d (omega (arith, w.positive)) in
     let wl = whole_lowest N n d w in
     let l = lowest (n, d) in
-    ⊎_elim (λ small.
+    ⊎_elim (λ (small : N * C < 2 ^ 128).
     let a : l.1 ≤ N = le_of_dvd pos (lowest_divides N l pos low wl.1) in
-    let b : l.0 ≤ l.1 = le_of_mul-le-mul_right {k = N} (let m : l.1 * whole N l ≤ l.1 * N = mul-le-mul_left l.1 (rw wl.0 h) in omega (arith, wl.1.exact)) pos in
+    let b : l.0 ≤ l.1 * C = le_of_mul-le-mul_right {k = N} (let m : l.1 * whole N l ≤ l.1 * (N * C) = mul-le-mul_left l.1 (rw wl.0 h) in omega (arith, wl.1.exact)) pos in
+    let c : l.1 * C ≤ N * C = mul-le-mul_right C a in
+    let m : N * 1 ≤ N * C = mul-le-mul_left N one in
     let some : product_of p q ≡ Some l = some_both l.0 l.1 (omega arith) (omega arith) in
-    let bad : None ≡ Some l = sym e ∙ some in cc) (λ large. large) (cases_lt N (2 ^ 128))
+    let bad : None ≡ Some l = sym e ∙ some in cc) (λ large. large) (cases_lt (N * C) (2 ^ 128))
+
+pub product_refused : (N : ℕ) (p q : Fraction) → 0 < N → Whole N (p.0 * q.0, p.1 * q.1) → whole N (p.0 * q.0, p.1 * q.1) ≤ N → product_of p q ≡ None → 2 ^ 128 ≤ N
+product_refused N p q pos w h e = let all = product_wide N 1 p q pos (omega arith) w (omega arith) e in omega arith

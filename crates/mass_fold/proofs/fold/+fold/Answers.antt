@@ -12,6 +12,9 @@ use Rattle.mass_fold.proofs.Folds as branches
 use Rattle.mass_fold.proofs.Loops.{loop_start, loop_dry, loop_turn, loop_end, guard_blames, exits_blame, body_blames, turns_blame, loops_at}
 use Rattle.mass_fold.proofs.Sides.{sides_blame, fold_choice}
 use Rattle.mass_fold.proofs.Sides as choices
+use Rattle.mass_tables.specs.Reached.{block_draws}
+use Rattle.mass_fold.proofs.MeterFolds.{meters_next, meters_end, meters_empty, meters_as, uniform_meters, branch_meters, choice_meters}
+use Rattle.mass_fold.proofs.MeterLoops.{draws, meter_start, meter_turn, meter_dry, meter_end, meters_at}
 use Rattle.mass_fold.proofs.fold.+fold.Goals as goal
 
 pub fold_block-fold_stmt-requires : goal.fold_block-fold_stmt-requires
@@ -40,12 +43,17 @@ fold_block-loop-s-preserved t c =
       weights = λ h. (weights_next _ _ _ p (c.loop-s.invariant.weights h)).1;
       sized = λ m h. c.in-Ok.ensures.sized m (c.loop-s.invariant.sized m h);
       so_far = rest_next c.args.turns c.args.attempts (block_flow c.args.turns c.args.attempts (list_of c.deref-s-items.result.now)) _ _ _ _ _ _ _ _ _ p c.loop-s.invariant.so_far c.in-Ok.ensures.ok;
+      bits = meters_next c.args.turns c.args.attempts (block_flow c.args.turns c.args.attempts (list_of c.deref-s-items.result.now)) (block_draws c.args.turns c.args.attempts (list_of c.deref-s-items.result.now)) _ _ _ _ _ _ _ _ _ _ _ _ p c.loop-s.invariant.bits c.in-Ok.ensures.ok c.in-Ok.ensures.bits;
       blames = blames_next c.args.turns c.args.attempts (block_flow c.args.turns c.args.attempts (list_of c.deref-s-items.result.now)) _ _ _ _ _ _ _ _ _ p w c.loop-s.invariant.blames c.in-Ok.ensures.ok;
     }
 
 pub fold_block-returns-clause-ok : goal.fold_block-returns-clause-ok
 fold_block-returns-clause-ok t c =
     rest_none c.args.turns c.args.attempts c.deref-s-items.result.now c.args.b.now.stmts.items c.loop-s.s-index _ _ _ _ c.loop-s-test.false c.deref-s-items.ensures.value c.loop-s.invariant.so_far
+
+pub fold_block-returns-clause-bits : goal.fold_block-returns-clause-bits
+fold_block-returns-clause-bits t c =
+    meters_end c.args.turns c.args.attempts c.deref-s-items.result.now c.args.b.now.stmts.items c.loop-s.s-index _ _ _ _ _ _ c.loop-s-test.false c.deref-s-items.ensures.value c.loop-s.invariant.bits
 
 pub fold_loop-loop-init : goal.fold_loop-loop-init
 fold_loop-loop-init t c =
@@ -54,6 +62,7 @@ fold_loop-loop-init t c =
       now_sized = λ m h. h;
       exits_sized = λ m h. subst (Sized m) (sym c.new-exits.ensures.empty) tt;
       so_far = loops_at (loop_flow (value_of (expression_of c.args.e.now)) (block_flow c.args.turns c.args.attempts (statements_of c.args.body.now))) c.args.turns _ _ _ _ _ _ _ e (loop_start c.args.turns c.args.attempts (expression_of c.args.e.now) (statements_of c.args.body.now) c.args.table.entries c.args.ended.now c.new-exits.result.entries c.new-exits.ensures.empty);
+      bits = meters_at c.args.attempts (loop_flow (value_of (expression_of c.args.e.now)) (block_flow c.args.turns c.args.attempts (statements_of c.args.body.now))) (draws c.args.turns c.args.attempts (expression_of c.args.e.now) (statements_of c.args.body.now) c.args.table.entries c.args.ended.now c.args.meter.now) c.args.turns _ _ _ _ _ _ _ _ _ e (meter_start c.args.turns c.args.attempts (expression_of c.args.e.now) (statements_of c.args.body.now) c.args.table.entries c.args.ended.now c.args.meter.now c.new-exits.result.entries c.new-exits.ensures.empty);
     }
 
 pub fold_loop-returns-then-len-eq0-clause-ok : goal.fold_loop-returns-then-len-eq0-clause-ok
@@ -95,7 +104,16 @@ fold_loop-loop-preserved t c =
       now_sized = λ m h. c.in-Ok-fold_block.ensures.sized m (c.in-Ok.ensures.first_sized m (c.loop.invariant.now_sized m h));
       exits_sized = λ m h. c.in_default.ensures.sized m (c.loop.invariant.exits_sized m h) (c.in-Ok.ensures.second_sized m (c.loop.invariant.now_sized m h));
       so_far = loop_turn c.args.turns c.args.attempts (expression_of c.args.e.now) (statements_of c.args.body.now) c.args.table.entries c.args.ended.now (c.args.turns - (c.loop.counter + 1)) c.loop.now.entries c.loop.exits.entries c.loop.ended l _ _ _ c.in-Ok.ensures.first c.in-Ok.ensures.second _ _ _ c.in_default.ensures.ok c.in-Ok-fold_block.ensures.ok;
+      bits = meter_turn c.args.turns c.args.attempts (expression_of c.args.e.now) (statements_of c.args.body.now) c.args.table.entries c.args.ended.now c.args.meter.now (c.args.turns - (c.loop.counter + 1)) c.loop.now.entries c.loop.exits.entries c.loop.ended c.loop.meter (meters_at c.args.attempts (loop_flow (value_of (expression_of c.args.e.now)) (block_flow c.args.turns c.args.attempts (statements_of c.args.body.now))) (draws c.args.turns c.args.attempts (expression_of c.args.e.now) (statements_of c.args.body.now) c.args.table.entries c.args.ended.now c.args.meter.now) c.args.turns _ _ _ _ _ _ _ _ _ e c.loop.invariant.bits) _ _ _ c.in-Ok.ensures.first c.in-Ok.ensures.second _ _ _ _ c.in_default.ensures.ok c.in-Ok-fold_block.ensures.ok c.in-Ok-fold_block.ensures.bits;
     }
+
+pub fold_loop-returns-then-len-eq0-clause-bits : goal.fold_loop-returns-then-len-eq0-clause-bits
+fold_loop-returns-then-len-eq0-clause-bits t c =
+    meter_dry c.args.turns c.args.attempts (expression_of c.args.e.now) (statements_of c.args.body.now) c.args.table.entries c.args.ended.now c.args.meter.now (c.args.turns - c.loop.counter) c.loop.now.entries c.loop.exits.entries c.loop.ended c.loop.meter c.requires.weights (empty_of c.loop.now.entries (sym c.len.ensures.len ∙ c.if-len-eq0.true)) c.loop.invariant.bits
+
+pub fold_loop-returns-in-Ok-end_all-clause-bits : goal.fold_loop-returns-in-Ok-end_all-clause-bits
+fold_loop-returns-in-Ok-end_all-clause-bits t c =
+    meter_end c.args.turns c.args.attempts (expression_of c.args.e.now) (statements_of c.args.body.now) c.args.table.entries c.args.ended.now c.args.meter.now (c.args.turns - c.loop.counter) c.loop.now.entries c.loop.exits.entries c.loop.ended c.loop.meter (omega arith) c.loop.invariant.bits
 
 pub fold_loop-returns-in-Err-merge-2-clause-cause : goal.fold_loop-returns-in-Err-merge-2-clause-cause
 fold_loop-returns-in-Err-merge-2-clause-cause t c =
@@ -264,3 +282,28 @@ pub fold_stmt-returns-clause-cause : goal.fold_stmt-returns-clause-cause
 fold_stmt-returns-clause-cause t c =
     blames_as c.args.turns c.args.attempts _ _ _ _ _ (ap statement_of c.in-Choice.is ∙ choice_view c.in-Choice.p c.in-Choice.a c.in-Choice.c)
     (let ws = weights_as _ _ (ap statement_of c.in-Choice.is ∙ choice_view c.in-Choice.p c.in-Choice.a c.in-Choice.c) c.requires.weights in sides_blame c.args.turns c.args.attempts c.in-Choice.p (statements_of c.in-Choice.a) (statements_of c.in-Choice.c) ws.0 c.args.table.entries c.args.ended.now _ (λ e. c.if-len-eq0.false (c.len.ensures.len ∙ ap length e)) c.in-Err-sides.ensures.cause)
+
+pub fold_stmt-returns-then-len-eq0-clause-bits : goal.fold_stmt-returns-then-len-eq0-clause-bits
+fold_stmt-returns-then-len-eq0-clause-bits t c =
+    meters_empty c.args.turns c.args.attempts _ c.args.table.entries c.args.ended.now c.args.meter.now c.requires.weights (empty_of c.args.table.entries (sym c.len.ensures.len ∙ c.if-len-eq0.true))
+
+pub fold_stmt-returns-in-Ok-draw-clause-bits : goal.fold_stmt-returns-in-Ok-draw-clause-bits
+fold_stmt-returns-in-Ok-draw-clause-bits t c =
+    meters_as c.args.turns c.args.attempts _ _ _ _ _ _ (ap statement_of c.in-Uniform.is ∙ uniform_view c.in-Uniform.x c.in-Uniform.e)
+    (uniform_meters c.args.turns c.args.attempts c.in-Uniform.x (expression_of c.in-Uniform.e) c.args.table.entries c.args.ended.now _ _ c.count_uniform.ensures)
+
+pub fold_stmt-returns-in-Ok-merge-clause-bits : goal.fold_stmt-returns-in-Ok-merge-clause-bits
+fold_stmt-returns-in-Ok-merge-clause-bits t c =
+    meters_as c.args.turns c.args.attempts _ _ _ _ _ _ (ap statement_of c.in-If.is ∙ if_view c.in-If.e c.in-If.a c.in-If.c)
+    (branch_meters c.args.turns c.args.attempts (expression_of c.in-If.e) (statements_of c.in-If.a) (statements_of c.in-If.c) c.args.table.entries _ _ c.args.ended.now _ c.in-Ok-split-2.ensures.first c.in-Ok-split-2.ensures.second _ _ _ _ _ c.in-Ok-fold_block.ensures.ok c.in-Ok-fold_block.ensures.bits c.in-Ok-fold_block-2.ensures.bits)
+
+pub fold_stmt-returns-in-Ok-fold_loop-clause-bits : goal.fold_stmt-returns-in-Ok-fold_loop-clause-bits
+fold_stmt-returns-in-Ok-fold_loop-clause-bits t c =
+    meters_as c.args.turns c.args.attempts _ _ _ _ _ _ (ap statement_of c.in-While.is ∙ while_view c.in-While.e c.in-While.body)
+    (c.in-Ok-fold_loop.ensures.bits)
+
+pub fold_stmt-returns-in-Ok-merge-2-clause-bits : goal.fold_stmt-returns-in-Ok-merge-2-clause-bits
+fold_stmt-returns-in-Ok-merge-2-clause-bits t c =
+    meters_as c.args.turns c.args.attempts _ _ _ _ _ _ (ap statement_of c.in-Choice.is ∙ choice_view c.in-Choice.p c.in-Choice.a c.in-Choice.c)
+    (let ws = weights_as _ _ (ap statement_of c.in-Choice.is ∙ choice_view c.in-Choice.p c.in-Choice.a c.in-Choice.c) c.requires.weights in
+    choice_meters c.args.turns c.args.attempts c.in-Choice.p (statements_of c.in-Choice.a) (statements_of c.in-Choice.c) ws.0 c.args.table.entries c.args.ended.now _ _ _ c.in-Ok-sides.ensures.ok _ _ _ _ _ _ c.count_choice.ensures c.in-Ok-fold_block-3.ensures.ok c.in-Ok-fold_block-3.ensures.bits c.in-Ok-fold_block-4.ensures.bits)

@@ -5,7 +5,10 @@ use Rattle.gcl_core.specs.Value.{value_of}
 use Rattle.mass_tables.specs.Tables.{block_flow, loop_flow}
 use Rattle.mass_fold.specs.Amounts.{SameSize}
 use Rattle.mass_fold.specs.Fold.{LoopsOn}
+use Rattle.mass_tables.specs.Reached.{block_draws, loop_draws}
 use Rattle.mass_fold.proofs.Folds.{FoldsOn, BlamesOn}
+use Rattle.mass_fold.proofs.MeterFolds.{MetersOn}
+use Rattle.mass_fold.proofs.MeterLoops.{MetersLoop}
 use Rattle.mass_fold.proofs.fold.+fold.Given as goal
 
 abbrev pub invariant-fold_block-loop-s : goal.invariant-fold_block-loop-s
@@ -14,6 +17,7 @@ invariant-fold_block-loop-s l = record {
   weights : BlockWeights IsWeight (list_of l.s-items) → BlockWeights IsWeight (list_of (drop l.s-index l.s-items));
   sized : SameSize l.fn.table.entries l.now.entries;
   so_far : FoldsOn l.turns l.attempts (block_flow l.turns l.attempts (list_of l.s-items)) (list_of (drop l.s-index l.s-items)) l.fn.table.entries l.fn.ended l.now.entries l.ended;
+  bits : MetersOn l.turns l.attempts (block_flow l.turns l.attempts (list_of l.s-items)) (block_draws l.turns l.attempts (list_of l.s-items)) (list_of (drop l.s-index l.s-items)) l.fn.table.entries l.fn.ended l.fn.meter l.now.entries l.ended l.meter;
   blames : BlamesOn l.turns l.attempts (block_flow l.turns l.attempts (list_of l.s-items)) (list_of (drop l.s-index l.s-items)) l.fn.table.entries l.fn.ended l.now.entries l.ended;
 }
 
@@ -22,4 +26,5 @@ invariant-fold_loop-loop l = record {
   now_sized : SameSize l.fn.table.entries l.now.entries;
   exits_sized : SameSize l.fn.table.entries l.exits.entries;
   so_far : LoopsOn (loop_flow (value_of (expression_of l.e)) (block_flow l.turns l.attempts (statements_of l.body))) l.turns (l.turns - l.counter) l.fn.table.entries l.fn.ended l.now.entries l.exits.entries l.ended;
+  bits : MetersLoop l.attempts (loop_flow (value_of (expression_of l.e)) (block_flow l.turns l.attempts (statements_of l.body))) (loop_draws (value_of (expression_of l.e)) (block_draws l.turns l.attempts (statements_of l.body)) (block_flow l.turns l.attempts (statements_of l.body))) l.turns (l.turns - l.counter) l.fn.table.entries l.fn.ended l.now.entries l.exits.entries l.ended l.fn.meter l.meter;
 }

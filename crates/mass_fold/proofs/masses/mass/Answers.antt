@@ -1,12 +1,13 @@
-use Rattle.std.proofs.Common.{◌≡◌, ◌-◌, ◌<◌, Err, Some, None, IfOk, sym, subst, arith}
+use Rattle.std.proofs.Common.{◌≡◌, ◌-◌, ◌<◌, Err, Some, None, IfOk, IfNone, sym, subst, arith}
 use Rattle.gcl_core.specs.Mass.{failed_mass, mass_of, mass_of_those}
 use Rattle.gcl_core.specs.Views.{source_of}
 use Rattle.mass_tables.specs.Scale.{whole}
-use Rattle.mass_tables.specs.Width.{round_width}
+use Rattle.mass_tables.specs.Width.{round_width, width_of}
+use Rattle.mass_fold.specs.Masses.{WholeWithin}
 use Rattle.mass_fold.specs.Refused.{MassRefused}
 use Rattle.mass_fold.specs.Rounds.{scale_of}
 use Rattle.mass_fold.specs.Rows.{AreMasses}
-use Rattle.mass_fold.proofs.AllRounds.{round_refused, rounds_refused, rest_refused, rounds_hold, rest_holds, at_most_one, some_pass, some_limit, if_passes}
+use Rattle.mass_fold.proofs.AllRounds.{round_refused, rounds_refused, rest_refused, rounds_hold, rest_holds, at_most_one, some_pass, some_limit, if_passes, rest_parts, if_parts, no_parts}
 use Rattle.mass_fold.proofs.OutcomeRows.{if_rows}
 use Rattle.mass_fold.proofs.masses.mass.Goals as goal
 
@@ -61,3 +62,19 @@ returns-in_ok-over_rest-in-None-clause-passes c =
     let m = at_most_one p c.args.turns c.args.attempts _ _ c.in_ok-table.ensures.ok in
     let below : f.0 < f.1 = omega (arith, m, c.if-num-den.false, c.num.ensures.value, c.den.ensures.value) in
     if_passes c.of-in-None.result c.args.rounds (failed_mass p c.args.turns c.args.attempts) (some_pass p c.args.turns c.args.attempts _ _ c.in_ok-table.ensures.ok below)
+
+pub returns-in_ok-in_rounds-in-Some-clause-parts : goal.returns-in_ok-in_rounds-in-Some-clause-parts
+returns-in_ok-in_rounds-in-Some-clause-parts c =
+    let some : c.args.rounds ≡ Some c.in-Some.count = grind arith in
+    no_parts c.of.result c.args.rounds c.in-Some.count (WholeWithin (width_of (source_of c.args.p.now) c.args.turns c.args.attempts c.args.rounds)) some
+
+pub returns-in_ok-over_rest-in-None-clause-parts : goal.returns-in_ok-over_rest-in-None-clause-parts
+returns-in_ok-over_rest-in-None-clause-parts c =
+    let p = source_of c.args.p.now in
+    let f = c.in_ok-table.failed in
+    let none : c.args.rounds ≡ None = grind arith in
+    let m = at_most_one p c.args.turns c.args.attempts _ _ c.in_ok-table.ensures.ok in
+    let below : f.0 < f.1 = omega (arith, m, c.if-num-den.false, c.num.ensures.value, c.den.ensures.value) in
+    subst (λ R. IfOk c.of-in-None.result (λ rows. IfNone R (WholeWithin (width_of p c.args.turns c.args.attempts R) rows))) (sym none)
+    (if_parts c.in_ok-over_rest-in-None.field-0.entries c.of-in-None.result None (round_width p c.args.turns c.args.attempts)
+    (rest_parts p c.args.turns c.args.attempts _ _ c.in_ok-table.ensures.ok below _ c.in_ok-over_rest-in-None.ensures.ok) c.of-in-None.ensures.same)

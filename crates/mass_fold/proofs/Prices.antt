@@ -1,0 +1,59 @@
+-- The draw of one state, and of each entry, on a meter.
+use Rattle.std.proofs.Common.{◌≡◌, ℕ, zero, suc, ◌+◌, ◌*◌, ◌^◌, ◌≤◌, ◌<◌, ℤ, pos, negsuc, [], ◌∷◌, Option, Ok, Err, length, refl, sym, ap, ◌∙◌, subst, arith}
+use Rattle.gcl_core.specs.declared.syntax.Weight.{Weight}
+use Rattle.gcl_core.specs.Value.{State, Value}
+use Rattle.gcl_core.specs.Blocks.{by_value, by_bound, choice_ends, uniform_ends}
+use Rattle.gcl_core.specs.Fractions.{Fraction}
+use Rattle.gcl_core.specs.WeightedEnds.{class_weight, no_class_weight}
+use Rattle.cost_law.specs.ExpectedBits.{attempt_bits}
+use Rattle.mass_tables.specs.Scale.{whole, Whole}
+use Rattle.mass_tables.proofs.Draws.{uniform_last}
+use Rattle.mass_fold.specs.declared.error.MassError.{MassError}
+use Rattle.mass_fold.specs.declared.error.MassError.TheVariants as error_kind
+use Rattle.mass_fold.specs.declared.meter.Meter.{Meter}
+use Rattle.mass_fold.specs.declared.meter.Meter.TheVariants.{Bits, TooWide}
+use Rattle.mass_fold.specs.Amounts.{Entries, Blames, held}
+use Rattle.mass_fold.specs.Steps.{PartsBlame}
+use Rattle.mass_fold.specs.Metering.{Counted, AddsBits, IsPriced, IsPrice, PriceBlames, price, bound_price, IsValuePriced, IsBoundPriced, CountsAll}
+use Rattle.mass_fold.proofs.Meters.{counted_as, counts_as, parts_wide, wide_here}
+
+-- the parts of a draw do not fit
+pub parts_blame : (undecided b : ℕ) (r : Option ℕ) (e : MassError) → e ≡ error_kind.TooWide → PartsBlame b r e → PriceBlames undecided b r
+parts_blame undecided b r e p x = parts_wide undecided b r (subst (λ e. PartsBlame b r e) p x)
+
+-- ---- choices
+pub choice_wide : (p : Weight) (r : Option ℕ) (u : ℕ) (m : Meter) (sum : Fraction) (es : Entries) → u ≡ (attempt_bits (choice_ends p)).0 → 1 ≤ length es → m ≡ Bits sum → PriceBlames u p.den r →
+    CountsAll (λ M s. IsPriced r M p.den) (λ M s. price r M (choice_ends p)) es m TooWide
+choice_wide p r u m sum [] e some q x = absurd (omega arith)
+choice_wide p r u m sum (d ∷ es) e some q x =
+    subst (λ m. CountsAll (λ M s. IsPriced r M p.den) (λ M s. price r M (choice_ends p)) (d ∷ es) m TooWide) (sym q)
+    (wide_here u p.den r (λ M s. IsPriced r M p.den) (λ M s. price r M (choice_ends p)) d.0 d.1 sum es x (λ M k. (k, ap (λ u. u * whole M (class_weight p.den r 1)) (sym e))))
+
+pub choice_adds : (p : Weight) (r : Option ℕ) (u : ℕ) (bits : Fraction) (es : Entries) (m m' : Meter) → u ≡ (attempt_bits (choice_ends p)).0 → IsPrice u p.den r bits → CountsAll (λ M s. Whole M bits) (λ M s. whole M bits) es m m' →
+    CountsAll (λ M s. IsPriced r M p.den) (λ M s. price r M (choice_ends p)) es m m'
+choice_adds p r u bits es m m' e i x =
+    counts_as (λ M s. IsPriced r M p.den) (λ M s. Whole M bits) (λ M s. price r M (choice_ends p)) (λ M s. whole M bits) es m m'
+    (λ M s Mp k. let w = i M Mp k in (w.0, w.1 ∙ ap (λ u. u * whole M (class_weight p.den r 1)) e)) x
+
+-- ---- uniform draws
+module _ (v : State → Value) (r : Option ℕ) (s : State) where
+  at_bound : (M m : ℕ) → v s ≡ Ok (pos (suc m)) → IsBoundPriced v r M s → IsPriced r M (suc m) × (bound_price v r M s ≡ (attempt_bits (uniform_ends (suc m))).0 * whole M (class_weight (suc m) r 1))
+  at_bound M m e k =
+      (subst (IsValuePriced r M) e k, ap (λ o. by_value (λ f. 0) o (λ z. by_bound z 0 (λ m. price r M (uniform_ends m)))) e ∙ ap (λ b. (attempt_bits (uniform_ends (suc m))).0 * whole M (class_weight b r 1)) (uniform_last (suc m)))
+
+  module _ (m k u : ℕ) (e : v s ≡ Ok (pos (suc m))) (c : k ≡ suc m) (d : u ≡ (attempt_bits (uniform_ends k)).0) where
+    here : u ≡ (attempt_bits (uniform_ends (suc m))).0
+    here = d ∙ ap (λ k. (attempt_bits (uniform_ends k)).0) c
+
+    pub bound_wide : (f sum : Fraction) (now : Meter) → now ≡ Bits sum → PriceBlames u k r → CountsAll (IsBoundPriced v r) (bound_price v r) ((s, f) ∷ []) now TooWide
+    bound_wide f sum now q x =
+        subst (λ now. CountsAll (IsBoundPriced v r) (bound_price v r) ((s, f) ∷ []) now TooWide) (sym q)
+        (wide_here u (suc m) r (IsBoundPriced v r) (bound_price v r) s f sum [] (subst (λ k. PriceBlames u k r) c x)
+        (λ M k. let a = at_bound M m e k in (a.0, a.1 ∙ ap (λ u. u * whole M (class_weight (suc m) r 1)) (sym here))))
+
+    pub bound_adds : (bits f : Fraction) (now now' : Meter) → IsPrice u k r bits → AddsBits bits f now now' → CountsAll (IsBoundPriced v r) (bound_price v r) ((s, f) ∷ []) now now'
+    bound_adds bits f now now' i x N M Np Mp h p =
+        let a = at_bound M m e p.0 in
+        let w = i M Mp (subst (IsPriced r M) (sym c) a.0) in
+        let same : whole M bits ≡ bound_price v r M s = w.1 ∙ ap (λ k. u * whole M (class_weight k r 1)) c ∙ ap (λ u. u * whole M (class_weight (suc m) r 1)) here ∙ sym a.1 in
+        counted_as (N * M) (whole N f * whole M bits) _ now now' (let z = ap (λ x. whole N f * x) same in omega arith) (x N M Np Mp w.0 h.1)

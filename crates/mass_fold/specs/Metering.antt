@@ -1,0 +1,93 @@
+-- What is counted of the bits of draws that are reached, at a scale.
+use Rattle.std.specs.Prelude.{◌≡◌, ℕ, zero, suc, ◌+◌, ◌*◌, ◌^◌, ◌≤◌, ◌<◌, pos, negsuc, List, [], ◌∷◌, Option, Some, None, Ok, Err}
+use Rattle.gcl_core.specs.Value.{State, Value}
+use Rattle.gcl_core.specs.Blocks.{by_value, by_bound, uniform_ends}
+use Rattle.gcl_core.specs.Draw.{last_end}
+use Rattle.gcl_core.specs.Fractions.{Fraction, times}
+use Rattle.gcl_core.specs.WeightedEnds.{Weighted, class_weight, no_class_weight}
+use Rattle.cost_law.specs.ExpectedBits.{attempt_bits}
+use Rattle.mass_tables.specs.Tables.{Table, Flow}
+use Rattle.mass_tables.specs.Reached.{Reached}
+use Rattle.mass_tables.specs.Scale.{whole, Whole, Within, amount}
+use Rattle.mass_fold.specs.declared.ended.Ended.{Ended}
+use Rattle.mass_fold.specs.declared.meter.Meter.{Meter}
+use Rattle.mass_fold.specs.declared.meter.Meter.TheVariants.{Off, Bits, TooWide}
+use Rattle.mass_fold.specs.Amounts.{Entries, held, Held}
+use Rattle.mass_fold.specs.Steps.{EachState}
+use Rattle.mass_fold.specs.Fold.{Stands, EndStands, Around}
+
+-- ---- a meter
+
+-- so many parts more, of X parts of a bit; where there is no room for them, 128 bits are too few for X times any bound of the whole
+abbrev pub CountedOn : ℕ → ℕ → Fraction → Meter → Type 0
+CountedOn X many f Off = ⊥
+CountedOn X many f (Bits g) = Whole X f → Whole X g × (whole X g ≡ whole X f + many)
+CountedOn X many f TooWide = Whole X f → (C : ℕ) → 1 ≤ C → whole X f + many ≤ X * C → 2 ^ 128 ≤ X * C
+
+abbrev pub Counted : ℕ → ℕ → Meter → Meter → Type 0
+Counted X many Off m = m ≡ Off
+Counted X many (Bits f) m = CountedOn X many f m
+Counted X many TooWide m = m ≡ TooWide
+
+-- what was counted
+abbrev pub bits_of : Meter → Option Fraction
+bits_of Off = None
+bits_of (Bits f) = Some f
+bits_of TooWide = None
+
+-- ---- draws
+
+-- the weights of one number of a draw, and of none, are whole
+pub record IsPriced (r : Option ℕ) (M b : ℕ) : Type 0 where
+  pub one : Whole M (class_weight b r 1)
+  pub none : Whole M (no_class_weight b r)
+
+abbrev pub Priced : Option ℕ → ℕ → Reached → Type 0
+Priced r M [] = Unit {0}
+Priced r M (e ∷ m) = IsPriced r M (last_end e.1) × Priced r M m
+
+-- the bits of a draw on average, in parts of M: the bits of an attempt, times what one number weighs
+abbrev pub price : Option ℕ → ℕ → List ℕ → ℕ
+price r M ends = (attempt_bits ends).0 * whole M (class_weight (last_end ends) r 1)
+
+-- those of the draw that a value bounds
+abbrev pub bound_price : (State → Value) → Option ℕ → ℕ → State → ℕ
+bound_price v r M s = by_value (λ f. 0) (v s) (λ z. by_bound z 0 (λ m. price r M (uniform_ends m)))
+
+abbrev pub IsValuePriced : Option ℕ → ℕ → Value → Type 0
+IsValuePriced r M (Ok (pos zero)) = Unit {0}
+IsValuePriced r M (Ok (pos (suc m))) = IsPriced r M (suc m)
+IsValuePriced r M (Ok (negsuc m)) = Unit {0}
+IsValuePriced r M (Err f) = Unit {0}
+
+abbrev pub IsBoundPriced : (State → Value) → Option ℕ → ℕ → State → Type 0
+IsBoundPriced v r M s = IsValuePriced r M (v s)
+
+-- ---- what counts
+
+-- bits of so much weight
+abbrev pub AddsBits : Fraction → Fraction → Meter → Meter → Type 0
+AddsBits bits f m m' = (N M : ℕ) → 0 < N → 0 < M → Whole M bits → Whole N f → Counted (N * M) (whole N f * whole M bits) m m'
+
+-- the bits of a draw with b numbers
+abbrev pub IsPrice : ℕ → ℕ → Option ℕ → Fraction → Type 0
+IsPrice undecided b r bits = (M : ℕ) → 0 < M → IsPriced r M b → Whole M bits × (whole M bits ≡ undecided * whole M (class_weight b r 1))
+
+abbrev pub PriceBlames : ℕ → ℕ → Option ℕ → Type 0
+PriceBlames undecided b r = (M C : ℕ) → 0 < M → 1 ≤ C → IsPriced r M b → undecided * whole M (class_weight b r 1) ≤ M * C → 2 ^ 128 ≤ M * C
+
+-- the draw of each entry, where Fact holds of its state at M
+abbrev pub CountsAll : (ℕ → State → Type 0) → (ℕ → State → ℕ) → Entries → Meter → Meter → Type 0
+CountsAll Fact p es m m' = (N M : ℕ) → 0 < N → 0 < M → Held N es → EachState (Fact M) es → Counted (N * M) (held N (p M) es) m m'
+
+-- whatever the rest counts, all do
+abbrev pub CountsRest : (ℕ → State → Type 0) → (ℕ → State → ℕ) → Entries → Meter → Meter → Entries → Type 0
+CountsRest Fact p es m now rest = (m' : Meter) → CountsAll Fact p rest now m' → CountsAll Fact p es m m'
+
+-- ---- blocks and statements
+
+abbrev pub Meters : Option ℕ → (Table → Flow) → (Table → Reached) → Entries → Ended → Meter → Meter → Type 0
+Meters r flow draws es E m m' = (N M L : ℕ) (I : Table) (J : Weighted _) → 0 < N → 0 < M → Stands N es I → EndStands N E J → Within N L (flow I) → Priced r M (draws I) → Counted (N * M) (amount N (price r M) (draws I)) m m'
+
+abbrev pub MetersOne : Option ℕ → (Table → Flow) → (Table → Reached) → Entries → Ended → Meter → Meter → Type 0
+MetersOne r flow draws es E m m' = (N M L : ℕ) (I : Table) (J : Weighted _) → 0 < N → 0 < M → Stands N es I → EndStands N E J → Around N L I (flow I) → Priced r M (draws I) → Counted (N * M) (amount N (price r M) (draws I)) m m'

@@ -1,0 +1,154 @@
+// A count of the bits that draws read on average.
+
+ghost use Rattle.std.specs.Prelude.{◌≡◌, ◌≤◌, ◌<◌, ◌*◌, ◌^◌, ℕ, [], ◌∷◌, length, IfSome, IfNone};
+ghost use Rattle.gcl_core.specs.Blocks.{choice_ends};
+ghost use Rattle.gcl_core.specs.Bounds.{IsWeight};
+ghost use Rattle.gcl_core.specs.Value.{value_of, Reads};
+ghost use Rattle.gcl_core.specs.Views.{expression_of};
+ghost use Rattle.mass_tables.specs.Scale.{whole, Whole};
+ghost use Rattle.mass_fold.specs.Amounts.{Fits};
+ghost use Rattle.mass_fold.specs.Metering.{CountedOn, AddsBits, IsPrice, PriceBlames, IsPriced, price, bound_price, IsBoundPriced, CountsAll};
+
+use crate::draws::parts;
+use crate::state::State;
+use draw_cost::{choice_bits, uniform_bits};
+use frac128::Frac;
+use gcl_core::{Expr, Weight, eval};
+use std::collections::BTreeMap;
+
+/// How many bits the draws that are reached read on average, each by the weight with which it is reached.
+#[derive(Clone, Copy)]
+pub enum Meter {
+    /// Bits are not counted.
+    Off,
+    /// So many bits.
+    Bits(Frac),
+    /// So many that two numbers of 128 bits are too few.
+    TooWide,
+}
+
+// The sum, with bits that are reached with the weight f.
+fn sum_with(sum: &Frac, bits: &Frac, f: &Frac) -> Meter
+    ensures { (N M : ℕ) → 0 < N → 0 < M → Whole M bits.now → Whole N f.now → CountedOn (N * M) (whole N f.now * whole M bits.now) sum.now result }
+{
+    let _low = sum.num();
+    match f.mul(bits) {
+        None => Meter::TooWide,
+        Some(more) => {
+            let _lower = more.num();
+            match sum.add(&more) {
+                None => Meter::TooWide,
+                Some(total) => Meter::Bits(total),
+            }
+        }
+    }
+}
+
+// The meter, with bits that are reached with the weight f.
+fn add(meter: Meter, bits: &Frac, f: &Frac) -> Meter
+    ensures { AddsBits bits.now f.now meter result }
+{
+    match meter {
+        Meter::Off => Meter::Off,
+        Meter::Bits(sum) => sum_with(&sum, bits, f),
+        Meter::TooWide => Meter::TooWide,
+    }
+}
+
+// The bits of a draw with so many numbers on average, where an attempt reads `undecided` over 2^k; none, where they do not fit.
+fn price(undecided: u128, bound: u64, attempts: Option<u64>) -> Option<Frac>
+    requires least { 1 ≤ bound }
+    requires most { bound ≤ 2 ^ 63 }
+    requires some { IfSome attempts (λ r. 1 ≤ r) }
+    ensures value { IfSome result (IsPrice undecided bound attempts) }
+    ensures cause { IfNone result (PriceBlames undecided bound attempts) }
+{
+    match parts(bound, attempts) {
+        Err(_) => None,
+        Ok((part, _)) => {
+            let over = Frac::of(undecided, 1);
+            match part.mul(&over) {
+                None => None,
+                Some(bits) => Some(bits),
+            }
+        }
+    }
+}
+
+// The meter, with the same bits for each entry.
+fn add_each(meter: Meter, bits: &Frac, table: &BTreeMap<State, Frac>) -> Meter
+    ensures { CountsAll (λ M s. Whole M bits.now) (λ M s. whole M bits.now) table.now.entries meter result }
+{
+    let mut now = meter;
+    for (_, f) in table {
+        now = add(now, bits, f);
+    }
+    now
+}
+
+/// The meter, with the draw of a choice for each entry.
+pub fn count_choice(
+    meter: Meter,
+    p: Weight,
+    attempts: Option<u64>,
+    table: &BTreeMap<State, Frac>,
+) -> Meter
+    requires weight { IsWeight p }
+    requires some { IfSome attempts (λ r. 1 ≤ r) }
+    requires table { 1 ≤ length table.now.entries }
+    ensures { CountsAll (λ M s. IsPriced attempts M p.den) (λ M s. price attempts M (choice_ends p)) table.now.entries meter result }
+{
+    match meter {
+        Meter::Off => Meter::Off,
+        Meter::TooWide => Meter::TooWide,
+        Meter::Bits(_) => match price(choice_bits(p), p.den, attempts) {
+            None => Meter::TooWide,
+            Some(bits) => add_each(meter, &bits, table),
+        },
+    }
+}
+
+// The meter, with the draw of one state of weight f, with as many numbers as an expression says.
+fn count_bound(meter: Meter, e: &Expr, attempts: Option<u64>, s: &State, f: &Frac) -> Meter
+    requires reads { Reads (expression_of e.now) (length s.now) }
+    requires some { IfSome attempts (λ r. 1 ≤ r) }
+    ensures { CountsAll (IsBoundPriced (value_of (expression_of e.now)) attempts) (bound_price (value_of (expression_of e.now)) attempts) ((s.now, f.now) ∷ []) meter result }
+{
+    match meter {
+        Meter::Off => Meter::Off,
+        Meter::TooWide => Meter::TooWide,
+        Meter::Bits(_) => match eval(e, s.values()) {
+            Err(_) => meter,
+            Ok(v) => {
+                if v < 1 {
+                    return meter;
+                }
+                match price(uniform_bits(v as u64), v as u64, attempts) {
+                    None => Meter::TooWide,
+                    Some(bits) => add(meter, &bits, f),
+                }
+            }
+        },
+    }
+}
+
+/// The meter, with the uniform draw of each entry.
+pub fn count_uniform(
+    meter: Meter,
+    e: &Expr,
+    attempts: Option<u64>,
+    table: &BTreeMap<State, Frac>,
+) -> Meter
+    requires fits { Fits (Reads (expression_of e.now)) table.now.entries }
+    requires some { IfSome attempts (λ r. 1 ≤ r) }
+    ensures { CountsAll (IsBoundPriced (value_of (expression_of e.now)) attempts) (bound_price (value_of (expression_of e.now)) attempts) table.now.entries meter result }
+{
+    if let Meter::Off = meter {
+        return Meter::Off;
+    }
+    let mut now = meter;
+    for (s, f) in table {
+        now = count_bound(now, e, attempts, s, f);
+    }
+    now
+}

@@ -1,0 +1,47 @@
+-- The draws that a table meets on its way through a block, each with the weight with which it is reached, in step with the tables.
+use Rattle.std.specs.Prelude.{ℕ, zero, suc, ◌-◌, List, [], ◌∷◌, ◌++◌, map, Option, length}
+use Rattle.gcl_core.specs.Syntax.{Statement, skip, assign, branch, loop, choice, uniform, observe, Statements, done, ◌▸◌, Source}
+use Rattle.gcl_core.specs.Value.{State, Value, value_of}
+use Rattle.gcl_core.specs.Blocks.{by_value, by_bound, choice_ends, uniform_ends}
+use Rattle.gcl_core.specs.Runs.{zeros}
+use Rattle.gcl_core.specs.WeightedEnds.{Weighted, sure, scaled, class_weight}
+use Rattle.mass_tables.specs.Tables.{Table, Flow, holds, fails, only, statement_flow, block_flow}
+
+-- draws by their ends
+abbrev pub Reached : Type 0
+Reached = Weighted (List ℕ)
+
+-- one draw for each entry
+abbrev pub drawn_each : List ℕ → Table → Reached
+drawn_each ends I = map (λ e. (e.0, ends)) I
+
+-- one uniform draw for each entry that an expression's value bounds
+abbrev pub drawn_bound : (State → Value) → Table → Reached
+drawn_bound bound [] = []
+drawn_bound bound (e ∷ I) = by_value (λ f. []) (bound e.1) (λ v. by_bound v [] (λ m. (e.0, uniform_ends m) ∷ [])) ++ drawn_bound bound I
+
+-- at most t turns of a loop, from the table J on
+abbrev pub loop_draws : (State → Value) → (Table → Reached) → (Table → Flow) → ℕ → Table → Reached
+loop_draws guard draws body zero J = []
+loop_draws guard draws body (suc t) J = draws (only (holds guard) J) ++ loop_draws guard draws body t (body (only (holds guard) J)).next
+
+-- under a limit of n turns, and of r attempts or none
+module _ (n : ℕ) (r : Option ℕ) where
+  abbrev mutual
+    pub statement_draws : Statement → Table → Reached
+    statement_draws skip I = []
+    statement_draws (assign x e) I = []
+    statement_draws (observe e) I = []
+    statement_draws (uniform x e) I = drawn_bound (value_of e) I
+    statement_draws (branch e a c) I = block_draws a (only (holds (value_of e)) I) ++ block_draws c (only (fails (value_of e)) I)
+    statement_draws (choice p a c) I =
+        drawn_each (choice_ends p) I ++ (block_draws a (scaled (class_weight p.den r p.num) I) ++ block_draws c (scaled (class_weight p.den r (p.den - p.num)) I))
+    statement_draws (loop e a) I = loop_draws (value_of e) (block_draws a) (block_flow n r a) n I
+
+    pub block_draws : Statements → Table → Reached
+    block_draws done I = []
+    block_draws (st ▸ b) I = statement_draws st I ++ block_draws b (statement_flow n r st I).next
+
+-- the draws of a program's body, begun with the state of zeros at weight 1
+abbrev pub draws_of : Source → ℕ → Option ℕ → Reached
+draws_of p n r = block_draws n r p.body (sure (zeros (length p.names)))
