@@ -1,0 +1,6 @@
+pub mod Equal
+pub mod Transfer
+pub mod ReachedBits
+pub mod Prices
+pub mod Most
+pub mod Whole

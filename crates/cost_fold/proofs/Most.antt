@@ -1,0 +1,236 @@
+-- The draws that a table reaches are whole at its scale, and read no more than the longest reading, by the weight of the table.
+use Rattle.std.proofs.Common.{◌≡◌, ℕ, zero, suc, ◌+◌, ◌-◌, ◌*◌, ◌^◌, ◌≤◌, ◌<◌, max, ℤ, pos, negsuc, Bool, true, false, cond, List, [], ◌∷◌, ◌++◌, Ok, Err, Option, Some, refl, sym, ap, ◌∙◌, subst, arith}
+use Rattle.std.proofs.Math.Nat.{mul-le-mul_left, mul-le-mul_right}
+use Rattle.std.proofs.lemmas.Bool.{ltb-true}
+use Rattle.gcl_core.specs.declared.answers.Limit.TheVariants.{Attempts}
+use Rattle.gcl_core.specs.Syntax.{Expression, Statement, skip, assign, branch, loop, choice, uniform, observe, Statements, done, ◌▸◌}
+use Rattle.gcl_core.specs.Bounds.{IsWeight, StatementWeights, BlockWeights, ExpressionFits, StatementFits, BlockFits}
+use Rattle.gcl_core.specs.Draw.{bits_for, last_end}
+use Rattle.gcl_core.specs.Fitting.{state_fits}
+use Rattle.gcl_core.specs.Longest.{longest_statement, longest}
+use Rattle.gcl_core.specs.Value.{State, Value, value_of, fits_64}
+use Rattle.gcl_core.specs.Blocks.{End, on, failed, fault, limit, by_value, by_bound, choice_ends, uniform_ends}
+use Rattle.gcl_core.specs.WeightedEnds.{Weighted, scaled, taken_on, class_weight, no_class_weight, statement_weighted}
+use Rattle.gcl_core.proofs.Classes.{bits_le}
+use Rattle.gcl_core.proofs.FittingValues.{end_fits, value_fits}
+use Rattle.weighing_law.proofs.BlockMatching.{statement_matches}
+use Rattle.weighing_law.proofs.WeightedLists.{EachEntry, each-append, each-scaled, each_taken_on}
+use Rattle.cost_law.specs.ExpectedBits.{number_bits}
+use Rattle.mass_tables.specs.Tables.{Table, going_on, holds, fails, only, faults, all_end, both, loop_flow, statement_flow, block_flow, draws_each, draw_weights}
+use Rattle.mass_tables.specs.Reached.{Reached, drawn_each, drawn_bound, loop_draws, statement_draws, block_draws}
+use Rattle.mass_tables.specs.Scale.{whole, amount, weight, Wholes, Within}
+use Rattle.mass_tables.proofs.Amounts.{amount_append, both_first, both_second, draws_second, tables_first, tables_second, ends_first, ends_second, draws_first}
+use Rattle.mass_tables.proofs.Draws.{uniform_last}
+use Rattle.mass_tables.proofs.Kept.{guard_weight, ends_whole, choice_kept, head_whole, kept_one, kept_all}
+use Rattle.mass_fold.specs.Metering.{IsPriced, Priced, price}
+use Rattle.mass_fold.proofs.MeterFolds.{priced_first, priced_second}
+use Rattle.cost_fold.proofs.Prices.{price_most}
+
+-- ---- states of 64 bits
+abbrev pub AllFit : Table → Type 0
+AllFit I = EachEntry state_fits I
+
+fit_only : (test : State → Bool) (I : Table) → AllFit I → AllFit (only test I)
+fit_only test [] h = tt
+fit_only test (e ∷ I) h = at_head (test e.1) (fit_only test I h.1)
+  where
+    at_head : (b : Bool) → AllFit (only test I) → AllFit (cond b (e ∷ only test I) (only test I))
+    at_head true i = (h.0, i)
+    at_head false i = i
+
+fit_going : (m : Weighted End) → EachEntry end_fits m → AllFit (going_on m)
+fit_going [] h = tt
+fit_going ((w, on s) ∷ m) h = (h.0, fit_going m h.1)
+fit_going ((w, failed) ∷ m) h = fit_going m h.1
+fit_going ((w, fault f) ∷ m) h = fit_going m h.1
+fit_going ((w, limit l) ∷ m) h = fit_going m h.1
+
+-- ---- lists of draws
+wholes_append : (N : ℕ) (a b : Reached) → Wholes N a → Wholes N b → Wholes N (a ++ b)
+wholes_append N [] b h k = k
+wholes_append N (e ∷ a) b h k = (h.0, wholes_append N a b h.1 k)
+
+wholes_each : (N : ℕ) (ends : List ℕ) (I : Table) → Wholes N I → Wholes N (drawn_each ends I)
+wholes_each N ends [] h = tt
+wholes_each N ends (e ∷ I) h = (h.0, wholes_each N ends I h.1)
+
+wholes_bound : (N : ℕ) (v : State → Value) (I : Table) → Wholes N I → Wholes N (drawn_bound v I)
+wholes_bound N v [] h = tt
+wholes_bound N v (e ∷ I) h = wholes_append N _ (drawn_bound v I) (by_state (v e.1)) (wholes_bound N v I h.1)
+  where
+    by_sign : (z : ℤ) → Wholes N (by_bound z [] (λ m. (e.0, uniform_ends m) ∷ []))
+    by_sign (pos zero) = tt
+    by_sign (pos (suc m)) = (h.0, tt)
+    by_sign (negsuc m) = tt
+
+    by_state : (o : Value) → Wholes N (by_value (λ f. []) o (λ z. by_bound z [] (λ m. (e.0, uniform_ends m) ∷ [])))
+    by_state (Ok z) = by_sign z
+    by_state (Err f) = tt
+
+-- draws of the weight W, whole at N, of at most so many bits each, in parts of M
+pub record DrawsMost (r N M : ℕ) (D : Reached) (W bits : ℕ) : Type 0 where
+  pub whole : Wholes N D
+  pub most : amount N (price (Some r) M) D ≤ W * (M * bits)
+
+module _ (r N M : ℕ) where
+  none_most : (W bits : ℕ) → DrawsMost r N M [] W bits
+  none_most W bits = record { whole = tt; most = omega arith }
+
+  most_up : (D : Reached) (W V a b : ℕ) → W ≤ V → a ≤ b → DrawsMost r N M D W a → DrawsMost r N M D V b
+  most_up D W V a b h k d =
+      let x = mul-le-mul_right (M * a) h in
+      let y = mul-le-mul_left (V * M) k in
+      record { whole = d.whole; most = let z = d.most in omega arith }
+
+  -- one part of the weight, and another
+  most_beside : (D E : Reached) (W V a : ℕ) → DrawsMost r N M D W a → DrawsMost r N M E V a → DrawsMost r N M (D ++ E) (W + V) a
+  most_beside D E W V a d e = record { whole = wholes_append N D E d.whole e.whole; most = let x = amount_append N (price (Some r) M) D E in let y = d.most in let z = e.most in omega arith }
+
+  -- one after the other
+  most_after : (D E : Reached) (W a b : ℕ) → DrawsMost r N M D W a → DrawsMost r N M E W b → DrawsMost r N M (D ++ E) W (a + b)
+  most_after D E W a b d e = record { whole = wholes_append N D E d.whole e.whole; most = let x = amount_append N (price (Some r) M) D E in let y = d.most in let z = e.most in omega arith }
+
+  most_each : (ends : List ℕ) (I : Table) → Wholes N I → Priced (Some r) M (drawn_each ends I) → DrawsMost r N M (drawn_each ends I) (weight N I) (number_bits ends * r)
+  most_each ends [] w p = none_most 0 (number_bits ends * r)
+  most_each ends (e ∷ I) w p =
+      let i = most_each ends I w.1 p.1 in
+      let x = mul-le-mul_left (whole N e.0) (price_most ends r M p.0) in
+      record { whole = (w.0, i.whole); most = let y = i.most in omega arith }
+
+  most_bound : (e : Expression) (I : Table) → ExpressionFits e → AllFit I → Wholes N I → Priced (Some r) M (drawn_bound (value_of e) I) → DrawsMost r N M (drawn_bound (value_of e) I) (weight N I) (63 * r)
+  most_bound e [] f a w p = none_most 0 (63 * r)
+  most_bound e (d ∷ I) f a w p =
+      let v = value_of e in
+      let one : Reached = by_value (λ f. []) (v d.1) (λ z. by_bound z [] (λ m. (d.0, uniform_ends m) ∷ [])) in
+      let i = most_bound e I f a.1 w.1 (priced_second (Some r) M one (drawn_bound v I) p) in
+      let h : amount N (price (Some r) M) one ≤ U * (M * (63 * r)) = by_state (v d.1) refl (priced_first (Some r) M one (drawn_bound v I) p) in
+      let x : amount N (price (Some r) M) (drawn_bound v (d ∷ I)) ≡ amount N (price (Some r) M) one + amount N (price (Some r) M) (drawn_bound v I) = amount_append N (price (Some r) M) one (drawn_bound v I) in
+      record { whole = wholes_bound N v (d ∷ I) w; most = sum_most _ _ _ U (weight N I) (M * (63 * r)) x h i.most }
+    where
+      U : ℕ
+      U = whole N d.0
+
+      sum_most : (all a b U W B : ℕ) → all ≡ a + b → a ≤ U * B → b ≤ W * B → all ≤ (U * 1 + W) * B
+      sum_most all a b U W B e h k = omega arith
+
+      few : (m : ℕ) → suc m < 2 ^ 63 → number_bits (uniform_ends (suc m)) ≤ 63
+      few m lt = bits_le (last_end (uniform_ends (suc m))) 63 (omega (arith, uniform_last (suc m)))
+
+      by_sign : (z : ℤ) → fits_64 z ≡ true → Priced (Some r) M (by_bound z [] (λ m. (d.0, uniform_ends m) ∷ [])) → amount N (price (Some r) M) (by_bound z [] (λ m. (d.0, uniform_ends m) ∷ [])) ≤ U * (M * (63 * r))
+      by_sign (pos zero) f k = omega arith
+      by_sign (pos (suc m)) f k =
+          let x = mul-le-mul_left U (price_most (uniform_ends (suc m)) r M k.0) in
+          let y = mul-le-mul_right r (few m (ltb-true _ _ f)) in
+          let z = mul-le-mul_left (U * M) y in
+          omega arith
+      by_sign (negsuc m) f k = omega arith
+
+      by_state : (o : Value) → value_of e d.1 ≡ o → Priced (Some r) M (by_value (λ f. []) o (λ z. by_bound z [] (λ m. (d.0, uniform_ends m) ∷ []))) → amount N (price (Some r) M) (by_value (λ f. []) o (λ z. by_bound z [] (λ m. (d.0, uniform_ends m) ∷ []))) ≤ U * (M * (63 * r))
+      by_state (Ok z) q k = by_sign z (value_fits e d.1 z f a.0 q) k
+      by_state (Err g) q k = omega arith
+
+-- ---- statements and blocks
+module _ (n r N L M : ℕ) where
+  abbrev StatementMost : Statement → Type 0
+  StatementMost st = (I : Table) → Wholes N I → AllFit I → Wholes N (statement_flow n (Some r) st I).next → Within N L (statement_flow n (Some r) st I) → Priced (Some r) M (statement_draws n (Some r) st I) →
+      DrawsMost r N M (statement_draws n (Some r) st I) (weight N I) (longest_statement n r st) × AllFit (statement_flow n (Some r) st I).next
+
+  abbrev BlockMost : Statements → Type 0
+  BlockMost b = (I : Table) → Wholes N I → AllFit I → Within N L (block_flow n (Some r) b I) → Priced (Some r) M (block_draws n (Some r) b I) →
+      DrawsMost r N M (block_draws n (Some r) b I) (weight N I) (longest n r b) × AllFit (block_flow n (Some r) b I).next
+
+  -- a statement that makes one step of each state
+  fit_step : (st : Statement) → StatementWeights IsWeight st → StatementFits st → (I : Table) → AllFit I → AllFit (going_on (taken_on I (statement_weighted n (Some r) st)))
+  fit_step st w f I a = fit_going (taken_on I (statement_weighted n (Some r) st)) (each_taken_on state_fits end_fits I (statement_weighted n (Some r) st) a (λ s p. (statement_matches n r st w f s p).entries))
+
+  turns_most : (v : State → Value) (b : Statements) → BlockWeights IsWeight b → BlockMost b → (t : ℕ) (I : Table) → Wholes N I → AllFit I → Within N L (loop_flow v (block_flow n (Some r) b) t I) →
+      Priced (Some r) M (loop_draws v (block_draws n (Some r) b) (block_flow n (Some r) b) t I) →
+      DrawsMost r N M (loop_draws v (block_draws n (Some r) b) (block_flow n (Some r) b) t I) (weight N I) (t * longest n r b) × AllFit (loop_flow v (block_flow n (Some r) b) t I).next
+  turns_most v b w h zero I wi a s k = (none_most r N M (weight N I) (0 * longest n r b), fit_only (fails v) I a)
+  turns_most v b w h (suc t) I wi a s k =
+      let A = only (holds v) I in
+      let f = block_flow n (Some r) b A in
+      let g = loop_flow v (block_flow n (Some r) b) t f.next in
+      let sf : Within N L f = record { tables = tables_first N L f.tables g.tables s.tables.2; ended = ends_first N f.ended g.ended (ends_second N (faults v I) (f.ended ++ g.ended) s.ended); draws = draws_first N f.draws g.draws s.draws } in
+      let sg : Within N L g = record { tables = tables_second N L f.tables g.tables s.tables.2; ended = ends_second N f.ended g.ended (ends_second N (faults v I) (f.ended ++ g.ended) s.ended); draws = draws_second N f.draws g.draws s.draws } in
+      let D = block_draws n (Some r) b A in
+      let E = loop_draws v (block_draws n (Some r) b) (block_flow n (Some r) b) t f.next in
+      let guard = guard_weight N v I in
+      let kept = kept_all n (Some r) N L b w A sf in
+      let x = h A (head_whole n (Some r) N L b A sf.tables) (fit_only (holds v) I a) sf (priced_first (Some r) M D E k) in
+      let y = turns_most v b w h t f.next (head_turns t f.next sg) x.1 sg (priced_second (Some r) M D E k) in
+      let d = most_up r N M D (weight N A) (weight N I) (longest n r b) (longest n r b) (omega arith) (omega arith) x.0 in
+      let e = most_up r N M E (weight N f.next) (weight N I) (t * longest n r b) (t * longest n r b) (omega arith) (omega arith) y.0 in (
+        most_up r N M (D ++ E) (weight N I) (weight N I) (longest n r b + t * longest n r b) (suc t * longest n r b) (omega arith) (omega arith) (most_after r N M D E (weight N I) (longest n r b) (t * longest n r b) d e),
+        each-append state_fits (only (fails v) I) g.next (fit_only (fails v) I a) y.1,
+      )
+    where
+      head_turns : (t : ℕ) (J : Table) → Within N L (loop_flow v (block_flow n (Some r) b) t J) → Wholes N J
+      head_turns zero J s = s.tables.0
+      head_turns (suc t) J s = s.tables.0
+
+  mutual
+    statement_most : (st : Statement) → StatementWeights IsWeight st → StatementFits st → StatementMost st
+    statement_most skip w f I wi a x s k = (none_most r N M (weight N I) 0, fit_step skip w f I a)
+    statement_most (assign y e) w f I wi a x s k = (none_most r N M (weight N I) 0, fit_step (assign y e) w f I a)
+    statement_most (observe e) w f I wi a x s k = (none_most r N M (weight N I) 0, fit_step (observe e) w f I a)
+    statement_most (uniform y e) w f I wi a x s k = (most_bound r N M e I f a wi k, fit_step (uniform y e) w f I a)
+    statement_most (branch e p q) w f I wi a x s k =
+        let v = value_of e in
+        let A = only (holds v) I in
+        let C = only (fails v) I in
+        let F = block_flow n (Some r) p A in
+        let G = block_flow n (Some r) q C in
+        let sf = both_first N L (faults v I) F G s in
+        let sg = both_second N L (faults v I) F G s in
+        let D = block_draws n (Some r) p A in
+        let E = block_draws n (Some r) q C in
+        let m = max (longest n r p) (longest n r q) in
+        let guard = guard_weight N v I in
+        let y = block_most p w.0 f.1 A (head_whole n (Some r) N L p A sf.tables) (fit_only (holds v) I a) sf (priced_first (Some r) M D E k) in
+        let z = block_most q w.1 f.2 C (head_whole n (Some r) N L q C sg.tables) (fit_only (fails v) I a) sg (priced_second (Some r) M D E k) in
+        let d = most_up r N M D (weight N A) (weight N A) (longest n r p) m (omega arith) (omega arith) y.0 in
+        let e = most_up r N M E (weight N C) (weight N C) (longest n r q) m (omega arith) (omega arith) z.0 in
+        (most_up r N M (D ++ E) (weight N A + weight N C) (weight N I) m m (omega arith) (omega arith) (most_beside r N M D E (weight N A) (weight N C) m d e), each-append state_fits F.next G.next y.1 z.1)
+    statement_most (choice c p q) w f I wi a x s k =
+        let A = scaled (class_weight c.den (Some r) c.num) I in
+        let C = scaled (class_weight c.den (Some r) (c.den - c.num)) I in
+        let Z = scaled (no_class_weight c.den (Some r)) I in
+        let F = block_flow n (Some r) p A in
+        let G = block_flow n (Some r) q C in
+        let ze = all_end (limit Attempts) Z in
+        let sw : Within N L (both ze F G) = record { tables = s.tables; ended = s.ended; draws = draws_second N (draws_each (draw_weights c.den (Some r)) I) (F.draws ++ G.draws) s.draws } in
+        let sf = both_first N L ze F G sw in
+        let sg = both_second N L ze F G sw in
+        let D = block_draws n (Some r) p A in
+        let E = block_draws n (Some r) q C in
+        let B = drawn_each (choice_ends c) I in
+        let m = max (longest n r p) (longest n r q) in
+        let wa = head_whole n (Some r) N L p A sf.tables in
+        let wc = head_whole n (Some r) N L q C sg.tables in
+        let kept = choice_kept N c.num c.den (Some r) I w.0.at_most_one (let o = w.0.positive in omega arith) wi wa wc (ends_whole N (limit Attempts) Z (ends_first N ze (F.ended ++ G.ended) s.ended)) in
+        let rest = priced_second (Some r) M B (D ++ E) k in
+        let y = block_most p w.1 f.0 A wa (each-scaled state_fits (class_weight c.den (Some r) c.num) I a) sf (priced_first (Some r) M D E rest) in
+        let z = block_most q w.2 f.1 C wc (each-scaled state_fits (class_weight c.den (Some r) (c.den - c.num)) I a) sg (priced_second (Some r) M D E rest) in
+        let d = most_up r N M D (weight N A) (weight N A) (longest n r p) m (omega arith) (omega arith) y.0 in
+        let e = most_up r N M E (weight N C) (weight N C) (longest n r q) m (omega arith) (omega arith) z.0 in
+        let both_sides = most_up r N M (D ++ E) (weight N A + weight N C) (weight N I) m m (omega arith) (omega arith) (most_beside r N M D E (weight N A) (weight N C) m d e) in
+        (most_after r N M B (D ++ E) (weight N I) (bits_for c.den * r) m (most_each r N M (choice_ends c) I wi (priced_first (Some r) M B (D ++ E) k)) both_sides, each-append state_fits F.next G.next y.1 z.1)
+    statement_most (loop e p) w f I wi a x s k = turns_most (value_of e) p w (block_most p w f.1) n I wi a s k
+
+    pub block_most : (b : Statements) → BlockWeights IsWeight b → BlockFits b → (I : Table) → Wholes N I → AllFit I → Within N L (block_flow n (Some r) b I) → Priced (Some r) M (block_draws n (Some r) b I) →
+        DrawsMost r N M (block_draws n (Some r) b I) (weight N I) (longest n r b) × AllFit (block_flow n (Some r) b I).next
+    block_most done w f I wi a s k = (none_most r N M (weight N I) 0, a)
+    block_most (st ▸ b) w f I wi a s k =
+        let F = statement_flow n (Some r) st I in
+        let G = block_flow n (Some r) b F.next in
+        let sf : Within N L F = record { tables = tables_first N L F.tables G.tables s.tables.2; ended = ends_first N F.ended G.ended s.ended; draws = draws_first N F.draws G.draws s.draws } in
+        let sg : Within N L G = record { tables = tables_second N L F.tables G.tables s.tables.2; ended = ends_second N F.ended G.ended s.ended; draws = draws_second N F.draws G.draws s.draws } in
+        let D = statement_draws n (Some r) st I in
+        let E = block_draws n (Some r) b F.next in
+        let wn = head_whole n (Some r) N L b F.next sg.tables in
+        let kept = kept_one n (Some r) N L st I w.0 wi wn sf in
+        let y = statement_most st w.0 f.0 I wi a wn sf (priced_first (Some r) M D E k) in
+        let z = block_most b w.1 f.1 F.next wn y.1 sg (priced_second (Some r) M D E k) in
+        let e = most_up r N M E (weight N F.next) (weight N I) (longest n r b) (longest n r b) (omega arith) (omega arith) z.0 in
+        (most_after r N M D E (weight N I) (longest_statement n r st) (longest n r b) y.0 e, z.1)

@@ -1,0 +1,150 @@
+// Expected bits, worked by hand.
+
+use crate::{CostError, cost};
+use gcl_check::check;
+use gcl_core::{Checked, Limits};
+use gcl_lex::lex;
+use gcl_parse::parse;
+use std::alloc::Global;
+
+const TWO_THIRDS: &str = "choice 2/3 { x := 1; } or { x := 2; } return x;";
+
+const TWO_COINS: &str = "x ~ uniform(2); y ~ uniform(2); observe x = 1 or y = 1; return x + y;";
+
+const GEOMETRIC: &str =
+    "go := 1; while go = 1 { choice 1/2 { x := x + 1; } or { go := 0; } } return x;";
+
+const DIE: &str = "face ~ uniform(6); return face;";
+
+// A coin, and with heads a die of three sides; the states meet again.
+const BRANCHES: &str =
+    "c ~ uniform(2); if c = 1 { x ~ uniform(3); x := 0; c := 0; } else { skip; } return x;";
+
+// The limits of turns, attempts and rounds.
+struct Case {
+    text: &'static str,
+    limits: (u64, u64, u64),
+    want: Result<(u128, u128), CostError>,
+}
+
+// At 2/3 an attempt reads 1 + 1/2 bits, and is made again with 1/4; at a die 1 + 1 + 3/4, again with 1/4. A round of two coins reads
+// 2, and fails with 1/4. The first turn of the geometric loop reads 1, and the second 1 with 1/2.
+const CASES: [Case; 12] = [
+    Case {
+        text: TWO_THIRDS,
+        limits: (30, 1, 1),
+        want: Ok((3, 2)),
+    },
+    Case {
+        text: TWO_THIRDS,
+        limits: (30, 2, 1),
+        want: Ok((15, 8)),
+    },
+    Case {
+        text: TWO_THIRDS,
+        limits: (30, 100, 1),
+        want: Err(CostError::TooWide),
+    },
+    Case {
+        text: TWO_COINS,
+        limits: (30, 1, 1),
+        want: Ok((2, 1)),
+    },
+    Case {
+        text: TWO_COINS,
+        limits: (30, 1, 2),
+        want: Ok((5, 2)),
+    },
+    Case {
+        text: TWO_COINS,
+        limits: (30, 1, 1000),
+        want: Err(CostError::TooWide),
+    },
+    Case {
+        text: GEOMETRIC,
+        limits: (2, 1, 1),
+        want: Ok((3, 2)),
+    },
+    Case {
+        text: "return 7;",
+        limits: (30, 1, 1),
+        want: Ok((0, 1)),
+    },
+    Case {
+        text: DIE,
+        limits: (30, 1, 1),
+        want: Ok((11, 4)),
+    },
+    Case {
+        text: DIE,
+        limits: (30, 3, 1),
+        want: Ok((231, 64)),
+    },
+    Case {
+        text: BRANCHES,
+        limits: (30, 1, 1),
+        want: Ok((2, 1)),
+    },
+    Case {
+        text: "x ~ uniform(65537); return x % 2;",
+        limits: (30, 1, 1),
+        want: Err(CostError::TooManyStates),
+    },
+];
+
+fn program(alloc: Global, text: &str) -> Option<Checked> {
+    let bytes = text.as_bytes();
+    let tokens = match lex(alloc, bytes) {
+        Ok(tokens) => tokens,
+        Err(_) => return None,
+    };
+    if tokens.len() > 65_536 {
+        return None;
+    }
+    match parse(alloc, bytes, tokens.as_slice()) {
+        Ok(parsed) => check(parsed.program).ok(),
+        Err(_) => None,
+    }
+}
+
+fn is_as_told(alloc: Global, case: &Case) -> bool {
+    let (turns, attempts, rounds) = case.limits;
+    let l = Limits {
+        turns,
+        attempts,
+        rounds,
+    };
+    if l.turns > 1000 || l.attempts > 1000 || l.rounds > 1000 {
+        return false;
+    }
+    if l.attempts == 0 || l.rounds == 0 {
+        return false;
+    }
+    match program(alloc, case.text) {
+        None => false,
+        Some(p) => match cost(alloc, &p, &l) {
+            Ok(f) => match case.want {
+                Ok((num, den)) => f.num() == num && f.den() == den,
+                Err(_) => false,
+            },
+            Err(error) => match case.want {
+                Ok(_) => false,
+                Err(want) => error == want,
+            },
+        },
+    }
+}
+
+fn all_as_told(alloc: Global, cases: &[Case]) -> bool {
+    for case in cases {
+        if !is_as_told(alloc, case) {
+            return false;
+        }
+    }
+    true
+}
+
+#[test]
+fn expected_bits_of_programs(rt: HostRuntime) {
+    assert!(rt; all_as_told(rt.alloc(), &CASES));
+}
