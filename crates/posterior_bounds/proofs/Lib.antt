@@ -1,0 +1,11 @@
+pub mod RisingRows
+pub mod LowestTerms
+pub mod Chosen
+pub mod BoundsOfMasses
+pub mod MoreTurns
+pub mod EntrySums
+pub mod Growth
+pub mod OneLimit
+pub mod BoundsLaw
+pub mod EqualFractions
+pub mod WorkedBounds

@@ -1,0 +1,42 @@
+-- Rows of bounds: values and faults ascend, each with its two bounds in lowest terms, and what the rows promise for every greater limit of
+-- turns. This project's own rule.
+use Rattle.std.specs.Prelude.{◌≡◌, ℕ, ◌≤◌, ◌<◌, true, None, List, map, AllPairs, Contains}
+use Rattle.frac128.specs.Fraction.{lowest}
+use Rattle.gcl_core.specs.declared.answers.Outcome.{Outcome}
+use Rattle.gcl_core.specs.Fractions.{Fraction, AtMost}
+use Rattle.gcl_core.specs.Mass.{mass_of}
+use Rattle.gcl_core.specs.Order.{is_before}
+use Rattle.gcl_core.specs.Outcomes.{same_outcome}
+use Rattle.gcl_core.specs.Syntax.{Source}
+use Rattle.posterior_bounds.specs.PosteriorBounds.{is_settled, given, lower_of, upper_of, upper_of_others}
+
+-- an outcome, its lower bound and its upper bound
+abbrev pub Rows : Type 0
+Rows = List (Outcome × Fraction × Fraction)
+
+abbrev pub outcomes_of : Rows → List Outcome
+outcomes_of rows = map (λ row. row.0) rows
+
+-- The rows are exactly the values and faults to which a round of n turns gives more than 0.
+pub record AreBoundsOf (p : Source) (n : ℕ) (rows : Rows) : Type 0 where
+  pub ascending : AllPairs (λ x y. is_before x y ≡ true) (outcomes_of rows)
+  pub settled : (x : Outcome) (low high : Fraction) → Contains rows (x, low, high) → is_settled x ≡ true
+  pub above_zero : (x : Outcome) (low high : Fraction) → Contains rows (x, low, high) → 0 < (given p n (same_outcome x)).0
+  pub lower : (x : Outcome) (low high : Fraction) → Contains rows (x, low, high) → low ≡ lowest (lower_of p n x)
+  pub upper : (x : Outcome) (low high : Fraction) → Contains rows (x, low, high) → high ≡ lowest (upper_of p n x)
+  pub all : (x : Outcome) → is_settled x ≡ true → 0 < (given p n (same_outcome x)).0 → Contains rows (x, lowest (lower_of p n x), lowest (upper_of p n x))
+
+abbrev pub HasNone : Outcome → Rows → Type 0
+HasNone x rows = (low high : Fraction) → Contains rows (x, low, high) → ⊥
+
+-- At n' turns the mass of an outcome that has a row lies between its bounds, both included, and that of a value or fault that has none is
+-- at most the bound of all others. The bounds at n' turns lie within these.
+pub record HoldAt (p : Source) (n' : ℕ) (rows : Rows) (other : Fraction) : Type 0 where
+  pub fraction : (x : Outcome) → is_settled x ≡ true → 1 ≤ (mass_of p n' None None x).1
+  pub from_below : (x : Outcome) (low high : Fraction) → Contains rows (x, low, high) → AtMost low (mass_of p n' None None x)
+  pub from_above : (x : Outcome) (low high : Fraction) → Contains rows (x, low, high) → AtMost (mass_of p n' None None x) high
+  pub without_row : (x : Outcome) → is_settled x ≡ true → HasNone x rows → AtMost (mass_of p n' None None x) other
+  pub lower_rises : (x : Outcome) (low high : Fraction) → Contains rows (x, low, high) → AtMost low (lower_of p n' x)
+  pub upper_falls : (x : Outcome) (low high : Fraction) → Contains rows (x, low, high) → AtMost (upper_of p n' x) high
+  pub new_falls : (x : Outcome) → is_settled x ≡ true → HasNone x rows → AtMost (upper_of p n' x) other
+  pub others_fall : AtMost (upper_of_others p n') other

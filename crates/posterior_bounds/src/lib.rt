@@ -1,0 +1,13 @@
+//! Bounds of a program's masses that hold for every greater limit of turns.
+#![tactic(auto)]
+
+mod bounding;
+mod laws;
+mod rising;
+mod rows;
+#[cfg(test)]
+mod tests;
+
+pub use bounding::bounds;
+pub use laws::more_turns_stay_within_the_bounds;
+pub use rows::{BoundRows, Bounds};
