@@ -1,22 +1,22 @@
 -- Why each status comes, from what is said and how it is shown.
-use Rattle.std.proofs.Common.{◌≡◌, ℕ, ◌<◌, ◌≤◌, ◌==◌, nat_lt, Bool, true, false, ◌||◌, IsTrue, List, Option, Some, None, Result, Ok, Err, ◌⊎◌, inl, inr, refl, sym, ◌∙◌, ap, subst, arith, if◌then◌else◌}
+use Rattle.std.proofs.Common.{◌≡◌, ℕ, ◌<◌, ◌≤◌, ◌==◌, nat_lt, Bool, true, false, ◌||◌, IsTrue, List, Some, None, Result, Ok, Err, ◌⊎◌, inl, inr, refl, sym, ◌∙◌, ap, subst, arith, if◌then◌else◌}
 use Rattle.std.proofs.lemmas.Bool.Decides.{nat_tests}
-use Rattle.std.specs.List.{list_any}
+use Rattle.dice_roll.specs.declared.answers.Roll.{Roll}
+use Rattle.dice_roll.specs.declared.answers.Roll.TheVariants as rolled
 use Rattle.gcl_core.specs.declared.answers.Answer.{Answer}
 use Rattle.gcl_core.specs.declared.answers.Answer.TheVariants.{Ended, MoreBits}
 use Rattle.gcl_core.specs.declared.answers.Outcome.TheVariants as outcome
 use Rattle.gcl_core.specs.declared.refusals.TheConstants.{TOO_FINE, BAD_WORDS}
-use Rattle.report_text.specs.declared.refusals.Refusal.{Refusal}
 use Rattle.report_text.specs.declared.refusals.Refusal.TheVariants.{Coded, Read, Write, Memory, NoFile}
 use Rattle.zar_io.specs.Faults.{CountsFault}
 use Rattle.zar_cli.specs.declared.command.Command.{Command}
-use Rattle.zar_cli.specs.declared.command.Command.TheVariants.{Sample, Mass, Audit, Tally, Check, Show, Code}
+use Rattle.zar_cli.specs.declared.command.Command.TheVariants.{Sample, Mass, Cost, Posterior, Audit, Tally, Check, Show, Code, Gen, Fast}
 use Rattle.zar_cli.specs.declared.said.Said.{Said}
-use Rattle.zar_cli.specs.declared.said.Said.TheVariants.{Answered, Accepted, Shown}
+use Rattle.zar_cli.specs.declared.said.Said.TheVariants.{Answered, Accepted, Costed, Shown, Rolled}
 use Rattle.zar_cli.specs.declared.statuses.TheConstants.{DONE, WORDS_REFUSED, READ_FAULT, WRITE_FAULT, MASS_REFUSED, LIMIT_REACHED, NO_FILE}
 use Rattle.zar_cli.specs.declared.statuses.TheConstants as status
 use Rattle.zar_cli.specs.Answer.{FitsWords, MissesNamed, NamesMissing, IsAnswer, HasCause}
-use Rattle.zar_cli.specs.Delivery.{answer_status, said_status, refusal_status, status_of, CountsIf}
+use Rattle.zar_cli.specs.Delivery.{answer_status, roll_status, said_status, status_of, CountsIf}
 use Rattle.zar_cli.specs.Fits.{greatest_code}
 use Rattle.zar_cli.specs.Output.{Output}
 use Rattle.zar_cli.specs.Seen.{FilesSeen, SinkSeen, IsQuiet, NoWriteFailed}
@@ -37,10 +37,17 @@ answer_statuses (Ended (outcome.Fault f) n) = done
 answer_statuses (Ended (outcome.Limit l) n) = limit
 answer_statuses (MoreBits n) = more_bits
 
+roll_statuses : (r : Roll) → IsSaidStatus (roll_status r)
+roll_statuses (rolled.Label c flips) = done
+roll_statuses (rolled.Limit flips) = limit
+roll_statuses (rolled.MoreBits flips) = more_bits
+
 said_statuses : (s : Said) → IsSaidStatus (said_status s)
 said_statuses (Answered a) = answer_statuses a
 said_statuses (Accepted statements names) = done
+said_statuses (Costed bits) = done
 said_statuses (Shown text) = done
+said_statuses (Rolled roll) = roll_statuses roll
 
 said_apart : (n : ℕ) → IsSaidStatus n → (n ≡ WORDS_REFUSED) ⊎ (n ≡ READ_FAULT) ⊎ (n ≡ WRITE_FAULT) ⊎ (n ≡ NO_FILE) → ⊥
 said_apart _ done h = grind arith
@@ -67,11 +74,16 @@ coded_words false false e = absurd (omega arith)
 greatest_few : (c : Command) → greatest_code c ≤ 15
 greatest_few (Sample program bits limits) = omega arith
 greatest_few (Mass program turns attempts rounds) = omega arith
+greatest_few (Cost program limits) = omega arith
+greatest_few (Posterior program turns) = omega arith
 greatest_few (Audit program depth limits) = omega arith
 greatest_few (Tally program range limits) = omega arith
 greatest_few (Check program) = omega arith
 greatest_few (Show program) = omega arith
 greatest_few (Code program) = omega arith
+greatest_few (Gen k) = omega arith
+greatest_few (Fast labels flips (Some source)) = omega arith
+greatest_few (Fast labels flips None) = omega arith
 
 -- ---- outputs
 

@@ -1,27 +1,25 @@
 -- What a command says, from what its stages give.
-use Rattle.std.proofs.Common.{◌≡◌, ℕ, ◌<◌, ◌≤◌, ◌||◌, Bool, true, false, IsTrue, List, [], ◌∷◌, Option, Some, None, Result, Ok, Err, ◌⊎◌, inl, inr, refl, sym, ◌∙◌, ap, subst, arith}
+use Rattle.std.proofs.Common.{◌≡◌, ℕ, ◌<◌, ◌≤◌, ◌||◌, Bool, true, false, IsTrue, List, [], ◌∷◌, Option, Some, None, Ok, Err, ◌⊎◌, inl, inr, refl, sym, ◌∙◌, ap, subst, arith}
 use Rattle.std.specs.List.{list_any}
 use Rattle.gcl_core.specs.declared.answers.Answer.{Answer}
 use Rattle.gcl_core.specs.declared.answers.Limits.{Limits}
-use Rattle.gcl_core.specs.declared.refusals.TheConstants.{TOO_FINE, ALL_FAILED}
+use Rattle.gcl_core.specs.declared.refusals.TheConstants.{TOO_FINE}
 use Rattle.gcl_core.specs.Runs.{run_on}
 use Rattle.gcl_core.specs.Syntax.{Source}
 use Rattle.gcl_core.specs.Texts.{IsWrittenIn, IsRefusedText, Spells, SpellsNone}
 use Rattle.gcl_parse.specs.OneReading.{HasOneReadingAsWritten, HasOneReading}
 use Rattle.report_text.specs.declared.refusals.Refusal.{Refusal}
 use Rattle.report_text.specs.declared.refusals.Refusal.TheVariants.{Coded, Read, Write, Memory, NoFile}
-use Rattle.zar_io.specs.Faults.{CountsFault}
 use Rattle.zar_io.specs.FileBits.{file_bits}
 use Rattle.zar_cli.specs.declared.command.Command.{Command}
-use Rattle.zar_cli.specs.declared.command.Command.TheVariants.{Sample, Mass}
+use Rattle.zar_cli.specs.declared.command.Command.TheVariants.{Sample}
 use Rattle.zar_cli.specs.declared.command.Source.TheVariants.{File}
 use Rattle.zar_cli.specs.declared.said.Said.{Said}
 use Rattle.zar_cli.specs.declared.said.Said.TheVariants.{Answered}
 use Rattle.zar_cli.specs.Answer.{IsSaid}
 use Rattle.zar_cli.specs.Fits.{names_in, greatest_code, FitsSaid, FitsRefusal}
-use Rattle.zar_cli.specs.Output.{Output, HasOrRefuses, says, reading, written, spelled, IsOutput, Tells}
-use Rattle.zar_cli.specs.Readings.{InFile, NoneInFile, AnswersRun, GivesMasses}
-use Rattle.zar_cli.specs.Masses.{SaysMasses, too_wide, too_many_states, all_failed}
+use Rattle.zar_cli.specs.Output.{Output, says, reading, on_bits, written, spelled, IsOutput, Tells}
+use Rattle.zar_cli.specs.Readings.{InFile, NoneInFile, GivesOnBits, Gives}
 use Rattle.zar_cli.specs.Seen.{FilesSeen, IsQuiet}
 use Rattle.zar_cli.specs.Stages.{CountsRead, MissesOneOf, IsStage}
 use Rattle.zar_cli.specs.Words.{Word}
@@ -114,6 +112,19 @@ module _ (file : Option (List ℕ)) where
     written_refused greatest Memory none fits ne = inl refl
     written_refused greatest NoFile none fits ne = inr (reading_none (written go) none)
 
+-- ---- bits of files
+
+module _ (file : Option (List ℕ)) {A : Type 0} (f : List Bool → A) where
+  pub bits_refused : (say : List Bool → Said) (e : Refusal) → GivesOnBits f file (Err e) → (e ≡ Read → ⊥) → OrMemory (on_bits file say) (Err e)
+  bits_refused say (Coded code at) gives ne = absurd gives
+  bits_refused say Read gives ne = absurd (ne refl)
+  bits_refused say Write gives ne = absurd gives
+  bits_refused say Memory gives ne = inl refl
+  bits_refused say NoFile none ne = inr (reading_none file (λ bytes. says (say (file_bits bytes))) none)
+
+  pub bits_given : (say : A → Said) (a : A) → GivesOnBits f file (Ok a) → on_bits file (λ w. say (f w)) (Ok (say a))
+  bits_given say a gives = reading_bytes file (λ bytes. says (say (f (file_bits bytes)))) (Ok (say a)) gives.0 gives.1 (ap (λ x. Ok (say x)) gives.2)
+
 -- ---- stages
 
 -- a name of fewer is one of more
@@ -178,6 +189,24 @@ module _ (command : Command) (files : FilesSeen) (name program : Word) (go : Sou
       said_all command files said fits counts
       (λ told. inr (is (checked_ok (files.file program) go (Ok said) p (subst (λ n. InFile (files.file n) HasOneReading (λ text. Spells text p)) same (there told)) gone)))
 
+  -- work on the program refuses it by a code of the command
+  pub work_refused : {A : Type 0} (say : A → Said) (p : Source) (e : Refusal) → files.faults_now ≡ files.faults
+      → (IsTrue files.told → InFile (files.file name) HasOneReading (λ text. Spells text p))
+      → ((code : ℕ) (at : Option ℕ) → go p (Err (Coded code at)) → FitsRefusal (greatest_code command) (Coded code at)) → Gives say (go p) (Err e)
+      → ((output : Output) → reading (files.file program) (spelled go) output → IsOutput files.file command output) → IsSaid (Ok command) files (Err e)
+  work_refused say p (Coded code at) counts there fits gives is = record {
+    fits = fits code at gives;
+    counts = counts;
+    closes = tt;
+    misses = tt;
+    tells = λ told quiet. inr (is (Err (Coded code at)) (checked_ok (files.file program) go (Err (Coded code at)) p
+        (subst (λ n. InFile (files.file n) HasOneReading (λ text. Spells text p)) same (there told)) gives));
+  }
+  work_refused say p Read counts there fits gives is = absurd gives
+  work_refused say p Write counts there fits gives is = absurd gives
+  work_refused say p Memory counts there fits gives is = said_memory command files counts
+  work_refused say p NoFile counts there fits gives is = absurd gives
+
 -- ---- a command that takes a program as it is written
 
 module _ (command : Command) (files : FilesSeen) (name program : Word) (go : Source → Output → Type 0) (same : name ≡ program) where
@@ -227,50 +256,21 @@ pub first_missing : (may : Word → Bool) (program bits : Word) → list_any may
 first_missing may program bits e = or_first (may program) (may bits) e
 
 module _ (files : FilesSeen) (program bits : Word) (limits : Limits) (p : Source) (there : IsTrue files.told → InFile (files.file program) HasOneReading (λ text. Spells text p)) where
-  -- what is said on with the bytes of the file of bits
-  abbrev on_bits : Source → Output → Type 0
-  on_bits q = reading (files.file bits) (λ bytes. says (Answered (run_on q limits (file_bits bytes))))
+  abbrev run_said : Source → Output → Type 0
+  run_said q = on_bits (files.file bits) (λ w. Answered (run_on q limits w))
 
-  run_refused : (told : IsTrue files.told) (e : Refusal) → AnswersRun p limits (files.file bits) (Err e) → (e ≡ Read → ⊥) → Tells files.file (Sample program (File bits) limits) (Err e)
-  run_refused told (Coded code at) answers ne = absurd answers
-  run_refused told Read answers ne = absurd (ne refl)
-  run_refused told Write answers ne = absurd answers
-  run_refused told Memory answers ne = inl refl
-  run_refused told NoFile none ne =
-      inr (checked_ok (files.file program) on_bits (Err NoFile) p (there told) (reading_none (files.file bits) (λ bytes. says (Answered (run_on p limits (file_bits bytes)))) none))
+  run_refused : (told : IsTrue files.told) (e : Refusal) → OrMemory (run_said p) (Err e) → Tells files.file (Sample program (File bits) limits) (Err e)
+  run_refused told e (inl memory) = inl memory
+  run_refused told e (inr none) = inr (checked_ok (files.file program) run_said (Err e) p (there told) none)
 
-  pub sample_refused : (e : Refusal) → IsStage (bits ∷ []) TOO_FINE files (Some e) → (IsTrue files.told → AnswersRun p limits (files.file bits) (Err e))
+  pub sample_refused : (e : Refusal) → IsStage (bits ∷ []) TOO_FINE files (Some e) → (IsTrue files.told → GivesOnBits (run_on p limits) (files.file bits) (Err e))
       → IsSaid (Ok (Sample program (File bits) limits)) files (Err e)
   sample_refused e stage answers =
       said_refused (Sample program (File bits) limits) files (bits ∷ []) e stage (or_second (files.may_be_missing program) (files.may_be_missing bits))
-      (λ told quiet. run_refused told e (answers told) (no_read files.faults files.faults_now e stage.counts quiet))
+      (λ told quiet. run_refused told e (bits_refused (files.file bits) (run_on p limits) (λ w. Answered (run_on p limits w)) e (answers told) (no_read files.faults files.faults_now e stage.counts quiet)))
 
-  pub sample_answered : (answer : Answer) → files.faults_now ≡ files.faults → (IsTrue files.told → AnswersRun p limits (files.file bits) (Ok answer))
+  pub sample_answered : (answer : Answer) → files.faults_now ≡ files.faults → (IsTrue files.told → GivesOnBits (run_on p limits) (files.file bits) (Ok answer))
       → IsSaid (Ok (Sample program (File bits) limits)) files (Ok (Answered answer))
   sample_answered answer counts answers =
       said_all (Sample program (File bits) limits) files (Answered answer) tt counts
-      (λ told. let a = answers told in
-      inr (checked_ok (files.file program) on_bits (Ok (Answered answer)) p (there told)
-      (reading_bytes (files.file bits) (λ bytes. says (Answered (run_on p limits (file_bits bytes)))) (Ok (Answered answer)) a.0 a.1 (ap (λ x. Ok (Answered x)) a.2))))
-
--- ---- `mass`
-
-mass_fits : (p : Source) (turns : ℕ) (attempts rounds : Option ℕ) (code : ℕ) (at : Option ℕ) → SaysMasses p turns attempts rounds (Err (Coded code at)) → FitsRefusal ALL_FAILED (Coded code at)
-mass_fits p turns attempts rounds _ _ (too_wide h) = (omega arith, omega arith)
-mass_fits p turns attempts rounds _ _ (too_many_states h) = (omega arith, omega arith)
-mass_fits p turns attempts rounds _ _ (all_failed h) = (omega arith, omega arith)
-
-module _ (files : FilesSeen) (program : Word) (turns : ℕ) (attempts rounds : Option ℕ) (p : Source)
-    (counts : files.faults_now ≡ files.faults) (there : IsTrue files.told → InFile (files.file program) HasOneReading (λ text. Spells text p)) where
-  pub masses_refused : (e : Refusal) → GivesMasses p turns attempts rounds (Err e) → IsSaid (Ok (Mass program turns attempts rounds)) files (Err e)
-  masses_refused (Coded code at) gives = record {
-    fits = mass_fits p turns attempts rounds code at gives;
-    counts = counts;
-    closes = tt;
-    misses = tt;
-    tells = λ told quiet. inr (checked_ok (files.file program) (λ q. SaysMasses q turns attempts rounds) (Err (Coded code at)) p (there told) gives);
-  }
-  masses_refused Read gives = absurd gives
-  masses_refused Write gives = absurd gives
-  masses_refused Memory gives = said_memory (Mass program turns attempts rounds) files counts
-  masses_refused NoFile gives = absurd gives
+      (λ told. inr (checked_ok (files.file program) run_said (Ok (Answered answer)) p (there told) (bits_given (files.file bits) (run_on p limits) Answered answer (answers told))))

@@ -1,10 +1,15 @@
 -- What is said of all strings of one length, and of the streams of a range: exactly the rows of the definitions, by the runs of the program.
-use Rattle.std.specs.Prelude.{ℕ, Result, Ok}
+use Rattle.std.specs.Prelude.{◌≡◌, ℕ, ◌++◌, List, length, Result, Ok}
 use Rattle.gcl_core.specs.declared.answers.Limits.{Limits}
+use Rattle.gcl_core.specs.Canonical.{canonical_text}
+use Rattle.gcl_core.specs.Listing.{count_all}
 use Rattle.gcl_core.specs.Runs.{run_on}
 use Rattle.gcl_core.specs.Syntax.{Source}
 use Rattle.audit_walk.specs.Audited.{IsAuditOf}
 use Rattle.audit_walk.specs.Rows as audited
+use Rattle.generated_program.specs.Generated.{generated}
+use Rattle.report_text.specs.Lines.{number_text}
+use Rattle.report_text.specs.declared.counts.Count.TheVariants.{Statements, Bytes, Streams}
 use Rattle.report_text.specs.declared.refusals.Refusal.{Refusal}
 use Rattle.tally_range.specs.declared.range.SeedRange.{SeedRange}
 use Rattle.tally_range.specs.Laws.{count_on}
@@ -12,11 +17,37 @@ use Rattle.tally_range.specs.Rows as tallied
 use Rattle.tally_range.specs.Rows.{IsTallyOf}
 use Rattle.zar_cli.specs.declared.said.Said.{Said}
 use Rattle.zar_cli.specs.declared.said.Said.TheVariants.{Shown}
+use Rattle.zar_cli.specs.declared.settings.TheConstants.{USUAL_BUDGET, USUAL_WORKERS, GENERATED_STREAMS}
 use Rattle.zar_cli.specs.Tables.{audit_text, tally_rows_text}
+use Rattle.zar_cli.specs.Words.{limits_of, no_options}
 
-pub data SaysAudit (p : Source) (depth : ℕ) (limits : Limits) : Result Said Refusal → Type 0 where
-  strings_counted : (rows : audited.Rows) (undecided : ℕ) → IsAuditOf (run_on p limits) depth rows undecided
-      → SaysAudit p depth limits (Ok (Shown (audit_text depth rows undecided)))
+-- a text of this kind is shown
+abbrev pub Shows : (List ℕ → Type 0) → Result Said Refusal → Type 0
+Shows Is output = (text : List ℕ) × Is text × (output ≡ Ok (Shown text))
 
-pub data SaysTally (p : Source) (range : SeedRange) (limits : Limits) : Result Said Refusal → Type 0 where
-  streams_counted : (rows : tallied.Rows) → IsTallyOf (count_on p limits range) rows → SaysTally p range limits (Ok (Shown (tally_rows_text rows)))
+-- the lines of an audit
+pub record IsAuditText (p : Source) (depth : ℕ) (limits : Limits) (text : List ℕ) : Type 0 where
+  pub rows : audited.Rows
+  pub undecided : ℕ
+  pub counted : IsAuditOf (run_on p limits) depth rows undecided
+  pub lines : text ≡ audit_text depth rows undecided
+
+-- the lines of a tally
+pub record IsTallyText (p : Source) (range : SeedRange) (limits : Limits) (text : List ℕ) : Type 0 where
+  pub rows : tallied.Rows
+  pub counted : IsTallyOf (count_on p limits range) rows
+  pub lines : text ≡ tally_rows_text rows
+
+-- how large a program is, and how many streams it is tallied over
+abbrev pub size_text : Source → List ℕ
+size_text p = number_text Statements (count_all p.body) ++ number_text Bytes (length (canonical_text p)) ++ number_text Streams GENERATED_STREAMS
+
+-- the first streams of the seed k
+abbrev pub generated_range : ℕ → SeedRange
+generated_range k = record { seed = k; from = 0; to = GENERATED_STREAMS; budget = USUAL_BUDGET; workers = USUAL_WORKERS }
+
+-- the lines of the size and the tally of the generated program of k, under the limits where none is given
+pub record IsGeneratedText (k : ℕ) (text : List ℕ) : Type 0 where
+  pub rows : List ℕ
+  pub tally : IsTallyText (generated k) (generated_range k) (limits_of no_options) rows
+  pub lines : text ≡ size_text (generated k) ++ rows

@@ -1,5 +1,5 @@
 -- What is said of the masses of a program: each that is above 0, in lowest terms, outcomes ascending; or why they are refused.
-use Rattle.std.specs.Prelude.{◌≡◌, ℕ, Option, None, IfNone, Result, Ok, Err}
+use Rattle.std.specs.Prelude.{ℕ, Option, None, IfNone, Result, Ok, Err}
 use Rattle.gcl_core.specs.declared.refusals.TheConstants.{TOO_WIDE, TOO_MANY_STATES, ALL_FAILED}
 use Rattle.gcl_core.specs.Fractions.{IsBelowOne}
 use Rattle.gcl_core.specs.Mass.{failed_mass, mass_of}

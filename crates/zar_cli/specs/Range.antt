@@ -1,13 +1,16 @@
 -- The numbers of a command are in range.
-use Rattle.std.specs.Prelude.{ℕ, ◌≤◌, IfSome}
+use Rattle.std.specs.Prelude.{◌≤◌, IfSome}
+use Rattle.dice_roll.specs.declared.rules.TheConstants.{LEAST_LABELS, MOST_LABELS, MOST_FLIPS}
 use Rattle.gcl_core.specs.Runs.{InRange}
+use Rattle.gcl_core.specs.declared.rules.TheConstants.{MOST_LIMIT}
+use Rattle.generated_program.specs.declared.generating.TheConstants.{GREATEST_NUMBER}
 use Rattle.mass_fold.specs.Refused.{IsLimit}
 use Rattle.tally_range.specs.Shares.{IsRange, IsWorkers}
 use Rattle.zar_cli.specs.declared.command.Command.{Command}
-use Rattle.zar_cli.specs.declared.command.Command.TheVariants.{Sample, Mass, Audit, Tally, Check, Show, Code}
+use Rattle.zar_cli.specs.declared.command.Command.TheVariants.{Sample, Mass, Cost, Posterior, Audit, Tally, Check, Show, Code, Gen, Fast}
 use Rattle.zar_cli.specs.declared.command.Source.{Source}
 use Rattle.zar_cli.specs.declared.command.Source.TheVariants.{File, Stream}
-use Rattle.zar_cli.specs.declared.settings.TheConstants.{MOST_LIMIT, MOST_BUDGET, MOST_DEPTH}
+use Rattle.zar_cli.specs.declared.settings.TheConstants.{MOST_BUDGET, MOST_DEPTH}
 
 abbrev pub SourceHasRange : Source → Type 0
 SourceHasRange (File name) = Unit {0}
@@ -16,8 +19,12 @@ SourceHasRange (Stream seed stream budget) = budget ≤ MOST_BUDGET
 abbrev pub HasRange : Command → Type 0
 HasRange (Sample program source limits) = InRange limits × SourceHasRange source
 HasRange (Mass program turns attempts rounds) = (turns ≤ MOST_LIMIT) × IfSome attempts IsLimit × IfSome rounds IsLimit
+HasRange (Cost program limits) = InRange limits
+HasRange (Posterior program turns) = turns ≤ MOST_LIMIT
 HasRange (Audit program depth limits) = (depth ≤ MOST_DEPTH) × InRange limits
 HasRange (Tally program range limits) = InRange limits × IsRange range × IsWorkers range.workers
 HasRange (Check program) = Unit {0}
 HasRange (Show program) = Unit {0}
 HasRange (Code program) = Unit {0}
+HasRange (Gen k) = k ≤ GREATEST_NUMBER
+HasRange (Fast labels flips source) = (LEAST_LABELS ≤ labels) × (labels ≤ MOST_LABELS) × (flips ≤ MOST_FLIPS) × IfSome source SourceHasRange

@@ -38,7 +38,7 @@ impl FileName {
     }
 }
 
-/// Where the bits of a sample come from.
+/// Where bits come from.
 #[derive(Drop)]
 pub enum Source {
     /// The file of this name.
@@ -54,6 +54,10 @@ pub enum Command {
     Sample(FileName, Source, Limits),
     /// Weighs each outcome of the program in the file, with limits of turns, attempts and rounds.
     Mass(FileName, u64, Option<u64>, Option<u64>),
+    /// Works out how many bits a run of the program in the file reads on average.
+    Cost(FileName, Limits),
+    /// Bounds each outcome of the program in the file for every greater limit of turns.
+    Posterior(FileName, u64),
     /// Audits the program in the file by all bit strings of one length.
     Audit(FileName, u32, Limits),
     /// Tallies the program in the file over the streams of a range.
@@ -64,4 +68,9 @@ pub enum Command {
     Show(FileName),
     /// Lists the code that samples the program in the file.
     Code(FileName),
+    /// Tallies the generated program of this number.
+    Gen(u32),
+    /// Draws one of so many labels by the Fast Dice Roller with at most so many flips, on the bits of a source; without one, weighs
+    /// the labels.
+    Fast(u64, u64, Option<Source>),
 }

@@ -1,12 +1,11 @@
 // Programs that are audited and tallied.
 
-ghost use Rattle.std.specs.Prelude.{◌≤◌, Ok, IfOk};
+ghost use Rattle.std.specs.Prelude.{◌≤◌, IfOk};
 ghost use Rattle.gcl_core.specs.Runs.{InRange};
 ghost use Rattle.gcl_core.specs.Views.{source_of};
 ghost use Rattle.tally_range.specs.Shares.{IsRange, IsWorkers};
-ghost use Rattle.zar_cli.specs.declared.said.Said.TheVariants.{Shown};
 ghost use Rattle.zar_cli.specs.declared.settings.TheConstants.{MOST_DEPTH};
-ghost use Rattle.zar_cli.specs.Counts.{SaysAudit, SaysTally};
+ghost use Rattle.zar_cli.specs.Counts.{IsAuditText, IsTallyText};
 
 use crate::tables::{audit_text, tally_rows_text};
 use audit_walk::audit;
@@ -29,7 +28,7 @@ pub fn audit_of<R: Threads + Sync>(
 ) -> Result<Text, AllocError>
     requires depth { depth ≤ MOST_DEPTH }
     requires limits { InRange limits.now }
-    ensures { IfOk result (λ text. SaysAudit (source_of program.now) depth limits.now (Ok (Shown text))) }
+    ensures { IfOk result (IsAuditText (source_of program.now) depth limits.now) }
 {
     let sampler = compile(alloc, program)?;
     let found = audit(rt, alloc, &sampler, limits, depth)?;
@@ -49,7 +48,7 @@ pub fn tally_of<R: Threads + Sync, G: Gate>(
     requires limits { InRange limits.now }
     requires range { IsRange range.now }
     requires workers { IsWorkers range.now.workers }
-    ensures { IfOk result (λ text. SaysTally (source_of program.now) range.now limits.now (Ok (Shown text))) }
+    ensures { IfOk result (IsTallyText (source_of program.now) range.now limits.now) }
 {
     let sampler = compile(alloc, program)?;
     let found = tally(rt, alloc, &sampler, limits, range, gate)?;

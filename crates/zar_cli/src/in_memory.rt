@@ -47,13 +47,23 @@ fn call<R: Threads + Sync>(
 }
 
 #[test]
-fn counts_in_memory(rt: HostRuntime) -> Result<(), Fail> {
+fn says_in_memory(rt: HostRuntime) -> Result<(), Fail> {
     let two_thirds: &[u8] = b"choice 2/3 { x := 1; } or { x := 2; } return x;";
-    let cases: [(&[u8], &[&str], &[u8]); 3] = [
+    let cases: [(&[u8], &[&str], &[u8]); 8] = [
         (
             two_thirds,
             &["mass", "p.gcl"],
             b"value 1 mass 2/3\nvalue 2 mass 1/3\n",
+        ),
+        (
+            b"go := 1; while go = 1 { choice 1/2 { x := x + 1; } or { go := 0; } } return x;",
+            &["posterior", "p.gcl", "--turns", "2"],
+            b"value 0 from 1/2 to 3/4\nvalue 1 from 1/4 to 1/2\nother from 0/1 to 1/4\n",
+        ),
+        (
+            two_thirds,
+            &["cost", "p.gcl", "--attempts", "2", "--rounds", "1"],
+            b"bits 15/8\n",
         ),
         (
             two_thirds,
@@ -64,6 +74,17 @@ fn counts_in_memory(rt: HostRuntime) -> Result<(), Fail> {
             b"return 7;",
             &["tally", "p.gcl", "--seed", "0", "--from", "3", "--to", "9"],
             b"value 7 count 6\n",
+        ),
+        (
+            b"",
+            &["gen", "1"],
+            b"statements 10\nbytes 124\nstreams 1000\nvalue 3 count 1000\n",
+        ),
+        (b"", &["fast", "6", "--seed", "0"], b"value 5 bits 3\n"),
+        (
+            b"",
+            &["fast", "6", "--flips", "5"],
+            b"each mass 5/32\nlimit flips mass 1/16\n",
         ),
     ];
     let mut row = 0u32;

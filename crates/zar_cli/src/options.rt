@@ -2,13 +2,16 @@
 
 ghost use Rattle.std.specs.Prelude.{◌≡◌, ◌≤◌};
 ghost use Rattle.std.specs.Option.{ForSome};
-ghost use Rattle.zar_cli.specs.declared.settings.TheConstants.{MOST_LIMIT, MOST_BUDGET, MOST_WORKERS, MOST_DEPTH};
+ghost use Rattle.dice_roll.specs.declared.rules.TheConstants.{MOST_FLIPS};
+ghost use Rattle.gcl_core.specs.declared.rules.TheConstants.{MOST_LIMIT};
+ghost use Rattle.zar_cli.specs.declared.settings.TheConstants.{MOST_BUDGET, MOST_WORKERS, MOST_DEPTH};
 
 use crate::settings::{
-    MOST_BUDGET, MOST_DEPTH, MOST_LIMIT, MOST_STREAMS, MOST_WORKERS, Setting, USUAL_BUDGET,
-    USUAL_LIMIT, USUAL_WORKERS, Verb, number_in, setting_named,
+    MOST_BUDGET, MOST_DEPTH, MOST_STREAMS, MOST_WORKERS, Setting, USUAL_BUDGET, USUAL_LIMIT,
+    USUAL_WORKERS, Verb, number_in, setting_named,
 };
-use gcl_core::Limits;
+use dice_roll::MOST_FLIPS;
+use gcl_core::{Limits, MOST_LIMIT};
 use tally_range::SeedRange;
 
 // What the options said so far.
@@ -22,12 +25,14 @@ pub struct Options<'a> {
     pub to: Option<u64>,
     pub workers: Option<u64>,
     pub depth: Option<u64>,
+    pub flips: Option<u64>,
     pub turns: Option<u64>,
     pub attempts: Option<u64>,
     pub rounds: Option<u64>,
     ghost budget_in_range: { ForSome budget (λ n. n ≤ MOST_BUDGET) },
     ghost workers_in_range: { ForSome workers (λ n. (1 ≤ n) × (n ≤ MOST_WORKERS)) },
     ghost depth_in_range: { ForSome depth (λ n. n ≤ MOST_DEPTH) },
+    ghost flips_in_range: { ForSome flips (λ n. n ≤ MOST_FLIPS) },
     ghost turns_in_range: { ForSome turns (λ n. n ≤ MOST_LIMIT) },
     ghost attempts_in_range: { ForSome attempts (λ n. (1 ≤ n) × (n ≤ MOST_LIMIT)) },
     ghost rounds_in_range: { ForSome rounds (λ n. (1 ≤ n) × (n ≤ MOST_LIMIT)) },
@@ -42,6 +47,7 @@ pub const NO_OPTIONS: Options<'static> = Options {
     to: None,
     workers: None,
     depth: None,
+    flips: None,
     turns: None,
     attempts: None,
     rounds: None,
@@ -66,6 +72,7 @@ impl<'a> Options<'a> {
             Setting::To => self.to.is_some(),
             Setting::Workers => self.workers.is_some(),
             Setting::Depth => self.depth.is_some(),
+            Setting::Flips => self.flips.is_some(),
             Setting::Turns => self.turns.is_some(),
             Setting::Attempts => self.attempts.is_some(),
             Setting::Rounds => self.rounds.is_some(),
@@ -83,6 +90,7 @@ impl<'a> Options<'a> {
             | Setting::To
             | Setting::Workers
             | Setting::Depth
+            | Setting::Flips
             | Setting::Turns
             | Setting::Attempts
             | Setting::Rounds => false,
@@ -104,6 +112,7 @@ impl<'a> Options<'a> {
             Setting::To => options.to = Some(number_in(0, u64::MAX, value)?),
             Setting::Workers => options.workers = Some(number_in(1, MOST_WORKERS, value)?),
             Setting::Depth => options.depth = Some(number_in(0, MOST_DEPTH, value)?),
+            Setting::Flips => options.flips = Some(number_in(0, MOST_FLIPS, value)?),
             Setting::Turns => options.turns = Some(number_in(0, MOST_LIMIT, value)?),
             Setting::Attempts => options.attempts = Some(number_in(1, MOST_LIMIT, value)?),
             Setting::Rounds => options.rounds = Some(number_in(1, MOST_LIMIT, value)?),

@@ -3,18 +3,25 @@
 ghost use Rattle.std.specs.Prelude.{◌≡◌, ◌≤◌, true, length, IfSome};
 ghost use Rattle.std.specs.List.{list_all};
 ghost use Rattle.std.specs.Str.Parse.{digits_value};
-ghost use Rattle.zar_cli.specs.Words.{verb_named, setting_named, is_limit, is_bits, is_range, allows, is_digit, number_in};
+ghost use Rattle.zar_cli.specs.Words.{verb_named, setting_named, is_limit, is_bits, is_range, allows, is_digit, number_in, number_of, is_first};
+
+use dice_roll::{LEAST_LABELS, MOST_LABELS};
+use generated_program::GREATEST_NUMBER;
 
 /// The word of a command.
 #[derive(Clone, Copy, Debug, PartialEq, Eq)]
 pub enum Verb {
     Sample,
     Mass,
+    Cost,
+    Posterior,
     Audit,
     Tally,
     Check,
     Show,
     Code,
+    Gen,
+    Fast,
 }
 
 /// An option of a command.
@@ -28,16 +35,15 @@ pub enum Setting {
     To,
     Workers,
     Depth,
+    Flips,
     Turns,
     Attempts,
     Rounds,
 }
 
-/// The greatest limit of turns, of attempts and of rounds.
-pub const MOST_LIMIT: u64 = 1_000_000_000;
 /// The limit of turns, of attempts and of rounds where none is given.
 pub const USUAL_LIMIT: u64 = 1000;
-/// The limit of turns under which masses are worked out where none is given.
+/// The limit of turns under which masses, expected bits and bounds are worked out where none is given.
 pub const USUAL_MASS_TURNS: u64 = 30;
 /// The greatest budget of bits of a stream.
 pub const MOST_BUDGET: u64 = 1_000_000_000;
@@ -51,6 +57,12 @@ pub const MOST_WORKERS: u64 = 64;
 pub const USUAL_WORKERS: u64 = 4;
 /// The greatest depth of an audit, in bits.
 pub const MOST_DEPTH: u64 = 20;
+/// The least number of a generated program.
+pub const LEAST_GENERATED: u64 = 1;
+/// How many streams a generated program is tallied over.
+pub const GENERATED_STREAMS: u64 = 1000;
+/// The limit of flips under which the labels of a roll are weighed where none is given.
+pub const USUAL_WEIGHED_FLIPS: u64 = 30;
 
 pub fn verb_named(word: &str) -> Option<Verb>
     ensures { result ≡ verb_named word.now }
@@ -58,11 +70,15 @@ pub fn verb_named(word: &str) -> Option<Verb>
     match word {
         "sample" => Some(Verb::Sample),
         "mass" => Some(Verb::Mass),
+        "cost" => Some(Verb::Cost),
+        "posterior" => Some(Verb::Posterior),
         "audit" => Some(Verb::Audit),
         "tally" => Some(Verb::Tally),
         "check" => Some(Verb::Check),
         "show" => Some(Verb::Show),
         "code" => Some(Verb::Code),
+        "gen" => Some(Verb::Gen),
+        "fast" => Some(Verb::Fast),
         _ => None,
     }
 }
@@ -79,6 +95,7 @@ pub fn setting_named(word: &str) -> Option<Setting>
         "--to" => Some(Setting::To),
         "--workers" => Some(Setting::Workers),
         "--depth" => Some(Setting::Depth),
+        "--flips" => Some(Setting::Flips),
         "--turns" => Some(Setting::Turns),
         "--attempts" => Some(Setting::Attempts),
         "--rounds" => Some(Setting::Rounds),
@@ -116,16 +133,55 @@ impl Setting {
 }
 
 impl Verb {
+    /// The number that the word behind the verb is, where the verb takes a number.
+    pub fn number(self, word: &str) -> Option<u64>
+        ensures number { result ≡ number_of self word.now }
+    {
+        match self {
+            Verb::Gen => number_in(LEAST_GENERATED, u64::from(GREATEST_NUMBER), word),
+            Verb::Fast => number_in(LEAST_LABELS, MOST_LABELS, word),
+            Verb::Sample
+            | Verb::Mass
+            | Verb::Cost
+            | Verb::Posterior
+            | Verb::Audit
+            | Verb::Tally
+            | Verb::Check
+            | Verb::Show
+            | Verb::Code => None,
+        }
+    }
+
+    /// The word behind the verb is of its form: a number in its range, or the name of a file.
+    pub fn is_first(self, word: &str) -> bool
+        ensures { result ≡ is_first self word.now }
+    {
+        match self {
+            Verb::Gen | Verb::Fast => self.number(word).is_some(),
+            Verb::Sample
+            | Verb::Mass
+            | Verb::Cost
+            | Verb::Posterior
+            | Verb::Audit
+            | Verb::Tally
+            | Verb::Check
+            | Verb::Show
+            | Verb::Code => !word.is_empty(),
+        }
+    }
+
     // The command takes the option.
     pub fn allows(self, setting: Setting) -> bool
         ensures { result ≡ allows self setting }
     {
         match self {
             Verb::Sample => setting.is_limit() || setting.is_bits(),
-            Verb::Mass => setting.is_limit(),
+            Verb::Mass | Verb::Cost => setting.is_limit(),
+            Verb::Posterior => matches!(setting, Setting::Turns),
             Verb::Audit => setting.is_limit() || matches!(setting, Setting::Depth),
             Verb::Tally => setting.is_limit() || setting.is_range(),
-            Verb::Check | Verb::Show | Verb::Code => false,
+            Verb::Fast => setting.is_bits() || matches!(setting, Setting::Flips),
+            Verb::Check | Verb::Show | Verb::Code | Verb::Gen => false,
         }
     }
 }

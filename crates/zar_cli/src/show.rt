@@ -2,7 +2,7 @@
 
 ghost use Rattle.std.specs.Prelude.{◌≡◌, if◌then◌else◌};
 ghost use Rattle.report_text.specs.Lines.{refusal_text};
-ghost use Rattle.zar_cli.specs.Delivery.{answer_status, said_status, refusal_status, status_of, out_text, err_text, IsWrittenOn};
+ghost use Rattle.zar_cli.specs.Delivery.{answer_status, roll_status, said_status, refusal_status, status_of, out_text, err_text, IsWrittenOn};
 ghost use Rattle.zar_cli.specs.Seen.{sink_seen};
 
 use crate::deliver::{Delivery, deliver};
@@ -11,9 +11,10 @@ use crate::statuses::{
     DONE, LIMIT_REACHED, MASS_REFUSED, MORE_BITS, NO_FILE, OUT_OF_MEMORY, READ_FAULT, TEXT_REFUSED,
     WORDS_REFUSED, WRITE_FAULT,
 };
+use dice_roll::Roll;
 use gcl_core::refusals::{BAD_WORDS, TOO_FINE};
 use gcl_core::{Answer, Outcome};
-use report_text::{Refusal, check_line, fault_line, sample_line};
+use report_text::{Refusal, check_line, cost_line, fault_line, roll_line, sample_line};
 use zar_io::Sink;
 
 fn answer_status(answer: &Answer) -> u8
@@ -27,13 +28,25 @@ fn answer_status(answer: &Answer) -> u8
     }
 }
 
+fn roll_status(roll: &Roll) -> u8
+    ensures { result ≡ roll_status roll.now }
+{
+    match roll {
+        Roll::Label(_, _) => DONE,
+        Roll::Limit(_) => LIMIT_REACHED,
+        Roll::MoreBits(_) => MORE_BITS,
+    }
+}
+
 fn said_status(said: &Said) -> u8
     ensures { result ≡ said_status said.now }
 {
     match said {
         Said::Answered(answer) => answer_status(answer),
         Said::Accepted(_, _) => DONE,
+        Said::Costed(_) => DONE,
         Said::Shown(_) => DONE,
+        Said::Rolled(roll) => roll_status(roll),
     }
 }
 
@@ -76,6 +89,8 @@ pub fn show<O: Sink, E: Sink>(output: &Result<Said, Refusal>, out: &mut O, err: 
             let line = check_line(*statements, *names);
             deliver(out, err, line.bytes(), &[], fault.bytes())
         }
+        Ok(Said::Costed(bits)) => deliver(out, err, cost_line(bits).bytes(), &[], fault.bytes()),
+        Ok(Said::Rolled(roll)) => deliver(out, err, roll_line(roll).bytes(), &[], fault.bytes()),
         Ok(Said::Shown(text)) => deliver(out, err, text.bytes(), &[], fault.bytes()),
         Err(refusal) => deliver(out, err, &[], fault_line(refusal).bytes(), fault.bytes()),
     }

@@ -1,13 +1,14 @@
 // The texts of rows, one line for each.
 
 ghost use Rattle.std.specs.Prelude.{◌≡◌, ◌≤◌, IfOk};
-ghost use Rattle.zar_cli.specs.Tables.{masses_text, share_of, audit_rows_text, audit_text, tally_rows_text};
+ghost use Rattle.zar_cli.specs.Tables.{masses_text, bound_rows_text, bounds_text, share_of, audit_rows_text, audit_text, tally_rows_text};
 
 use audit_walk::{Audit, AuditRows};
 use frac128::Frac;
 use gcl_print::Text;
 use mass_fold::FracRows;
-use report_text::{mass_line, tally_line, undecided_line};
+use posterior_bounds::{BoundRows, Bounds};
+use report_text::{bound_line, mass_line, other_line, tally_line, undecided_line};
 use std::alloc::{AllocError, Global};
 use tally_range::Tally;
 
@@ -21,6 +22,31 @@ pub fn masses_text(alloc: Global, rows: &FracRows) -> Result<Text, AllocError>
         let (outcome, mass) = rows.get(i);
         text.push(mass_line(outcome, mass).bytes())?;
     }
+    Ok(text)
+}
+
+// The lines of the rows of bounds.
+#[tactic(auto, using(crate::proofs::RowLines::rows_end))]
+fn bound_rows_text(alloc: Global, rows: &BoundRows) -> Result<Text, AllocError>
+    ensures { IfOk result (λ text. text ≡ bound_rows_text rows.now) }
+{
+    let mut text = Text::new(alloc);
+    for i in 0..rows.count() {
+        let (outcome, low, high) = rows.get(i);
+        text.push(bound_line(outcome, low, high).bytes())?;
+    }
+    Ok(text)
+}
+
+/// The lines of bounds. An error comes only where memory runs out.
+pub fn bounds_text(alloc: Global, bounds: &Bounds) -> Result<Text, AllocError>
+    ensures { IfOk result (λ text. text ≡ bounds_text bounds.now.rows bounds.now.other) }
+{
+    let mut text = bound_rows_text(alloc, &bounds.rows)?;
+    if bounds.other.num() == 0 {
+        return Ok(text);
+    }
+    text.push(other_line(&bounds.other).bytes())?;
     Ok(text)
 }
 

@@ -135,12 +135,17 @@ fn reads_the_options_of_sample(rt: HostRuntime) -> Result<(), Fail> {
 
 #[test]
 fn names_the_first_wrong_word_of_counts(rt: HostRuntime) -> Result<(), Fail> {
-    let cases: [(&[&str], u32); 12] = [
+    let cases: [(&[&str], u32); 17] = [
+        (&["cost", "p"], 2),
+        (&["cost", "p", "--attempts", "1"], 4),
+        (&["cost", "p", "--rounds", "1", "--turns", "2"], 6),
         (&["sample", "p", "--stream", "1"], 4),
         (&["sample", "p", "--seed", "1", "--depth", "2"], 4),
         (&["mass", "p", "--turns", "-1"], 3),
         (&["mass", "p", "--turns"], 3),
         (&["mass", "p", "--bits", "b"], 2),
+        (&["posterior", "p", "--attempts", "1"], 2),
+        (&["posterior", "p", "--turns", "1000000001"], 3),
         (&["audit", "p"], 2),
         (&["audit", "p", "--depth", "21"], 3),
         (&["tally", "p", "--seed", "0"], 4),
@@ -188,6 +193,22 @@ fn reads_the_numbers_of_counts(rt: HostRuntime) -> Result<(), Fail> {
         }
         _ => panic!(rt; "no mass"),
     }
+    match read(
+        rt.alloc(),
+        &["cost", "p", "--attempts", "5", "--rounds", "2"],
+    )? {
+        Ok(Command::Cost(_, limits)) => {
+            assert_eq!(rt; (limits.turns, limits.attempts, limits.rounds), (30, 5, 2));
+        }
+        _ => panic!(rt; "no cost"),
+    }
+    match read(rt.alloc(), &["posterior", "p"])? {
+        Ok(Command::Posterior(program, turns)) => {
+            assert_eq!(rt; program.text(), "p");
+            assert_eq!(rt; turns, 30);
+        }
+        _ => panic!(rt; "no posterior"),
+    }
     match read(rt.alloc(), &["audit", "p", "--depth", "3"])? {
         Ok(Command::Audit(_, depth, limits)) => {
             assert_eq!(rt; depth, 3);
@@ -216,6 +237,60 @@ fn reads_the_numbers_of_counts(rt: HostRuntime) -> Result<(), Fail> {
             assert_eq!(rt; range.workers, 4);
         }
         _ => panic!(rt; "no tally"),
+    }
+    Ok(())
+}
+
+#[test]
+fn names_the_first_wrong_word_behind_a_number(rt: HostRuntime) -> Result<(), Fail> {
+    let cases: [(&[&str], u32); 13] = [
+        (&["gen"], 1),
+        (&["gen", "0"], 1),
+        (&["gen", "1001"], 1),
+        (&["gen", "p"], 1),
+        (&["gen", "5", "--seed", "1"], 2),
+        (&["gen", "0", "--seed", "1"], 1),
+        (&["fast", "1"], 1),
+        (&["fast", "4611686018427387905"], 1),
+        (&["fast", "6", "--stream", "1"], 4),
+        (&["fast", "6", "--budget", "1", "--flips", "2"], 6),
+        (&["fast", "6", "--flips", "1000000001"], 3),
+        (&["fast", "6", "--flips", "1", "--flips", "1"], 4),
+        (&["sample", "p", "--bits", "b", "--flips", "1"], 4),
+    ];
+    let mut row = 0u32;
+    for (words, at) in cases {
+        let answer = read(rt.alloc(), words)?;
+        assert_eq!(rt;
+            answer.err(),
+            Some(WordsError::BadWords { at }),
+            "in row {row}"
+        );
+        row = row.wrapping_add(1);
+    }
+    Ok(())
+}
+
+#[test]
+fn reads_the_numbers_of_gen_and_fast(rt: HostRuntime) -> Result<(), Fail> {
+    match read(rt.alloc(), &["gen", "01000"])? {
+        Ok(Command::Gen(k)) => assert_eq!(rt; k, 1000),
+        _ => panic!(rt; "no generated program"),
+    }
+    match read(rt.alloc(), &["fast", "6"])? {
+        Ok(Command::Fast(labels, flips, None)) => {
+            assert_eq!(rt; labels, 6);
+            assert_eq!(rt; flips, 30);
+        }
+        _ => panic!(rt; "no weights"),
+    }
+    match read(rt.alloc(), &["fast", "4611686018427387904", "--bits", "b"])? {
+        Ok(Command::Fast(labels, flips, Some(Source::File(bits)))) => {
+            assert_eq!(rt; labels, 1 << 62);
+            assert_eq!(rt; flips, 1000);
+            assert_eq!(rt; bits.text(), "b");
+        }
+        _ => panic!(rt; "no roll"),
     }
     Ok(())
 }

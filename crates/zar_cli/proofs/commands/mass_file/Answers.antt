@@ -1,12 +1,11 @@
-use Rattle.std.proofs.Common.{◌≡◌, Err, subst, arith}
+use Rattle.std.proofs.Common.{◌≡◌, Err, arith}
 use Rattle.gcl_core.specs.declared.refusals.TheConstants.{TOO_FINE, ALL_FAILED}
-use Rattle.gcl_core.specs.Texts.{Spells}
 use Rattle.gcl_core.specs.Views.{source_of}
-use Rattle.gcl_parse.specs.OneReading.{HasOneReading}
 use Rattle.zar_cli.specs.declared.command.Command.TheVariants.{Mass}
 use Rattle.zar_cli.specs.declared.said.Said.TheVariants.{Shown}
-use Rattle.zar_cli.specs.Readings.{InFile}
-use Rattle.zar_cli.proofs.Saying.{said_as, stage_more, refused_checked, said_checked, masses_refused}
+use Rattle.zar_cli.specs.Masses.{SaysMasses}
+use Rattle.zar_cli.proofs.WorkFits.{masses_fit}
+use Rattle.zar_cli.proofs.Saying.{said_as, stage_more, refused_checked, said_checked, work_refused}
 use Rattle.zar_cli.proofs.commands.mass_file.Goals as goal
 
 pub returns-in_err-checked-clause-said : goal.returns-in_err-checked-clause-said
@@ -19,12 +18,10 @@ returns-in_err-checked-clause-said g c =
 pub returns-in_err-text-clause-said : goal.returns-in_err-text-clause-said
 returns-in_err-text-clause-said g c =
     let out : c.from_residual-in_err-text.result ≡ Err c.in_err-text.field-0.0 = grind arith in
-    let file = g.F.Files.file c.args.files.now in
     let p = source_of c.in_ok-checked.checked in
     said_as _ _ _ _ out
-    (masses_refused _ c.args.program.now c.args.turns c.args.attempts c.args.rounds p c.in_ok-checked.ensures.stage.counts
-    (λ told. subst (λ name. InFile (file name) HasOneReading (λ text. Spells text p)) c.text.ensures (c.in_ok-checked.ensures.program told))
-    c.in_err-text.field-0.0 c.in_err-text.ensures)
+    (work_refused (Mass c.args.program.now c.args.turns c.args.attempts c.args.rounds) _ c.text.result.now c.args.program.now (λ q. SaysMasses q c.args.turns c.args.attempts c.args.rounds) c.text.ensures Shown p c.in_err-text.field-0.0
+    c.in_ok-checked.ensures.stage.counts c.in_ok-checked.ensures.program (masses_fit p c.args.turns c.args.attempts c.args.rounds) c.in_err-text.ensures (λ output is. is))
 
 pub returns-clause-said : goal.returns-clause-said
 returns-clause-said g c =

@@ -1,4 +1,4 @@
-use Rattle.std.proofs.Common.{◌≡◌, Err, arith}
+use Rattle.std.proofs.Common.{◌≡◌, Err, refl, arith}
 use Rattle.gcl_core.specs.Views.{source_of}
 use Rattle.zar_cli.specs.declared.command.Command.TheVariants.{Tally}
 use Rattle.zar_cli.specs.declared.said.Said.TheVariants.{Shown}
@@ -16,4 +16,4 @@ pub returns-clause-said : goal.returns-clause-said
 returns-clause-said g c =
     said_checked (Tally c.args.program.now c.args.range.now c.args.limits.now) _ c.text.result.now c.args.program.now _ c.text.ensures
     (source_of c.in_ok-checked.checked) (Shown c.in_ok-text.text) tt
-    c.in_ok-checked.ensures.stage.counts c.in_ok-checked.ensures.program c.in_ok-text.ensures (λ is. is)
+    c.in_ok-checked.ensures.stage.counts c.in_ok-checked.ensures.program (c.in_ok-text.text, c.in_ok-text.ensures, refl) (λ is. is)

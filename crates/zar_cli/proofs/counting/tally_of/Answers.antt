@@ -1,13 +1,13 @@
-use Rattle.std.proofs.Common.{Ok, sym, subst}
 use Rattle.gcl_core.specs.Runs.{run_on}
 use Rattle.gcl_core.specs.Views.{source_of}
-use Rattle.zar_cli.specs.declared.said.Said.TheVariants.{Shown}
-use Rattle.zar_cli.specs.Counts.{SaysTally, streams_counted}
 use Rattle.zar_cli.proofs.counting.tally_of.Goals as goal
 
 pub returns : goal.returns
 returns g c =
     let p = source_of c.args.program.now in
     let l = c.args.limits.now in
-    subst (λ text. SaysTally p c.args.range.now l (Ok (Shown text))) (sym c.in_ok-text.ensures)
-    (streams_counted c.in_ok-found.found (c.in_ok-found.ensures.rows (run_on p l) (c.in_ok-sampler.ensures.runs l c.requires.limits)))
+    record {
+      rows = c.in_ok-found.found;
+      counted = c.in_ok-found.ensures.rows (run_on p l) (c.in_ok-sampler.ensures.runs l c.requires.limits);
+      lines = c.in_ok-text.ensures;
+    }

@@ -1,4 +1,4 @@
-use Rattle.std.proofs.Common.{◌≡◌, ◌∙◌, Some, ap, sym}
+use Rattle.std.proofs.Common.{◌∙◌, Some, ap, sym}
 use Rattle.zar_cli.proofs.Files.{writes_file}
 use Rattle.zar_cli.proofs.source.read_written.Goals as goal
 

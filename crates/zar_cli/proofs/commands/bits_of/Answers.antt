@@ -1,0 +1,14 @@
+use Rattle.std.proofs.Common.{subst}
+use Rattle.gcl_core.specs.Views.{source_of}
+use Rattle.cost_fold.specs.Refused.{CostRefused}
+use Rattle.zar_cli.specs.Costs.{exact, too_wide, too_many_states}
+use Rattle.zar_cli.proofs.commands.bits_of.Goals as goal
+
+pub returns-in-Ok : goal.returns-in-Ok
+returns-in-Ok c = exact c.in-Ok.bits c.in-Ok.ensures.bits
+
+pub returns-in-Err-TooWide : goal.returns-in-Err-TooWide
+returns-in-Err-TooWide c = too_wide (subst (λ e. CostRefused e (source_of c.args.program.now) c.args.limits.now) c.in-Err-TooWide.field-0-is c.in-Err-TooWide.ensures.refused)
+
+pub returns-in-Err-TooManyStates : goal.returns-in-Err-TooManyStates
+returns-in-Err-TooManyStates c = too_many_states (subst (λ e. CostRefused e (source_of c.args.program.now) c.args.limits.now) c.in-Err-TooManyStates.field-0-is c.in-Err-TooManyStates.ensures.refused)

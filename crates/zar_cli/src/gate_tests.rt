@@ -1,0 +1,92 @@
+// A tally by the top call, with a gate that holds a block.
+
+use crate::in_memory::spelled;
+use crate::zar;
+use std::sync::atomic::AtomicU64;
+use std::sync::atomic::Ordering::SeqCst;
+use std::test::Fail;
+use std::thread;
+use zar_io::{Gate, MemFiles, MemSink};
+
+// Holds the block that is entered first until the three others were entered.
+#[derive(Drop)]
+struct Held {
+    blocks: [AtomicU64; 4],
+    entered: AtomicU64,
+    turns_spent: AtomicU64,
+}
+
+impl Gate for Held {
+    fn entered(&self, block: u64) {
+        if block < 4 {
+            self.blocks[block as usize].fetch_add(1, SeqCst);
+        }
+        if self.entered.fetch_add(1, SeqCst) != 0 {
+            return;
+        }
+        for _ in 0..1_000_000_000u64 {
+            if self.entered.load(SeqCst) >= 4 {
+                return;
+            }
+            thread::yield_now();
+        }
+        self.turns_spent.store(1, SeqCst);
+    }
+}
+
+// Each block was entered once, and the turns were not spent.
+fn each_entered_once(gate: &Held) -> bool {
+    for block in &gate.blocks {
+        if block.load(SeqCst) != 1 {
+            return false;
+        }
+    }
+    gate.turns_spent.load(SeqCst) == 0
+}
+
+#[test]
+fn two_workers_enter_four_blocks(rt: HostRuntime) -> Result<(), Fail> {
+    let gate = Held {
+        blocks: [
+            AtomicU64::new(0),
+            AtomicU64::new(0),
+            AtomicU64::new(0),
+            AtomicU64::new(0),
+        ],
+        entered: AtomicU64::new(0),
+        turns_spent: AtomicU64::new(0),
+    };
+    let alloc = rt.alloc();
+    let words = spelled(
+        alloc,
+        &[
+            "tally",
+            "p.gcl",
+            "--seed",
+            "0",
+            "--from",
+            "0",
+            "--to",
+            "256",
+            "--workers",
+            "2",
+        ],
+    )?;
+    let mut files = MemFiles::new(alloc, 16, &[])?;
+    files.add("p.gcl", b"return 7;")?;
+    let mut out = MemSink::new(alloc, 16, 4096, &[])?;
+    let mut err = MemSink::new(alloc, 16, 4096, &[])?;
+    let status = zar(
+        &rt,
+        alloc,
+        words.as_slice(),
+        &mut files,
+        &mut out,
+        &mut err,
+        &gate,
+    );
+    assert_eq!(rt; status, 0);
+    assert_eq!(rt; out.bytes(), b"value 7 count 256\n".as_slice());
+    assert!(rt; each_entered_once(&gate));
+    Ok(())
+}

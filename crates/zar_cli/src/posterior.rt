@@ -1,0 +1,54 @@
+// Bounds of the outcomes of a program.
+
+ghost use Rattle.std.specs.Prelude.{◌≡◌, ◌≤◌, Ok};
+ghost use Rattle.gcl_core.specs.Views.{source_of};
+ghost use Rattle.zar_cli.specs.declared.command.Command.TheVariants.{Posterior};
+ghost use Rattle.gcl_core.specs.declared.rules.TheConstants.{MOST_LIMIT};
+ghost use Rattle.zar_cli.specs.Answer.{IsSaid};
+ghost use Rattle.zar_cli.specs.Posterior.{SaysBounds};
+ghost use Rattle.zar_cli.specs.Readings.{Gives};
+ghost use Rattle.zar_cli.specs.Seen.{files_seen};
+ghost use Rattle.zar_cli.specs.declared.said.Said.TheVariants.{Shown};
+
+use crate::command::FileName;
+use crate::said::Said;
+use crate::source::read_checked;
+use crate::tables::bounds_text;
+use gcl_core::{Checked, refusals};
+use gcl_print::Text;
+use mass_fold::MassError;
+use posterior_bounds::bounds;
+use report_text::Refusal;
+use std::alloc::Global;
+use zar_io::Files;
+
+// The lines of a program's bounds.
+fn bounds_of(alloc: Global, program: &Checked, turns: u64) -> Result<Text, Refusal>
+    requires { turns ≤ MOST_LIMIT }
+    ensures { Gives Shown (SaysBounds (source_of program.now) turns) result }
+{
+    match bounds(alloc, program, turns) {
+        Ok(found) => Ok(bounds_text(alloc, &found)?),
+        Err(MassError::TooWide) => Err(Refusal::Coded(refusals::TOO_WIDE, None)),
+        Err(MassError::TooManyStates) => Err(Refusal::Coded(refusals::TOO_MANY_STATES, None)),
+        Err(MassError::AllFailed) => Err(Refusal::Coded(refusals::ALL_FAILED, None)),
+        Err(MassError::OutOfMemory) => Err(Refusal::Memory),
+    }
+}
+
+/// The bounds of the program in a file.
+pub fn posterior_file<F: Files>(
+    alloc: Global,
+    files: &mut F,
+    program: &FileName,
+    turns: u64,
+) -> Result<Said, Refusal>
+    requires { turns ≤ MOST_LIMIT }
+    ensures said { IsSaid (Ok (Posterior program.now turns)) (files_seen F.told F.file F.may_be_missing F.faults F.is_open files.old files.new) result }
+    ensures same_files { F.file files.new ≡ F.file files.old }
+    ensures same_names { F.may_be_missing files.new ≡ F.may_be_missing files.old }
+{
+    let checked = read_checked(alloc, files, program.text())?;
+    let text = bounds_of(alloc, &checked, turns)?;
+    Ok(Said::Shown(text))
+}

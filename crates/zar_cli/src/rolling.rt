@@ -1,0 +1,87 @@
+// Rolls, and what their labels weigh.
+
+ghost use Rattle.std.specs.Prelude.{◌≡◌, ◌≤◌, [], ◌∷◌, IsTrue, IfOk};
+ghost use Rattle.dice_roll.specs.FastRoll.{fast_roll};
+ghost use Rattle.dice_roll.specs.declared.rules.TheConstants.{LEAST_LABELS, MOST_LABELS, MOST_FLIPS};
+ghost use Rattle.zar_cli.specs.Readings.{GivesOnBits};
+ghost use Rattle.zar_cli.specs.Rolls.{shares_text, weights_text};
+ghost use Rattle.zar_cli.specs.Seen.{files_seen};
+ghost use Rattle.zar_cli.specs.Stages.{IsStage, refusal_in};
+ghost use Rattle.zar_cli.specs.declared.settings.TheConstants.{MOST_BUDGET};
+ghost use Rattle.zar_io.specs.StreamBits.{stream_bits};
+
+use dice_roll::{Roll, roll, share};
+use frac128::Frac;
+use gcl_print::Text;
+use report_text::{Refusal, each_line, flips_line};
+use std::alloc::{AllocError, Global};
+use zar_io::{Failed, FileBits, Files, OpenError, StreamBits};
+
+/// A roll on the bits of the file of this name.
+pub fn roll_on_file<F: Files>(
+    files: &mut F,
+    labels: u64,
+    flips: u64,
+    name: &str,
+) -> Result<Roll, Refusal>
+    requires low { LEAST_LABELS ≤ labels }
+    requires high { labels ≤ MOST_LABELS }
+    requires few { flips ≤ MOST_FLIPS }
+    ensures answer { IsTrue F.told → GivesOnBits (fast_roll labels flips) (F.file files.old name.now) result }
+    ensures stage { IsStage (name.now ∷ []) 0 (files_seen F.told F.file F.may_be_missing F.faults F.is_open files.old files.new) (refusal_in result) }
+    ensures same_files { F.file files.new ≡ F.file files.old }
+    ensures same_names { F.may_be_missing files.new ≡ F.may_be_missing files.old }
+{
+    match files.open(name) {
+        Ok(()) => {}
+        Err(OpenError::Missing) => return Err(Refusal::NoFile),
+        Err(OpenError::Failed) => return Err(Refusal::Read),
+    }
+    let mut bits = FileBits::new(files);
+    match roll(labels, flips, &mut bits) {
+        Ok(rolled) => Ok(rolled),
+        Err(Failed) => Err(Refusal::Read),
+    }
+}
+
+/// A roll on the first bits of a stream.
+pub fn roll_on_stream(labels: u64, flips: u64, seed: u64, stream: u64, budget: u64) -> Roll
+    requires low { LEAST_LABELS ≤ labels }
+    requires high { labels ≤ MOST_LABELS }
+    requires few { flips ≤ MOST_FLIPS }
+    requires budget { budget ≤ MOST_BUDGET }
+    ensures { result ≡ fast_roll labels flips (stream_bits seed stream budget) }
+{
+    let mut bits = StreamBits::new(seed, stream, budget);
+    match roll(labels, flips, &mut bits) {
+        Ok(rolled) => rolled,
+        Err(Failed) => unreachable!(),
+    }
+}
+
+// The lines of the weight of each label and of the weight left, each where it is above 0.
+fn shares_text(alloc: Global, each: &Frac, left: &Frac) -> Result<Text, AllocError>
+    ensures { IfOk result (λ text. text ≡ shares_text each.now left.now) }
+{
+    let mut text = Text::new(alloc);
+    if each.num() > 0 {
+        text.push(each_line(each).bytes())?;
+    }
+    if left.num() > 0 {
+        text.push(flips_line(left).bytes())?;
+    }
+    Ok(text)
+}
+
+/// What the labels of a roll weigh, as lines, where the fractions are not too wide. An error comes only where memory runs out.
+pub fn weights_text(alloc: Global, labels: u64, flips: u64) -> Result<Option<Text>, AllocError>
+    requires low { LEAST_LABELS ≤ labels }
+    requires high { labels ≤ MOST_LABELS }
+    requires few { flips ≤ MOST_FLIPS }
+    ensures { IfOk result (λ text. text ≡ weights_text labels flips) }
+{
+    match share(labels, flips) {
+        Some((each, left)) => Ok(Some(shares_text(alloc, &each, &left)?)),
+        None => Ok(None),
+    }
+}
