@@ -18,7 +18,7 @@ use Rattle.least_board.specs.declared.pass.LeastPass.{LeastPass}
 use Rattle.least_board.specs.Board.{offers_of, seen_by, IsLeast, offered_by}
 use Rattle.hunt_range.specs.Sought.{Sought, sought_of, first_of, LeastWanted}
 use Rattle.tally_range.specs.Counts.{blocks_over}
-use Rattle.hunt_range.specs.Hunters.{HasHunted, HasHuntedRuns}
+use Rattle.hunt_range.specs.inner.Hunters.{HasHunted, HasHuntedRuns}
 
 module _ (s : Sought) (n r : ℕ) where
   -- a stream of a block that was dealt

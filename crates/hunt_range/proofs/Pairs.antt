@@ -14,7 +14,7 @@ use Rattle.least_board.specs.declared.pass.LeastBoard.{LeastBoard}
 use Rattle.least_board.specs.declared.pass.LeastPass.{LeastPass}
 use Rattle.least_board.specs.Board as least
 use Rattle.hunt_range.specs.declared.hunter.Hunter.{Hunter}
-use Rattle.hunt_range.specs.Hunters.{IsReady, HasWorked, AreAll}
+use Rattle.hunt_range.specs.inner.Hunters.{IsReady, HasWorked, AreAll}
 
 -- how often x is the number of a pass, and of a hunter's
 abbrev pub in_passes : ℕ → List Pass → ℕ

@@ -19,7 +19,7 @@ use Rattle.least_board.specs.declared.pass.LeastPass.{LeastPass}
 use Rattle.least_board.specs.Board as least
 use Rattle.hunt_range.specs.declared.hunter.Hunter.{Hunter}
 use Rattle.hunt_range.specs.Sought.{Sought, sought_of, first_of, NoneWanted, FirstWanted}
-use Rattle.hunt_range.specs.Hunters.{Covers, AreWanted, Searched, HasHunted, IsSameHunter}
+use Rattle.hunt_range.specs.inner.Hunters.{Covers, AreWanted, Searched, HasHunted, IsSameHunter}
 
 -- what was searched of the runs of the code
 abbrev pub HasSearched : Assembled → Limits → SeedRange → TallyKey → Pass → LeastPass → Type 0

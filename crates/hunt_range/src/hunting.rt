@@ -7,7 +7,7 @@ ghost use Rattle.tally_range.specs.Shares.{IsRange, IsWorkers};
 ghost use Rattle.claim_board.specs.Board as claim;
 ghost use Rattle.least_board.specs.Board as offers;
 ghost use Rattle.hunt_range.specs.Sought.{sought_of, LeastWanted};
-ghost use Rattle.hunt_range.specs.Hunters.{Fits, IsReady, HasHuntedRuns, AreAll};
+ghost use Rattle.hunt_range.specs.inner.Hunters.{Fits, IsReady, HasHuntedRuns, AreAll};
 
 use crate::hunter::Hunter;
 use crate::working::run_all;

@@ -3,7 +3,7 @@ ghost use Rattle.std.specs.Prelude.{◌≤◌, ◌^◌, All, IfOk};
 ghost use Rattle.std.specs.List.{AllZip};
 ghost use Rattle.std.specs.Thread.{IsSync};
 ghost use Rattle.gcl_core.specs.Runs.{InRange};
-ghost use Rattle.hunt_range.specs.Hunters.{Fits, IsReady, IsSameHunter, HasHuntedRuns, HasWorked};
+ghost use Rattle.hunt_range.specs.inner.Hunters.{Fits, IsReady, IsSameHunter, HasHuntedRuns, HasWorked};
 
 use crate::hunter::Hunter;
 use crate::streams::{first_stream, first_wanted};

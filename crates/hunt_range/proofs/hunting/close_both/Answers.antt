@@ -1,7 +1,7 @@
 use Rattle.std.proofs.Common.{rules, ◌≡◌, ◌<◌, length, ◌∙◌, subst}
 use Rattle.least_board.specs.Board.{IsLeast}
 use Rattle.hunt_range.specs.Sought.{sought_of}
-use Rattle.hunt_range.specs.Hunters.{HasHuntedRuns}
+use Rattle.hunt_range.specs.inner.Hunters.{HasHuntedRuns}
 use Rattle.hunt_range.proofs.Pairs.{parting_more, all_passes, some_passes}
 use Rattle.hunt_range.proofs.LeastStream.{hunted_runs, one_found, none_found}
 use Rattle.hunt_range.proofs.hunting.close_both.Goals as goal

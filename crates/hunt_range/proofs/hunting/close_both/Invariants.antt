@@ -1,5 +1,5 @@
 use Rattle.std.proofs.Common.{length}
-use Rattle.hunt_range.specs.Hunters.{HasHuntedRuns}
+use Rattle.hunt_range.specs.inner.Hunters.{HasHuntedRuns}
 use Rattle.hunt_range.proofs.Pairs.{Parting}
 use Rattle.hunt_range.proofs.hunting.close_both.Given as goal
 

@@ -3,7 +3,7 @@ use Rattle.std.specs.List.{AllZip}
 use Rattle.std.proofs.Math.Seq.{take-append_seam}
 use Rattle.std.proofs.lemmas.List.Elements.{length_all_zip}
 use Rattle.hunt_range.specs.declared.hunter.Hunter.{Hunter}
-use Rattle.hunt_range.specs.Hunters.{HasHuntedRuns, HasWorked, AreAll}
+use Rattle.hunt_range.specs.inner.Hunters.{HasHuntedRuns, HasWorked, AreAll}
 use Rattle.hunt_range.proofs.Pairs.{all_worked, all_hunted}
 use Rattle.hunt_range.proofs.hunting.hunt.Goals as goal
 

@@ -2,7 +2,7 @@ use Rattle.std.proofs.Common.{◌++◌, List, sym, subst, rules}
 use Rattle.std.specs.List.{AllZip}
 use Rattle.number_lists.proofs.Elements.{all_zip_append}
 use Rattle.hunt_range.specs.declared.hunter.Hunter.{Hunter}
-use Rattle.hunt_range.specs.Hunters.{HasHuntedRuns, HasWorked}
+use Rattle.hunt_range.specs.inner.Hunters.{HasHuntedRuns, HasWorked}
 use Rattle.hunt_range.proofs.working.+fn-run_all-join_mut+arg2+fn-run_all-join_mut+arg3+run_all.Goals as goal
 
 -- the two halves, as their threads left them
