@@ -51,7 +51,7 @@ most_silent (ends x) more k h = omega arith
 most_silent stuck more k h = omega arith
 
 module _ (code : List Instruction) (l : Limits) where
-  silent_most : (k : ℕ) (m : Machine) → silent code l k m ≤ k
+  pub silent_most : (k : ℕ) (m : Machine) → silent code l k m ≤ k
   unfolding silent
   silent_most zero m = omega arith
   silent_most (suc k) m = most_silent (step code l m) (silent code l k) k (silent_most k)

@@ -7,8 +7,8 @@ use Rattle.sampler_run.specs.inner.Resting.{IsSmall}
 use Rattle.sampler_run.specs.inner.Taken.{Takes}
 use Rattle.sampler_run.proofs.stepping.draw.Given as goal
 
-abbrev pub invariant-loop-read : goal.invariant-loop-read
-invariant-loop-read l = record {
+abbrev pub invariant-loop-m : goal.invariant-loop-m
+invariant-loop-m l = record {
   index : l.m.index ≡ l.initial.m.index;
   turns : length l.m.turns.items ≡ length l.initial.m.turns.items;
   vars : length l.m.vars.items ≡ length l.initial.m.vars.items;
@@ -19,5 +19,5 @@ invariant-loop-read l = record {
   less : to_go l.code.instrs l.limits l.left (machine_of l.m) ≤ to_go l.code.instrs l.limits l.initial.left (machine_of l.initial.m);
 }
 
-abbrev pub decreases-loop-read : goal.decreases-loop-read
-decreases-loop-read l = to_go l.code.instrs l.limits l.left (machine_of l.m)
+abbrev pub decreases-loop-m : goal.decreases-loop-m
+decreases-loop-m l = to_go l.code.instrs l.limits l.left (machine_of l.m)

@@ -1,0 +1,132 @@
+-- An attempt below a bound that succeeds, on all the bits that it still needs at once.
+use Rattle.std.proofs.Common.{◌≡◌, ℕ, zero, suc, ◌+◌, ◌*◌, ◌^◌, ◌/◌, ◌%◌, ◌-◌, ◌<◌, ◌≤◌, ◌==◌, ℤ, pos, Bool, true, false, List, [], ◌∷◌, ◌++◌, Option, Some, refl, sym, ap, ◌∙◌, subst, arith, lt-ltb, pow-add}
+use Rattle.std.specs.Prelude.{slice_get, nat_lt, min, if◌then◌else◌}
+use Rattle.std.proofs.lemmas.Nat.{mul-le, pow_pos}
+use Rattle.std.proofs.Math.Arith.{mod-mul}
+use Rattle.std.proofs.Math.Nat.{div-div-eq-div-mul}
+use Rattle.gcl_core.specs.declared.answers.Limits.{Limits}
+use Rattle.gcl_core.specs.Syntax.{Expression}
+use Rattle.gcl_core.specs.Draw.{bit}
+use Rattle.gcl_core.specs.Runs.{capped}
+use Rattle.zar_io.specs.FileBits.{low_bits}
+use Rattle.sampler_code.specs.Instruction.{Instruction, Range}
+use Rattle.sampler_code.specs.Machine.{Machine, below, Next, goes, asks, act, step, stored, narrowed, retry, draws, ranges}
+use Rattle.sampler_code.specs.Running.{Reached}
+use Rattle.sampler_code.specs.inner.Bounded.{most_steps, rest_of, Answered}
+use Rattle.sampler_run.specs.inner.Resting.{Asks, side}
+use Rattle.sampler_run.specs.inner.Going.{steps_left, to_go}
+use Rattle.sampler_run.specs.inner.Taken.{Takes}
+use Rattle.sampler_run.proofs.Settle.{step_same, bit_same, answered_bit}
+use Rattle.sampler_run.proofs.Takes.{takes_none, takes_more, takes_on, takes_join}
+use Rattle.sampler_run.proofs.Words.{needs_rest, silent_most}
+
+-- ---- numbers and their bits
+
+pow_sum : (j k : ℕ) → 2 ^ k * 2 ^ j ≡ 2 ^ (j + k)
+pow_sum j k = sym (pow-add 2 k j) ∙ ap (λ i. 2 ^ i) (let e : k + j ≡ j + k = omega arith in e)
+
+-- the first bits of some, and the others
+pub low_bits_split : (j k n : ℕ) → low_bits (j + k) n ≡ low_bits j (n / 2 ^ k) ++ low_bits k n
+unfolding low_bits
+low_bits_split zero k n = let e : zero + k ≡ k = omega arith in ap (λ i. low_bits i n) e
+low_bits_split (suc j) k n =
+    let i : suc j + k ≡ suc (j + k) = omega arith in
+    let e : n / 2 ^ k / 2 ^ j ≡ n / 2 ^ (j + k) = div-div-eq-div-mul n (2 ^ k) (2 ^ j) ∙ ap (λ p. n / p) (pow_sum j k) in
+    ap (λ i. low_bits i n) i
+    ∙ ap (λ v. (v % 2 == 1) ∷ low_bits (j + k) n) (sym e)
+    ∙ ap (λ bits. (n / 2 ^ k / 2 ^ j % 2 == 1) ∷ bits) (low_bits_split j k n)
+
+bit_of : (n : ℕ) → n < 2 → bit (n == 1) ≡ n
+bit_of zero lt = refl
+bit_of (suc zero) lt = refl
+bit_of (suc (suc n)) lt = absurd (omega arith)
+
+-- the number that is spelled by one bit more
+spelled_more : (low k n : ℕ) → (2 * low + bit (n / 2 ^ k % 2 == 1)) * 2 ^ k + n % 2 ^ k ≡ low * 2 ^ suc k + n % 2 ^ suc k
+spelled_more low k n =
+    let p = 2 ^ k in
+    let d = n / p % 2 in
+    let b : bit (d == 1) ≡ d = bit_of d (omega arith) in
+    let two : 2 ^ suc k ≡ 2 * p = omega arith in
+    let m : n % (2 * p) ≡ d * p + n % p = mod-mul n {m = 2} {c = p} (omega arith) (pow_pos k) in
+    let left : (2 * low + d) * p + n % p ≡ low * (2 * p) + (d * p + n % p) = omega arith in
+    ap (λ b. (2 * low + b) * p + n % p) b ∙ left ∙ ap (λ m. low * (2 * p) + m) (sym m) ∙ sym (ap (λ q. low * q + n % q) two)
+
+-- ---- the bits read
+
+-- so many bits more
+abbrev pub used_after : ℕ → ℕ → ℕ
+used_after zero used = used
+used_after (suc k) used = used_after k (capped (used + 1))
+
+pub used_capped : (k used : ℕ) → used < 2 ^ 64 → used_after k used ≡ capped (used + k)
+used_capped zero used lt = omega arith
+used_capped (suc k) used lt = used_capped k (capped (used + 1)) (omega arith) ∙ (omega arith)
+
+-- ---- the attempt
+
+module _ (code : List Instruction) (l : Limits) (x : ℕ) (e : Expression) (b : ℕ) where
+  -- what the variable is set to, behind the bits
+  abbrev pub drawn : Machine → ℕ → ℕ → Machine
+  drawn m k v = stored (record m { used = used_after k m.used }) x (pos v)
+
+  step_draws : (m : Machine) (k low : ℕ) → slice_get code m.index ≡ Some (Range x e) → m.drawing ≡ below b k low → step code l m ≡ draws m x b k low
+  step_draws m k low at is = ap (λ o. act l o m) at ∙ ap (λ d. ranges l x e m d) is
+
+  stores : (m : Machine) (low : ℕ) → low < b → draws m x b zero low ≡ goes (stored m x (pos low))
+  stores m low lt = ap (λ (c : Bool). if c then goes (stored m x (pos low)) else retry m b m.tries) (lt-ltb low b lt)
+
+  asks_more : (m : Machine) (k low : ℕ) → low * 2 ^ suc k < b → draws m x b (suc k) low ≡ asks (narrowed m b k (2 * low)) (narrowed m b k (2 * low + 1))
+  asks_more m k low lt =
+      ap (λ (c : Bool). if c then asks (narrowed m b k (2 * low)) (narrowed m b k (2 * low + 1)) else retry m b m.tries) (lt-ltb (low * 2 ^ suc k) b lt)
+
+  side_narrowed : (m : Machine) (k low : ℕ) (c : Bool) → side (asks (narrowed m b k (2 * low)) (narrowed m b k (2 * low + 1))) c m ≡ narrowed m b k (2 * low + bit c)
+  side_narrowed m k low false = let e : 2 * low ≡ 2 * low + 0 = omega arith in ap (λ n. narrowed m b k n) e
+  side_narrowed m k low true = refl
+
+  pub attempt_takes : (k n low : ℕ) (m : Machine) (w : List Bool) → slice_get code m.index ≡ Some (Range x e) → m.drawing ≡ below b k low → Answered code l m →
+      low * 2 ^ k + n % 2 ^ k < b → Takes (rest_of code l m) (rest_of code l (drawn m k (low * 2 ^ k + n % 2 ^ k))) (low_bits k n ++ w) w
+  unfolding low_bits
+  attempt_takes zero n low m w at is h lt =
+      let v : low * 2 ^ zero + n % 2 ^ zero ≡ low = omega arith in
+      let goes_on = step_draws m zero low at is ∙ stores m low (omega arith) in
+      subst (λ v. Takes (rest_of code l m) (rest_of code l (drawn m zero v)) w w) (sym v)
+      (takes_none (rest_of code l m) (rest_of code l (stored m x (pos low))) w (step_same code l m (stored m x (pos low)) h goes_on))
+  attempt_takes (suc k) n low m w at is h lt =
+      let c = n / 2 ^ k % 2 == 1 in
+      let more = step_draws m (suc k) low at is ∙ asks_more m k low (omega (arith, lt)) in
+      let need : Asks (step code l m) = subst Asks (sym more) tt in
+      let next = narrowed m b k (2 * low + bit c) in
+      let leads : next ≡ side (step code l m) c m = sym (side_narrowed m k low c) ∙ ap (λ s. side s c m) (sym more) in
+      let fed = bit_same code l m next c h need leads in
+      let v = spelled_more low k n in
+      let one = takes_more (rest_of code l m) (rest_of code l m) (rest_of code l next) c (c ∷ (low_bits k n ++ w)) (c ∷ (low_bits k n ++ w)) (low_bits k n ++ w)
+      (takes_none _ _ _ (λ v. refl)) refl (needs_rest code l m h need) fed in
+      let others = attempt_takes k n (2 * low + bit c) next w at refl (answered_bit code l m next c h fed) (subst (λ v. v < b) (sym v) lt) in
+      takes_join _ _ _ _ _ _ one (subst (λ v. Takes (rest_of code l next) (rest_of code l (drawn next k v)) (low_bits k n ++ w) w) v others)
+
+  -- on the first of the lowest `left` bits of a word
+  pub at_hand_takes : (k low word left : ℕ) (m n : Machine) (v : ℕ) → slice_get code m.index ≡ Some (Range x e) → m.drawing ≡ below b k low → Answered code l m →
+      (1 ≤ k) × (k ≤ left) × (v ≡ low * 2 ^ k + word / 2 ^ (left - k) % 2 ^ k) × (v < b) → m.used < 2 ^ 64 →
+      n ≡ stored (record m { used = capped (m.used + k) }) x (pos v) →
+      Takes (rest_of code l m) (rest_of code l n) (low_bits left word) (low_bits (left - k) word)
+  at_hand_takes k low word left m n v at is h hand used stores =
+      let rest = left - k in
+      let high = word / 2 ^ rest in
+      let all : left ≡ k + rest = omega (arith, hand.1) in
+      let bits : low_bits left word ≡ low_bits k high ++ low_bits rest word = ap (λ i. low_bits i word) all ∙ low_bits_split k rest word in
+      let there : drawn m k (low * 2 ^ k + high % 2 ^ k) ≡ n =
+      ap (λ v. drawn m k v) (sym hand.2) ∙ ap (λ (u : ℕ). stored (record m { used = u }) x (pos v)) (used_capped k m.used used) ∙ sym stores in
+      subst (λ n. Takes (rest_of code l m) (rest_of code l n) (low_bits left word) (low_bits rest word)) there
+      (subst (λ w. Takes (rest_of code l m) (rest_of code l (drawn m k (low * 2 ^ k + high % 2 ^ k))) w (low_bits rest word)) (sym bits)
+      (attempt_takes k high low m (low_bits rest word) at is h (subst (λ v. v < b) hand.2 hand.3)))
+
+module _ (code : List Instruction) (l : Limits) where
+  pub at_hand_less : (m n : Machine) (left k : ℕ) → 1 ≤ k → k ≤ left → to_go code l (left - k) n < to_go code l left m
+  unfolding steps_left
+  at_hand_less m n left k some enough =
+      let M = most_steps code l in
+      let s = silent_most code l M n in
+      let all : left ≡ (left - k) + k = omega (arith, enough) in
+      let fewer = mul-le (suc (left - k)) (suc M) left (suc M) (omega (arith, some, enough)) (omega arith) in
+      omega (arith, s, fewer)
