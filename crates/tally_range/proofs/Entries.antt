@@ -4,13 +4,14 @@ use Rattle.std.specs.Prelude.{nat_lt, if◌then◌else◌}
 use Rattle.std.specs.declared.cmp.Ordering.TheVariants.{Less, Equal, Greater}
 use Rattle.std.specs.Ordering.{MatchOrdering, match_ordering}
 use Rattle.std.specs.BTreeMap.{insert_entry, is_at}
-use Rattle.std.specs.Map.{lookup}
+use Rattle.std.specs.Map.{lookup, set_value}
 use Rattle.std.proofs.lemmas.Bool.Decides.{nat_tests}
 use Rattle.gcl_core.specs.declared.answers.TallyKey.{TallyKey}
 use Rattle.gcl_core.specs.Order.{is_key_before}
 use Rattle.gcl_core.specs.Outcomes.{same_key}
 use Rattle.tally_range.specs.Rows.{Rows, counted_at, count_in, is_before_all, keys_ascend, counts_are_above_zero, IsTally}
-use Rattle.gcl_core.proofs.OutcomeOrder.{key_before_differs, key_after_differs}
+use Rattle.gcl_core.proofs.OutcomeOrder.{key_before_differs, key_after_differs, key_before_trans}
+use Rattle.gcl_core.proofs.SameOutcomes.{key_itself}
 use Rattle.tally_range.proofs.InRows.{both, join, before_all_from, counted_itself}
 use Rattle.tally_range.proofs.Exact.{not_counted, none_counted}
 
@@ -27,6 +28,9 @@ counted_none key n other e = by (same_key key other)
     by : (b : Bool) → (if b then n else 0) ≡ 0
     by true = e
     by false = refl
+
+not_itself : (key : TallyKey) → is_key_before key key ≡ true → ⊥
+not_itself key h = let differs = key_before_differs key key h in let same = key_itself key in cc
 
 -- what a look-up finds counts this much
 abbrev pub found_count : Option ℕ → ℕ
@@ -104,3 +108,37 @@ module _ (cmp : TallyKey → TallyKey → Ordering) (agrees : IsKeyOrder cmp) wh
       count_in (insert_entry cmp rows key (before + n)) other ≡ count_in rows other + counted_at key n other
   count_inserted rows key before n other up is = let h = inserted rows key (before + n) other up in let old = ap (λ (c : ℕ). counted_at key c other) is in
       let s = counted_add key before n other in omega arith
+
+  -- a key that had no count
+  pub count_first : (rows : Rows) (key : TallyKey) (n : ℕ) (other : TallyKey) → keys_ascend rows ≡ true → 0 ≡ count_in rows key →
+      count_in (insert_entry cmp rows key n) other ≡ count_in rows other + counted_at key n other
+  count_first rows key n other up none = let only : n ≡ 0 + n = omega arith in ap (λ n. count_in (insert_entry cmp rows key n) other) only ∙ count_inserted rows key 0 n other up none
+
+  -- a key before those of all rows is found in none
+  absent : (rows : Rows) (key : TallyKey) → is_before_all key rows ≡ true → lookup (is_at (cmp key)) rows ≡ None
+  absent [] key h = refl
+  absent (r ∷ rows) key h = let q = both (is_key_before key r.0) (is_before_all key rows) h in by (cmp key r.0) refl (agrees key r.0) (absent rows key q.1)
+    where
+      before : is_key_before key r.0 ≡ true
+      before = (both (is_key_before key r.0) (is_before_all key rows) h).0
+
+      by : (o : Ordering) → cmp key r.0 ≡ o → MatchOrdering (cmp key r.0) (is_key_before key r.0 ≡ true) (key ≡ r.0) (is_key_before r.0 key ≡ true) → lookup (is_at (cmp key)) rows ≡ None →
+          lookup (is_at (cmp key)) (r ∷ rows) ≡ None
+      by Less e m rest = rw e rest
+      by Equal e m rest = absurd (not_itself key (let is : key ≡ r.0 = rw e at m in ap (is_key_before key) is ∙ before))
+      by Greater e m rest = absurd (not_itself key (key_before_trans key r.0 key before (rw e at m)))
+
+  -- a count that is written in the place of one that is there
+  pub written : (rows : Rows) (key : TallyKey) (n v : ℕ) → keys_ascend rows ≡ true → lookup (is_at (cmp key)) rows ≡ Some v →
+      set_value (is_at (cmp key)) rows n ≡ insert_entry cmp rows key n
+  written [] key n v up found = absurd (cc)
+  written (r ∷ rows) key n v up found = let q = both (is_before_all r.0 rows) (keys_ascend rows) up in by (cmp key r.0) refl (agrees key r.0) found (written rows key n v q.1)
+    where
+      by : (o : Ordering) → cmp key r.0 ≡ o → MatchOrdering (cmp key r.0) (is_key_before key r.0 ≡ true) (key ≡ r.0) (is_key_before r.0 key ≡ true) →
+          lookup (is_at (cmp key)) (r ∷ rows) ≡ Some v → (lookup (is_at (cmp key)) rows ≡ Some v → set_value (is_at (cmp key)) rows n ≡ insert_entry cmp rows key n) →
+          set_value (is_at (cmp key)) (r ∷ rows) n ≡ insert_entry cmp (r ∷ rows) key n
+      by Less e m found rest = let q = both (is_before_all r.0 rows) (keys_ascend rows) up in
+          let first : is_key_before key r.0 ≡ true = rw e at m in
+          let none = absent (r ∷ rows) key (join (is_key_before key r.0) (is_before_all key rows) first (before_all_from key r.0 rows first q.0)) in absurd (cc)
+      by Equal e m found rest = rw e refl
+      by Greater e m found rest = let same = rest (rw e at found) in rw e (ap (λ es. r ∷ es) same)

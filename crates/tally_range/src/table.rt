@@ -25,18 +25,6 @@ impl Model for Tally {
     ghost invariant = { λ t. IsTally t.rows.entries };
 }
 
-// The count of a key.
-fn count_of(rows: &BTreeMap<TallyKey, u64>, key: TallyKey) -> u64
-    requires { IsTally rows.now.entries }
-    ensures { result ≡ count_in rows.now.entries key }
-{
-    outcomes_are_ordered();
-    match rows.get(&key) {
-        Some(n) => *n,
-        None => 0,
-    }
-}
-
 impl Tally {
     ghost use Rattle.std.specs.Prelude.{◌≡◌, ◌+◌, ◌<◌, ◌^◌, [], length, IfOk, OnErr};
     ghost use Rattle.gcl_core.specs.declared.answers.TallyKey.{TallyKey};
@@ -74,8 +62,12 @@ impl Tally {
         ensures unchanged { OnErr result (self.new ≡ self.old) }
     {
         outcomes_are_ordered();
-        let before = count_of(&self.rows, key);
-        self.rows.insert(key, before + n)?;
+        match self.rows.get_mut(&key) {
+            Some(count) => *count += n,
+            None => {
+                self.rows.insert(key, n)?;
+            }
+        }
         Ok(())
     }
 }
