@@ -1,0 +1,17 @@
+-- The chance of an outcome, from its row.
+use Rattle.std.proofs.Common.{◌≡◌, ℕ, zero, suc, ◌<◌, Option, Some, None, IfSome, IfNone, refl, arith}
+use Rattle.std.specs.List.{Contains}
+use Rattle.frac128.specs.Fraction.{Fraction}
+use Rattle.gcl_core.specs.declared.answers.Outcome.{Outcome}
+use Rattle.mass_fold.specs.Rows.{Rows, AreMasses}
+use Rattle.embedding.specs.Chance.{IsChance}
+
+none_above : (n : ℕ) → (0 < n → ⊥) → n ≡ 0
+none_above zero h = refl
+none_above (suc n) h = absurd (h (omega arith))
+
+-- the fraction in its row, or none where it has none
+pub chance_found : (mass : Outcome → Fraction) (rows : Rows) (x : Outcome) (answer : Option Fraction) → AreMasses mass rows
+    → IfSome answer (λ f. Contains rows (x, f)) → IfNone answer ((f : Fraction) → Contains rows (x, f) → ⊥) → IsChance answer (mass x)
+chance_found mass rows x (Some f) are found none = (are.each x f found).1
+chance_found mass rows x None are found none = none_above (mass x).0 (λ above. none _ (are.all x above))

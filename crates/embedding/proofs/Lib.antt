@@ -1,0 +1,4 @@
+mod LowBits
+mod Tokens
+mod Unspelled
+mod Chances

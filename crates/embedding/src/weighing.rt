@@ -1,0 +1,44 @@
+// What the outcomes of runs weigh.
+
+ghost use Rattle.std.specs.Prelude.{◌≡◌, ◌<◌, ℕ, length, Some, slice_get, IfOk, IfErr, IfSome, IfNone, Contains};
+ghost use Rattle.frac128.specs.Fraction.{Fraction};
+ghost use Rattle.gcl_core.specs.Runs.{InRange, run_on};
+ghost use Rattle.gcl_core.specs.Views.{source_of};
+ghost use Rattle.mass_fold.specs.Refused.{MassRefused};
+ghost use Rattle.weighing_law.specs.Weighing.{WeighsExactly, limited_mass};
+ghost use Rattle.embedding.specs.Chance.{IsChance};
+
+use frac128::Frac;
+use gcl_core::{Checked, Limits, Outcome};
+use mass_fold::{FracRows, MassError, mass};
+use std::alloc::Global;
+use weighing_law::runs_weigh_exactly;
+
+// The fraction in the row of an outcome.
+fn find(rows: &FracRows, x: Outcome) -> Option<Frac>
+    ensures found { IfSome result (λ f. Contains rows.now (x, f)) }
+    ensures none { IfNone result ((f : Fraction) → Contains rows.now (x, f) → ⊥) }
+{
+    for i in 0..rows.count() {
+        let (outcome, f) = rows.get(i);
+        if *outcome == x {
+            return Some(*f);
+        }
+    }
+    None
+}
+
+/// The chance of an outcome under these limits, as a fraction in lowest terms, or `None` where it is 0. The strings of bits on which the
+/// program's run ends in the outcome weigh exactly that. `TooWide` and `TooManyStates` come only where the masses of the program under
+/// these limits are too wide, or of too many states, and `AllFailed` never.
+pub fn chance(alloc: Global, p: &Checked, l: &Limits, x: Outcome) -> Result<Option<Frac>, MassError>
+    requires limits { InRange l.now }
+    ensures mass { IfOk result (λ f. IsChance f (limited_mass (source_of p.now) l.now x)) }
+    ensures refused { IfErr result (λ e. MassRefused e (source_of p.now) l.now.turns (Some l.now.attempts) (Some l.now.rounds)) }
+    ensures weighs { WeighsExactly (run_on (source_of p.now) l.now) (source_of p.now) l.now }
+{
+    runs_weigh_exactly();
+    let _program = p.program();
+    let rows = mass(alloc, p, l.turns, Some(l.attempts), Some(l.rounds))?;
+    Ok(find(&rows, x))
+}
