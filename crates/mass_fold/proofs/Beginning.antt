@@ -1,5 +1,5 @@
 -- The table and what has ended at the start of a round, and the whole round.
-use Rattle.std.proofs.Common.{◌≡◌, ℕ, ◌+◌, ◌*◌, ◌<◌, [], ◌∷◌, length, Option, sym, ap, ◌∙◌, subst, arith}
+use Rattle.std.proofs.Common.{◌≡◌, ℕ, ◌*◌, [], ◌∷◌, length, Option, refl, sym, ap, subst, arith}
 use Rattle.gcl_core.specs.Syntax.{Source}
 use Rattle.gcl_core.specs.Bounds.{IsWeight, BlockWeights}
 use Rattle.gcl_core.specs.Runs.{zeros}
@@ -7,7 +7,6 @@ use Rattle.gcl_core.specs.Value.{State}
 use Rattle.gcl_core.specs.Mass.{is_failed, failed_mass}
 use Rattle.gcl_core.specs.Fractions.{Fraction}
 use Rattle.gcl_core.specs.WeightedEnds.{sure}
-use Rattle.frac128.specs.Fraction.{IsEqual}
 use Rattle.mass_tables.specs.Tables.{block_flow, peak_of}
 use Rattle.mass_tables.specs.Width.{round_width}
 use Rattle.mass_tables.specs.Scale.{whole, Whole}
@@ -23,7 +22,6 @@ use Rattle.mass_fold.specs.Body.{BodyGives, BodyMeters}
 use Rattle.mass_fold.specs.declared.meter.Meter.{Meter}
 use Rattle.mass_fold.specs.Metering.{Meters}
 use Rattle.mass_tables.specs.Reached.{block_draws}
-use Rattle.mass_fold.proofs.Powers.{equal_whole}
 use Rattle.mass_fold.proofs.BodyMasses.{masses_held, failed_equal}
 
 pub no_weight : (N : ℕ) (f : Fraction) → IsNoWeight f → (whole N f ≡ 0) × Whole N f
@@ -39,21 +37,19 @@ none_stands N E h =
     let f = no_weight N E.attempts h.attempts in
     record { kept = (a.1, (b.1, (c.1, (d.1, (e.1, (f.1, tt)))))); same = λ G. rw (a.0, b.0, c.0, d.0, e.0, f.0) (omega arith) }
 
-sure_stands : (N : ℕ) (f : Fraction) (s t : State) (es : Entries) → 0 < f.0 → 0 < f.1 → IsEqual f (1, 1) → t ≡ s → es ≡ (t, f) ∷ [] → Stands N es (sure s)
-sure_stands N f s t es a b e p q =
+sure_stands : (N : ℕ) (s : State) (es : Entries) → es ≡ (s, (1, 1)) ∷ [] → Stands N es (sure s)
+sure_stands N s es p =
     let w : Whole N (1, 1) = (whole_from N (1, 1) N (omega arith) (omega arith)).1 in
-    let x = equal_whole N f (1, 1) b e w in
-    subst (λ es. Stands N es (sure s)) (sym q) (record { kept = (a, x.1, tt); same = λ G. ap (λ n. n * G t + 0) x.0 ∙ ap (λ s. whole N (1, 1) * G s + 0) p })
+    subst (λ es. Stands N es (sure s)) (sym p) (record { kept = (omega arith, w, tt); same = λ G. refl })
 
-module _ (p : Source) (n : ℕ) (r : Option ℕ) (w : BlockWeights IsWeight p.body) (es : Entries) (E : Ended) (f : Fraction) (s : State)
-    (fa : 0 < f.0) (fb : 0 < f.1) (fe : IsEqual f (1, 1)) (se : s ≡ zeros (length p.names)) (ee : es ≡ (s, f) ∷ []) (no : IsNone E) where
+module _ (p : Source) (n : ℕ) (r : Option ℕ) (w : BlockWeights IsWeight p.body) (es : Entries) (E : Ended) (one : es ≡ (zeros (length p.names), (1, 1)) ∷ []) (no : IsNone E) where
   abbrev Q : ℕ
   Q = round_width p n r
 
   pub body_gives : (fs : Entries) (F : Ended) → FoldsTo (block_flow n r p.body) es E fs F → BodyGives p n r fs F
   body_gives fs F d =
       let a = at_width p n r w in
-      let x = d Q (peak_of p n r) (sure (zeros (length p.names))) [] a.positive (sure_stands Q f (zeros (length p.names)) s es fa fb fe se ee) (none_stands Q E no) a.within in
+      let x = d Q (peak_of p n r) (sure (zeros (length p.names))) [] a.positive (sure_stands Q (zeros (length p.names)) es one) (none_stands Q E no) a.within in
       let m = masses_held n r Q (peak_of p n r) p.body (zeros (length p.names)) fs F a.within x.0 x.1 in
       let k = kept_all n r Q (peak_of p n r) p.body w (sure (zeros (length p.names))) a.within in
       let o : whole Q (1, 1) ≡ Q = (whole_from Q (1, 1) Q (omega arith) (omega arith)).0 in
@@ -63,9 +59,9 @@ module _ (p : Source) (n : ℕ) (r : Option ℕ) (w : BlockWeights IsWeight p.bo
   body_blames e d =
       let a = at_width p n r w in
       let one_whole : whole Q (1, 1) ≡ Q = (whole_from Q (1, 1) Q (omega arith) (omega arith)).0 in
-      d Q (peak_of p n r) (sure (zeros (length p.names))) [] a.positive (sure_stands Q f (zeros (length p.names)) s es fa fb fe se ee) (none_stands Q E no) a.within (omega arith)
+      d Q (peak_of p n r) (sure (zeros (length p.names))) [] a.positive (sure_stands Q (zeros (length p.names)) es one) (none_stands Q E no) a.within (omega arith)
 
   pub body_meters : (m m' : Meter) → Meters r (block_flow n r p.body) (block_draws n r p.body) es E m m' → BodyMeters p n r m m'
   body_meters m m' d M Mp k =
       let a = at_width p n r w in
-      d Q M (peak_of p n r) (sure (zeros (length p.names))) [] a.positive Mp (sure_stands Q f (zeros (length p.names)) s es fa fb fe se ee) (none_stands Q E no) a.within k
+      d Q M (peak_of p n r) (sure (zeros (length p.names))) [] a.positive Mp (sure_stands Q (zeros (length p.names)) es one) (none_stands Q E no) a.within k

@@ -1,11 +1,10 @@
--- The states of a table: their order, how many there are, and their length.
-use Rattle.std.proofs.Common.{◌≡◌, ℕ, ◌*◌, ◌≤◌, ◌<◌, Bool, true, false, cond, ◌||◌, Some, None, Ordering, List, [], ◌∷◌, map, length, refl, sym, ap, ◌∙◌, subst, arith}
-use Rattle.std.specs.declared.cmp.Ordering.TheVariants.{Less, Equal, Greater}
-use Rattle.std.specs.Ordering.{int_eq, int_cmp, is_eq, eq_by_cmp, match_ordering}
+-- The states of a table: their order, and how many there are.
+use Rattle.std.proofs.Common.{◌≡◌, ℕ, ◌*◌, ◌≤◌, ◌<◌, Bool, true, false, cond, ◌||◌, Some, None, List, [], ◌∷◌, map, length, refl, sym, ap, ◌∙◌, subst, arith}
+use Rattle.std.specs.declared.cmp.Ordering.TheVariants.{Equal}
+use Rattle.std.specs.Ordering.{int_eq, int_cmp, is_eq, eq_by_cmp}
 use Rattle.std.specs.Cmp.{IsTotalOrder, IsEquivalence, int_eq_equiv, int_cmp_total, signed_Decides}
 use Rattle.std.specs.Cmp.Lexicographic.{pointwise, lists_equiv, lists_total, lists_ties, pointwise_decides}
 use Rattle.std.specs.Bool.{Decides}
-use Rattle.std.specs.BTreeMap.{insert_entry}
 use Rattle.std.specs.Map.{keys_of}
 use Rattle.std.specs.List.{IsDistinct, AllByRecursion}
 use Rattle.std.specs.List.Sorted.{IsStrictlySortedBy}
@@ -17,7 +16,7 @@ use Rattle.gcl_core.specs.Value.{State}
 use Rattle.gcl_core.specs.Fractions.{Fraction}
 use Rattle.mass_tables.specs.Tables.{Table, states}
 use Rattle.mass_tables.specs.Scale.{whole, Whole, amount}
-use Rattle.mass_fold.specs.Amounts.{Entries, held, Held, PartOf, order, found, Sized, PutSized}
+use Rattle.mass_fold.specs.Amounts.{Entries, held, Held, PartOf, order, found}
 use Rattle.mass_fold.proofs.Insertion.{whole_pos}
 use Rattle.mass_fold.specs.declared.table.TheConstants.{MOST_STATES}
 
@@ -99,13 +98,3 @@ put_many s f es N I h e full pos k p w within =
     above : (q : State) (b : Bool) → same q s ≡ b → (b || is_member same (keys_of es) q) ≡ true → 0 < amount N (at q) I
     above q true r m = let z = within (at q) in let y = whole_pos N f pos p w in let x = ap (λ b. whole N f * cond b 1 0) r in omega arith
     above q false r m = let z = within (at q) in let y = held_at N q es pos k m in omega arith
-
--- ---- the length of the states
-pub sized_insert : (s : State) (v : Fraction) (es : Entries) → PutSized es (insert_entry order es s v) s
-sized_insert s v [] m e h = (e, tt)
-sized_insert s v (d ∷ es) m e h = at_head (order s d.0) (sized_insert s v es m e h.1)
-  where
-    at_head : (o : Ordering) → Sized m (insert_entry order es s v) → Sized m (match_ordering o ((s, v) ∷ (d ∷ es)) ((d.0, v) ∷ es) (d ∷ insert_entry order es s v))
-    at_head Less i = (e, h)
-    at_head Equal i = (h.0, h.1)
-    at_head Greater i = (h.0, i)

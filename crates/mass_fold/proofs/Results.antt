@@ -1,13 +1,13 @@
 -- A walk over the states that a body ends in, with the outcome of each added.
-use Rattle.std.proofs.Common.{◌≡◌, ℕ, ◌+◌, ◌*◌, ◌<◌, [], ◌∷◌, length, refl, sym, ap, subst, arith}
+use Rattle.std.proofs.Common.{◌≡◌, ℕ, ◌+◌, ◌*◌, ◌<◌, [], ◌∷◌, refl, sym, ap, subst, arith}
 use Rattle.gcl_core.specs.declared.answers.Outcome.{Outcome}
 use Rattle.gcl_core.specs.Fractions.{Fraction}
 use Rattle.gcl_core.specs.Runs.{outcome_of}
 use Rattle.gcl_core.specs.Syntax.{Expression}
-use Rattle.gcl_core.specs.Value.{State, value_of, Reads}
+use Rattle.gcl_core.specs.Value.{State, value_of}
 use Rattle.mass_tables.specs.Scale.{whole}
 use Rattle.mass_fold.specs.declared.error.MassError.{MassError}
-use Rattle.mass_fold.specs.Amounts.{Entries, held, Held, Fits, Sized}
+use Rattle.mass_fold.specs.Amounts.{Entries, held, Held}
 use Rattle.mass_fold.specs.Rows.{Rows}
 use Rattle.mass_fold.specs.Outcomes.{AddGives, AddBlames, by_result, ResultsGive, ResultsBlame}
 
@@ -17,36 +17,29 @@ pub record Left (N : ℕ) (result : Expression) (table : Entries) (es fs : Rows)
   pub left : Held N rest
   pub sums : (G : Outcome → ℕ) → held N G fs + held N (by_result result G) rest ≡ held N G es + held N (by_result result G) table
 
-pub record ResultsOn (result : Expression) (table : Entries) (es fs : Rows) (rest : Entries) : Type 0 where
-  pub sized : (m : ℕ) → Sized m table → Sized m rest
-  pub left : (N : ℕ) → 0 < N → Held N table → Held N es → Left N result table es fs rest
+abbrev pub ResultsOn : Expression → Entries → Rows → Rows → Entries → Type 0
+ResultsOn result table es fs rest = (N : ℕ) → 0 < N → Held N table → Held N es → Left N result table es fs rest
 
 module _ (result : Expression) (table : Entries) (es : Rows) where
   pub results_start : (rest : Entries) → rest ≡ table → ResultsOn result table es es rest
-  results_start rest p = subst (ResultsOn result table es es) (sym p) (record { sized = λ m h. h; left = λ N pos h k. record { kept = k; left = h; sums = λ G. refl } })
+  results_start rest p = subst (ResultsOn result table es es) (sym p) (λ N pos h k. record { kept = k; left = h; sums = λ G. refl })
 
   pub results_end : (fs : Rows) (rest : Entries) → rest ≡ [] → ResultsOn result table es fs rest → ResultsGive result table es fs
   results_end fs rest p on N pos h k =
-      let l = (subst (ResultsOn result table es fs) p on).left N pos h k in (l.kept, λ G. let z = l.sums G in omega arith)
+      let l = subst (ResultsOn result table es fs) p on N pos h k in (l.kept, λ G. let z = l.sums G in omega arith)
 
   module _ (fs : Rows) (rest : Entries) (s : State) (f : Fraction) (rest' : Entries) (p : rest ≡ (s, f) ∷ rest') (on : ResultsOn result table es fs rest) where
     now : ResultsOn result table es fs ((s, f) ∷ rest')
     now = subst (ResultsOn result table es fs) p on
 
-    pub results_reads : Fits (Reads result) table → Reads result (length s)
-    results_reads h = subst (Reads result) (sym (now.sized h.count h.sized).0) h.fact
-
     module _ (x : Outcome) (q : x ≡ outcome_of (value_of result s)) where
       pub results_next : (fs' : Rows) → AddGives fs fs' x f → ResultsOn result table es fs' rest'
-      results_next fs' a = record {
-        sized = λ m h. (now.sized m h).1;
-        left = λ N pos h k.
-            let l = now.left N pos h k in
-            let b = a N pos l.kept l.left.1 in
-            record { kept = b.0; left = l.left.2; sums = λ G. let z = l.sums G in let y = b.1 G in let x = ap (λ x. whole N f * G x) q in omega arith };
-      }
+      results_next fs' a N pos h k =
+          let l = now N pos h k in
+          let b = a N pos l.kept l.left.1 in
+          record { kept = b.0; left = l.left.2; sums = λ G. let z = l.sums G in let y = b.1 G in let x = ap (λ x. whole N f * G x) q in omega arith }
 
       pub results_blame : (e : MassError) → AddBlames e fs f → ResultsBlame e table es
       results_blame e a N L pos h k most =
-          let l = now.left N pos h k in
+          let l = now N pos h k in
           a N L pos l.kept l.left.1 (let z = l.sums (λ x. 1) in omega arith)

@@ -1,5 +1,5 @@
 -- A table with each state once, at a scale.
-use Rattle.std.specs.Prelude.{◌≡◌, ℕ, ◌+◌, ◌*◌, ◌^◌, ◌≤◌, ◌<◌, List, [], ◌∷◌, length, Option, Some, MatchOption}
+use Rattle.std.specs.Prelude.{◌≡◌, ℕ, ◌+◌, ◌*◌, ◌^◌, ◌≤◌, ◌<◌, List, [], ◌∷◌, Option, Some, MatchOption}
 use Rattle.std.specs.declared.cmp.Ordering.{Ordering}
 use Rattle.std.specs.Ordering.{int_cmp}
 use Rattle.std.specs.Cmp.Lexicographic.{slice_cmp}
@@ -55,23 +55,3 @@ PartOf N es s f I = (G : State → ℕ) → held N G es + whole N f * G s ≤ am
 
 abbrev pub PutBlames : MassError → Entries → State → Fraction → Type 0
 PutBlames e es s f = (N L : ℕ) (I : Table) → 0 < N → Held N es → 0 < f.0 → Whole N f → PartOf N es s f I → weight N I ≤ N → states I ≤ L → Blames e N L
-
--- ---- the length of the states
-
--- each state has this length
-abbrev pub Sized : ℕ → Entries → Type 0
-Sized m [] = Unit {0}
-Sized m (e ∷ es) = (length e.0 ≡ m) × Sized m es
-
--- whatever length all states of es have, those of fs have
-abbrev pub SameSize : Entries → Entries → Type 0
-SameSize es fs = (m : ℕ) → Sized m es → Sized m fs
-
--- the states have a length at which this holds
-pub record Fits (Fact : ℕ → Type 0) (es : Entries) : Type 0 where
-  pub count : ℕ
-  pub fact : Fact count
-  pub sized : Sized count es
-
-abbrev pub PutSized : Entries → Entries → State → Type 0
-PutSized es fs s = (m : ℕ) → length s ≡ m → Sized m es → Sized m fs

@@ -5,18 +5,16 @@ ghost use Rattle.gcl_core.specs.Runs.{zeros};
 ghost use Rattle.gcl_core.specs.Views.{source_of};
 ghost use Rattle.mass_tables.specs.Tables.{peak_of};
 ghost use Rattle.mass_tables.specs.Width.{round_width};
-ghost use Rattle.mass_fold.specs.Amounts.{Blames, Sized};
+ghost use Rattle.mass_fold.specs.Amounts.{Blames};
 ghost use Rattle.mass_fold.specs.Body.{BodyGives, BodyMeters};
 
 use crate::ended::Ended;
 use crate::error::MassError;
 use crate::fold::fold_block;
 use crate::meter::Meter;
-use crate::state::State;
-use frac128::Frac;
+use crate::table::Table;
 use gcl_core::Checked;
 use std::alloc::Global;
-use std::collections::BTreeMap;
 
 /// The states after the body of a program, each with its weight, and the weights of what ended, at most so many turns for each entry
 /// of a loop, and attempts for each draw or as many as it takes. The meter
@@ -27,37 +25,24 @@ pub fn fold_body(
     turns: u64,
     attempts: Option<u64>,
     meter: &mut Meter,
-) -> Result<(BTreeMap<State, Frac>, Ended), MassError>
+) -> Result<(Table, Ended), MassError>
     requires { IfSome attempts (λ r. 1 ≤ r) }
-    ensures ok { IfOk result (λ t. BodyGives (source_of p.now) turns attempts t.0.entries t.1) }
+    ensures ok { IfOk result (λ t. BodyGives (source_of p.now) turns attempts t.0.states.entries t.1) }
     ensures bits { IfOk result (λ t. BodyMeters (source_of p.now) turns attempts meter.old meter.new) }
-    ensures sized { IfOk result (λ t. Sized (length (source_of p.now).names) t.0.entries) }
+    ensures vars { IfOk result (λ t. t.0.vars ≡ length (source_of p.now).names) }
     ensures cause { IfErr result (λ e. Blames e (round_width (source_of p.now) turns attempts) (peak_of (source_of p.now) turns attempts)) }
 {
     let program = p.program();
-    match State::zeros(alloc, program.names.count()) {
-        Err(_) => Err(MassError::OutOfMemory),
-        Ok(s) => {
-            let mut table = BTreeMap::new(alloc);
-            let sure = Frac::of(1, 1);
-            match table.insert(s, sure) {
-                Err(_) => Err(MassError::OutOfMemory),
-                Ok(_) => {
-                    let mut ended = Ended::none();
-                    match fold_block(
-                        alloc,
-                        &program.body,
-                        turns,
-                        attempts,
-                        table,
-                        &mut ended,
-                        meter,
-                    ) {
-                        Ok(t) => Ok((t, ended)),
-                        Err(error) => Err(error),
-                    }
-                }
-            }
-        }
-    }
+    let table = Table::start(alloc, program.names.count())?;
+    let mut ended = Ended::none();
+    let table = fold_block(
+        alloc,
+        &program.body,
+        turns,
+        attempts,
+        table,
+        &mut ended,
+        meter,
+    )?;
+    Ok((table, ended))
 }

@@ -1,6 +1,6 @@
 // Draws on a table.
 
-ghost use Rattle.std.specs.Prelude.{◌≡◌, ◌<◌, ◌≤◌, ◌^◌, ℕ, List, [], length, IfOk, OnOk, IfErr, IfSome, IfNone};
+ghost use Rattle.std.specs.Prelude.{◌≡◌, ◌<◌, ◌≤◌, ◌^◌, [], length, IfOk, OnOk, IfErr, IfSome, IfNone};
 ghost use Rattle.frac128.specs.Fraction.{InLowest};
 ghost use Rattle.gcl_core.specs.Blocks.{limit};
 ghost use Rattle.gcl_core.specs.declared.answers.Limit.TheVariants as limit_kind;
@@ -12,19 +12,17 @@ ghost use Rattle.mass_tables.specs.Counts.{part_at, rest_at, drawn, undrawn, all
 ghost use Rattle.mass_fold.specs.declared.ended.Ended.{Ended};
 ghost use Rattle.mass_fold.specs.declared.error.MassError.TheVariants.{TooWide};
 ghost use Rattle.mass_fold.specs.Ended.{end_of};
-ghost use Rattle.mass_fold.specs.Amounts.{Fits, SameSize, Sized};
 ghost use Rattle.mass_fold.specs.Steps.{DrawsTo, DrawBlames, IsParts, PartsBlame, IsPower, PowerBlames, SpreadGives, SpreadBlames, AddedBy, StoppedBy, BlamedBy, at_numbers};
 
 use crate::ended::{Ended, Gone};
 use crate::error::MassError;
 use crate::state::State;
 use crate::steps::gone;
-use crate::table::put;
+use crate::table::Table;
 use draw_tree::bits_for;
 use frac128::Frac;
 use gcl_core::{Expr, eval};
 use std::alloc::Global;
-use std::collections::BTreeMap;
 
 /// The power of a fraction of at most 1; none where it does not fit.
 pub fn power(base: &Frac, count: u64) -> Option<Frac>
@@ -77,25 +75,21 @@ pub fn parts(bound: u64, attempts: Option<u64>) -> Result<(Frac, Frac), MassErro
 }
 
 /// The table with each weight multiplied.
-pub fn scale(
-    alloc: Global,
-    w: &Frac,
-    table: &BTreeMap<State, Frac>,
-) -> Result<BTreeMap<State, Frac>, MassError>
+pub fn scale(alloc: Global, w: &Frac, table: &Table) -> Result<Table, MassError>
     requires { 1 ≤ w.now.0 }
-    ensures ok { IfOk result (λ t. (E : Ended) → DrawsTo (λ s. w.now) (λ s. w.now) all_kept none_stopped table.now.entries E t.entries E) }
-    ensures sized { IfOk result (λ t. SameSize table.now.entries t.entries) }
-    ensures cause { IfErr result (λ e. (E : Ended) → DrawBlames (λ s. w.now) (λ s. w.now) all_kept none_stopped table.now.entries E e) }
+    ensures ok { IfOk result (λ t. (E : Ended) → DrawsTo (λ s. w.now) (λ s. w.now) all_kept none_stopped table.now.states.entries E t.states.entries E) }
+    ensures vars { IfOk result (λ t. t.vars ≡ table.now.vars) }
+    ensures cause { IfErr result (λ e. (E : Ended) → DrawBlames (λ s. w.now) (λ s. w.now) all_kept none_stopped table.now.states.entries E e) }
 {
     let _low = w.num();
-    let mut next = BTreeMap::new(alloc);
-    for (s, f) in table {
+    let mut next = Table::new(alloc, table.vars);
+    for (s, f) in &table.states {
         match f.mul(w) {
             None => return Err(MassError::TooWide),
             Some(h) => match s.copy(alloc) {
                 Err(_) => return Err(MassError::OutOfMemory),
                 Ok(t) => {
-                    if let Err(error) = put(&mut next, t, h) {
+                    if let Err(error) = next.put(t, h) {
                         return Err(error);
                     }
                 }
@@ -106,17 +100,12 @@ pub fn scale(
 }
 
 /// All entries end in one way, with each weight multiplied.
-pub fn end_part(
-    x: Gone,
-    w: &Frac,
-    table: &BTreeMap<State, Frac>,
-    ended: &mut Ended,
-) -> Result<(), MassError>
-    ensures ok { OnOk result (DrawsTo (λ s. w.now) (λ s. w.now) none_kept (all_stopped (end_of x)) table.now.entries ended.old [] ended.new) }
-    ensures cause { IfErr result (DrawBlames (λ s. w.now) (λ s. w.now) none_kept (all_stopped (end_of x)) table.now.entries ended.old) }
+pub fn end_part(x: Gone, w: &Frac, table: &Table, ended: &mut Ended) -> Result<(), MassError>
+    ensures ok { OnOk result (DrawsTo (λ s. w.now) (λ s. w.now) none_kept (all_stopped (end_of x)) table.now.states.entries ended.old [] ended.new) }
+    ensures cause { IfErr result (DrawBlames (λ s. w.now) (λ s. w.now) none_kept (all_stopped (end_of x)) table.now.states.entries ended.old) }
 {
     let _low = w.num();
-    for (_, f) in table {
+    for (_, f) in &table.states {
         match f.mul(w) {
             None => return Err(MassError::TooWide),
             Some(h) => {
@@ -136,13 +125,14 @@ fn spread(
     bound: u64,
     s: &State,
     h: Frac,
-    next: &mut BTreeMap<State, Frac>,
+    next: &mut Table,
 ) -> Result<(), MassError>
+    requires sized { length s.now ≡ next.old.vars }
     requires place { x < length s.now }
     requires most { bound < 2 ^ 63 }
-    ensures ok { OnOk result (SpreadGives next.old.entries next.new.entries x bound s.now h) }
-    ensures sized { OnOk result ((m : ℕ) → length s.now ≡ m → Sized m next.old.entries → Sized m next.new.entries) }
-    ensures cause { IfErr result (λ e. SpreadBlames e next.old.entries x bound s.now h) }
+    ensures ok { OnOk result (SpreadGives next.old.states.entries next.new.states.entries x bound s.now h) }
+    ensures vars { next.new.vars ≡ next.old.vars }
+    ensures cause { IfErr result (λ e. SpreadBlames e next.old.states.entries x bound s.now h) }
 {
     for i in 0..bound {
         match s.copy(alloc) {
@@ -150,7 +140,7 @@ fn spread(
             Ok(t) => {
                 let mut t = t;
                 t.set(x, i as i64);
-                if let Err(error) = put(next, t, h) {
+                if let Err(error) = next.put(t, h) {
                     return Err(error);
                 }
             }
@@ -167,17 +157,18 @@ fn draw_state(
     attempts: Option<u64>,
     s: &State,
     f: &Frac,
-    next: &mut BTreeMap<State, Frac>,
+    next: &mut Table,
     ended: &mut Ended,
 ) -> Result<(), MassError>
+    requires sized { length s.now ≡ next.old.vars }
     requires place { x < length s.now }
     requires least { 1 ≤ bound }
     requires most { bound < 2 ^ 63 }
     requires some { IfSome attempts (λ r. 1 ≤ r) }
-    ensures added { OnOk result (AddedBy (class_weight bound attempts 1) next.old.entries next.new.entries f.now (at_numbers x bound s.now)) }
+    ensures added { OnOk result (AddedBy (class_weight bound attempts 1) next.old.states.entries next.new.states.entries f.now (at_numbers x bound s.now)) }
     ensures stopped { OnOk result (StoppedBy (no_class_weight bound attempts) ended.old ended.new f.now (λ G. G (limit limit_kind.Attempts))) }
-    ensures sized { OnOk result ((m : ℕ) → length s.now ≡ m → Sized m next.old.entries → Sized m next.new.entries) }
-    ensures cause { IfErr result (BlamedBy (class_weight bound attempts 1) (no_class_weight bound attempts) next.old.entries ended.old f.now (at_numbers x bound s.now) (λ G. G (limit limit_kind.Attempts))) }
+    ensures vars { next.new.vars ≡ next.old.vars }
+    ensures cause { IfErr result (BlamedBy (class_weight bound attempts 1) (no_class_weight bound attempts) next.old.states.entries ended.old f.now (at_numbers x bound s.now) (λ G. G (limit limit_kind.Attempts))) }
 {
     match parts(bound, attempts) {
         Err(error) => Err(error),
@@ -205,16 +196,17 @@ fn draw_entry(
     attempts: Option<u64>,
     s: &State,
     f: &Frac,
-    next: &mut BTreeMap<State, Frac>,
+    next: &mut Table,
     ended: &mut Ended,
 ) -> Result<(), MassError>
+    requires sized { length s.now ≡ next.old.vars }
     requires place { x < length s.now }
     requires reads { Reads (expression_of e.now) (length s.now) }
     requires some { IfSome attempts (λ r. 1 ≤ r) }
-    ensures added { OnOk result (AddedBy (part_at (value_of (expression_of e.now)) attempts s.now) next.old.entries next.new.entries f.now (λ G. drawn x (value_of (expression_of e.now)) G s.now)) }
+    ensures added { OnOk result (AddedBy (part_at (value_of (expression_of e.now)) attempts s.now) next.old.states.entries next.new.states.entries f.now (λ G. drawn x (value_of (expression_of e.now)) G s.now)) }
     ensures stopped { OnOk result (StoppedBy (rest_at (value_of (expression_of e.now)) attempts s.now) ended.old ended.new f.now (λ G. undrawn (value_of (expression_of e.now)) G s.now)) }
-    ensures sized { OnOk result ((m : ℕ) → length s.now ≡ m → Sized m next.old.entries → Sized m next.new.entries) }
-    ensures cause { IfErr result (BlamedBy (part_at (value_of (expression_of e.now)) attempts s.now) (rest_at (value_of (expression_of e.now)) attempts s.now) next.old.entries ended.old f.now (λ G. drawn x (value_of (expression_of e.now)) G s.now) (λ G. undrawn (value_of (expression_of e.now)) G s.now)) }
+    ensures vars { next.new.vars ≡ next.old.vars }
+    ensures cause { IfErr result (BlamedBy (part_at (value_of (expression_of e.now)) attempts s.now) (rest_at (value_of (expression_of e.now)) attempts s.now) next.old.states.entries ended.old f.now (λ G. drawn x (value_of (expression_of e.now)) G s.now) (λ G. undrawn (value_of (expression_of e.now)) G s.now)) }
 {
     match eval(e, s.values()) {
         Err(fault) => {
@@ -245,17 +237,18 @@ pub fn draw(
     x: u32,
     e: &Expr,
     attempts: Option<u64>,
-    table: BTreeMap<State, Frac>,
+    table: Table,
     ended: &mut Ended,
-) -> Result<BTreeMap<State, Frac>, MassError>
-    requires fits { Fits (λ m. (x < m) × Reads (expression_of e.now) m) table.entries }
+) -> Result<Table, MassError>
+    requires place { x < table.vars }
+    requires reads { Reads (expression_of e.now) table.vars }
     requires some { IfSome attempts (λ r. 1 ≤ r) }
-    ensures ok { IfOk result (λ t. DrawsTo (part_at (value_of (expression_of e.now)) attempts) (rest_at (value_of (expression_of e.now)) attempts) (drawn x (value_of (expression_of e.now))) (undrawn (value_of (expression_of e.now))) table.entries ended.old t.entries ended.new) }
-    ensures sized { IfOk result (λ t. SameSize table.entries t.entries) }
-    ensures cause { IfErr result (DrawBlames (part_at (value_of (expression_of e.now)) attempts) (rest_at (value_of (expression_of e.now)) attempts) (drawn x (value_of (expression_of e.now))) (undrawn (value_of (expression_of e.now))) table.entries ended.old) }
+    ensures ok { IfOk result (λ t. DrawsTo (part_at (value_of (expression_of e.now)) attempts) (rest_at (value_of (expression_of e.now)) attempts) (drawn x (value_of (expression_of e.now))) (undrawn (value_of (expression_of e.now))) table.states.entries ended.old t.states.entries ended.new) }
+    ensures vars { IfOk result (λ t. t.vars ≡ table.vars) }
+    ensures cause { IfErr result (DrawBlames (part_at (value_of (expression_of e.now)) attempts) (rest_at (value_of (expression_of e.now)) attempts) (drawn x (value_of (expression_of e.now))) (undrawn (value_of (expression_of e.now))) table.states.entries ended.old) }
 {
-    let mut next = BTreeMap::new(alloc);
-    for (s, f) in table {
+    let mut next = Table::new(alloc, table.vars);
+    for (s, f) in table.states {
         if let Err(error) = draw_entry(alloc, x, e, attempts, &s, &f, &mut next, ended) {
             return Err(error);
         }

@@ -5,7 +5,6 @@ ghost use Rattle.gcl_core.specs.Bounds.{IsWeight, StatementWeights, BlockWeights
 ghost use Rattle.gcl_core.specs.Views.{expression_of, statement_of, statements_of};
 ghost use Rattle.gcl_core.specs.Value.{value_of, Reads};
 ghost use Rattle.mass_tables.specs.Tables.{statement_flow, block_flow, loop_flow};
-ghost use Rattle.mass_fold.specs.Amounts.{Fits, SameSize};
 ghost use Rattle.mass_tables.specs.Reached.{statement_draws, block_draws, loop_draws};
 ghost use Rattle.mass_fold.specs.Fold.{FoldsTo, FoldBlames, FoldsOne, OneBlames};
 ghost use Rattle.mass_fold.specs.Metering.{Meters, MetersOne};
@@ -15,12 +14,10 @@ use crate::draws::draw;
 use crate::ended::{Ended, Gone};
 use crate::error::MassError;
 use crate::meter::{Meter, count_choice, count_uniform};
-use crate::state::State;
 use crate::steps::{assign, end_all, merge, split};
-use frac128::Frac;
+use crate::table::Table;
 use gcl_core::{Block, Expr, Stmt};
 use std::alloc::Global;
-use std::collections::BTreeMap;
 
 /// The table after a block; what ended is added, and the bits of the draws that are reached.
 #[cycle(fold)]
@@ -29,17 +26,17 @@ pub fn fold_block(
     b: &Block,
     turns: u64,
     attempts: Option<u64>,
-    table: BTreeMap<State, Frac>,
+    table: Table,
     ended: &mut Ended,
     meter: &mut Meter,
-) -> Result<BTreeMap<State, Frac>, MassError>
-    requires fits { Fits (λ m. BlockBelow m (statements_of b.now)) table.entries }
+) -> Result<Table, MassError>
+    requires below { BlockBelow table.vars (statements_of b.now) }
     requires weights { BlockWeights IsWeight (statements_of b.now) }
     requires some { IfSome attempts (λ r. 1 ≤ r) }
-    ensures ok { IfOk result (λ t. FoldsTo (block_flow turns attempts (statements_of b.now)) table.entries ended.old t.entries ended.new) }
-    ensures bits { IfOk result (λ t. Meters attempts (block_flow turns attempts (statements_of b.now)) (block_draws turns attempts (statements_of b.now)) table.entries ended.old meter.old meter.new) }
-    ensures sized { IfOk result (λ t. SameSize table.entries t.entries) }
-    ensures cause { IfErr result (FoldBlames (block_flow turns attempts (statements_of b.now)) table.entries ended.old) }
+    ensures ok { IfOk result (λ t. FoldsTo (block_flow turns attempts (statements_of b.now)) table.states.entries ended.old t.states.entries ended.new) }
+    ensures bits { IfOk result (λ t. Meters attempts (block_flow turns attempts (statements_of b.now)) (block_draws turns attempts (statements_of b.now)) table.states.entries ended.old meter.old meter.new) }
+    ensures vars { IfOk result (λ t. t.vars ≡ table.vars) }
+    ensures cause { IfErr result (FoldBlames (block_flow turns attempts (statements_of b.now)) table.states.entries ended.old) }
 {
     let mut now = table;
     for s in &b.stmts {
@@ -58,19 +55,19 @@ fn fold_stmt(
     s: &Stmt,
     turns: u64,
     attempts: Option<u64>,
-    table: BTreeMap<State, Frac>,
+    table: Table,
     ended: &mut Ended,
     meter: &mut Meter,
-) -> Result<BTreeMap<State, Frac>, MassError>
-    requires fits { Fits (λ m. StatementBelow m (statement_of s.now)) table.entries }
+) -> Result<Table, MassError>
+    requires below { StatementBelow table.vars (statement_of s.now) }
     requires weights { StatementWeights IsWeight (statement_of s.now) }
     requires some { IfSome attempts (λ r. 1 ≤ r) }
-    ensures ok { IfOk result (λ t. FoldsOne (statement_flow turns attempts (statement_of s.now)) table.entries ended.old t.entries ended.new) }
-    ensures bits { IfOk result (λ t. MetersOne attempts (statement_flow turns attempts (statement_of s.now)) (statement_draws turns attempts (statement_of s.now)) table.entries ended.old meter.old meter.new) }
-    ensures sized { IfOk result (λ t. SameSize table.entries t.entries) }
-    ensures cause { IfErr result (OneBlames (statement_flow turns attempts (statement_of s.now)) table.entries ended.old) }
+    ensures ok { IfOk result (λ t. FoldsOne (statement_flow turns attempts (statement_of s.now)) table.states.entries ended.old t.states.entries ended.new) }
+    ensures bits { IfOk result (λ t. MetersOne attempts (statement_flow turns attempts (statement_of s.now)) (statement_draws turns attempts (statement_of s.now)) table.states.entries ended.old meter.old meter.new) }
+    ensures vars { IfOk result (λ t. t.vars ≡ table.vars) }
+    ensures cause { IfErr result (OneBlames (statement_flow turns attempts (statement_of s.now)) table.states.entries ended.old) }
 {
-    if table.len() == 0 {
+    if table.states.len() == 0 {
         return Ok(table);
     }
     match s {
@@ -144,22 +141,23 @@ fn fold_loop(
     e: &Expr,
     turns: u64,
     attempts: Option<u64>,
-    table: BTreeMap<State, Frac>,
+    table: Table,
     ended: &mut Ended,
     meter: &mut Meter,
-) -> Result<BTreeMap<State, Frac>, MassError>
-    requires fits { Fits (λ m. Reads (expression_of e.now) m × BlockBelow m (statements_of body.now)) table.entries }
+) -> Result<Table, MassError>
+    requires reads { Reads (expression_of e.now) table.vars }
+    requires below { BlockBelow table.vars (statements_of body.now) }
     requires weights { BlockWeights IsWeight (statements_of body.now) }
     requires some { IfSome attempts (λ r. 1 ≤ r) }
-    ensures ok { IfOk result (λ t. FoldsOne (loop_flow (value_of (expression_of e.now)) (block_flow turns attempts (statements_of body.now)) turns) table.entries ended.old t.entries ended.new) }
-    ensures bits { IfOk result (λ t. MetersOne attempts (loop_flow (value_of (expression_of e.now)) (block_flow turns attempts (statements_of body.now)) turns) (loop_draws (value_of (expression_of e.now)) (block_draws turns attempts (statements_of body.now)) (block_flow turns attempts (statements_of body.now)) turns) table.entries ended.old meter.old meter.new) }
-    ensures sized { IfOk result (λ t. SameSize table.entries t.entries) }
-    ensures cause { IfErr result (OneBlames (loop_flow (value_of (expression_of e.now)) (block_flow turns attempts (statements_of body.now)) turns) table.entries ended.old) }
+    ensures ok { IfOk result (λ t. FoldsOne (loop_flow (value_of (expression_of e.now)) (block_flow turns attempts (statements_of body.now)) turns) table.states.entries ended.old t.states.entries ended.new) }
+    ensures bits { IfOk result (λ t. MetersOne attempts (loop_flow (value_of (expression_of e.now)) (block_flow turns attempts (statements_of body.now)) turns) (loop_draws (value_of (expression_of e.now)) (block_draws turns attempts (statements_of body.now)) (block_flow turns attempts (statements_of body.now)) turns) table.states.entries ended.old meter.old meter.new) }
+    ensures vars { IfOk result (λ t. t.vars ≡ table.vars) }
+    ensures cause { IfErr result (OneBlames (loop_flow (value_of (expression_of e.now)) (block_flow turns attempts (statements_of body.now)) turns) table.states.entries ended.old) }
 {
+    let mut exits = Table::new(alloc, table.vars);
     let mut now = table;
-    let mut exits = BTreeMap::new(alloc);
     for _ in 0..turns {
-        if now.len() == 0 {
+        if now.states.len() == 0 {
             return Ok(exits);
         }
         match split(alloc, e, now, ended) {

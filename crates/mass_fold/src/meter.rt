@@ -6,15 +6,14 @@ ghost use Rattle.gcl_core.specs.Bounds.{IsWeight};
 ghost use Rattle.gcl_core.specs.Value.{value_of, Reads};
 ghost use Rattle.gcl_core.specs.Views.{expression_of};
 ghost use Rattle.mass_tables.specs.Scale.{whole, Whole};
-ghost use Rattle.mass_fold.specs.Amounts.{Fits};
 ghost use Rattle.mass_fold.specs.Metering.{CountedOn, AddsBits, IsPrice, PriceBlames, IsPriced, price, bound_price, IsBoundPriced, CountsAll};
 
 use crate::draws::parts;
 use crate::state::State;
+use crate::table::Table;
 use draw_cost::{choice_bits, uniform_bits};
 use frac128::Frac;
 use gcl_core::{Expr, Weight, eval};
-use std::collections::BTreeMap;
 
 /// How many bits the draws that are reached read on average, each by the weight with which it is reached.
 #[derive(Clone, Copy)]
@@ -76,27 +75,22 @@ fn price(undecided: u128, bound: u64, attempts: Option<u64>) -> Option<Frac>
 }
 
 // The meter, with the same bits for each entry.
-fn add_each(meter: Meter, bits: &Frac, table: &BTreeMap<State, Frac>) -> Meter
-    ensures { CountsAll (λ M s. Whole M bits.now) (λ M s. whole M bits.now) table.now.entries meter result }
+fn add_each(meter: Meter, bits: &Frac, table: &Table) -> Meter
+    ensures { CountsAll (λ M s. Whole M bits.now) (λ M s. whole M bits.now) table.now.states.entries meter result }
 {
     let mut now = meter;
-    for (_, f) in table {
+    for (_, f) in &table.states {
         now = add(now, bits, f);
     }
     now
 }
 
 /// The meter, with the draw of a choice for each entry.
-pub fn count_choice(
-    meter: Meter,
-    p: Weight,
-    attempts: Option<u64>,
-    table: &BTreeMap<State, Frac>,
-) -> Meter
+pub fn count_choice(meter: Meter, p: Weight, attempts: Option<u64>, table: &Table) -> Meter
     requires weight { IsWeight p }
     requires some { IfSome attempts (λ r. 1 ≤ r) }
-    requires table { 1 ≤ length table.now.entries }
-    ensures { CountsAll (λ M s. IsPriced attempts M p.den) (λ M s. price attempts M (choice_ends p)) table.now.entries meter result }
+    requires table { 1 ≤ length table.now.states.entries }
+    ensures { CountsAll (λ M s. IsPriced attempts M p.den) (λ M s. price attempts M (choice_ends p)) table.now.states.entries meter result }
 {
     match meter {
         Meter::Off => Meter::Off,
@@ -133,21 +127,16 @@ fn count_bound(meter: Meter, e: &Expr, attempts: Option<u64>, s: &State, f: &Fra
 }
 
 /// The meter, with the uniform draw of each entry.
-pub fn count_uniform(
-    meter: Meter,
-    e: &Expr,
-    attempts: Option<u64>,
-    table: &BTreeMap<State, Frac>,
-) -> Meter
-    requires fits { Fits (Reads (expression_of e.now)) table.now.entries }
+pub fn count_uniform(meter: Meter, e: &Expr, attempts: Option<u64>, table: &Table) -> Meter
+    requires reads { Reads (expression_of e.now) table.now.vars }
     requires some { IfSome attempts (λ r. 1 ≤ r) }
-    ensures { CountsAll (IsBoundPriced (value_of (expression_of e.now)) attempts) (bound_price (value_of (expression_of e.now)) attempts) table.now.entries meter result }
+    ensures { CountsAll (IsBoundPriced (value_of (expression_of e.now)) attempts) (bound_price (value_of (expression_of e.now)) attempts) table.now.states.entries meter result }
 {
     if let Meter::Off = meter {
         return Meter::Off;
     }
     let mut now = meter;
-    for (s, f) in table {
+    for (s, f) in &table.states {
         now = count_bound(now, e, attempts, s, f);
     }
     now

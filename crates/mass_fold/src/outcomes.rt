@@ -4,12 +4,13 @@ ghost use Rattle.std.specs.Prelude.{◌≡◌, length, IfOk, OnOk, IfErr};
 ghost use Rattle.gcl_core.specs.Runs.{outcome_of};
 ghost use Rattle.gcl_core.specs.Value.{value_of, Reads};
 ghost use Rattle.gcl_core.specs.Views.{expression_of};
-ghost use Rattle.mass_fold.specs.Amounts.{SumAt, Fits};
+ghost use Rattle.mass_fold.specs.Amounts.{SumAt};
 ghost use Rattle.mass_fold.specs.Outcomes.{AddGives, AddBlames, ResultsGive, ResultsBlame, EndedGive, EndedBlame};
 
 use crate::ended::Ended;
 use crate::error::MassError;
 use crate::state::State;
+use crate::table::Table;
 use frac128::Frac;
 use gcl_core::{Expr, Fault, Limit, Outcome, eval, outcomes_are_ordered};
 use std::collections::BTreeMap;
@@ -62,14 +63,14 @@ pub fn add(rows: &mut BTreeMap<Outcome, Frac>, x: Outcome, f: &Frac) -> Result<(
 /// Adds the outcomes of the states that the body ends in.
 pub fn add_results(
     e: &Expr,
-    table: &BTreeMap<State, Frac>,
+    table: &Table,
     rows: &mut BTreeMap<Outcome, Frac>,
 ) -> Result<(), MassError>
-    requires { Fits (Reads (expression_of e.now)) table.now.entries }
-    ensures ok { OnOk result (ResultsGive (expression_of e.now) table.now.entries rows.old.entries rows.new.entries) }
-    ensures cause { IfErr result (λ error. ResultsBlame error table.now.entries rows.old.entries) }
+    requires { Reads (expression_of e.now) table.now.vars }
+    ensures ok { OnOk result (ResultsGive (expression_of e.now) table.now.states.entries rows.old.entries rows.new.entries) }
+    ensures cause { IfErr result (λ error. ResultsBlame error table.now.states.entries rows.old.entries) }
 {
-    for (s, f) in table {
+    for (s, f) in &table.states {
         add(rows, outcome(e, s), f)?;
     }
     Ok(())

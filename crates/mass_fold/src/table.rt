@@ -1,14 +1,29 @@
 // A table of states, each once, with its weight.
 
-ghost use Rattle.std.specs.Prelude.{◌≡◌, OnOk, IfOk, IfErr};
-ghost use Rattle.mass_fold.specs.Amounts.{PutGives, PutBlames, PutSized, SumAt, order};
+ghost use Rattle.std.specs.Prelude.{◌≡◌, [], ◌∷◌, length, All, OnOk, IfOk, IfErr};
+ghost use Rattle.std.specs.BTreeMap.{keys};
+ghost use Rattle.std.proofs.Props.{props};
+ghost use Rattle.gcl_core.specs.Runs.{zeros};
+ghost use Rattle.mass_fold.specs.declared.error.MassError.TheVariants.{OutOfMemory};
+ghost use Rattle.mass_fold.specs.Amounts.{PutGives, PutBlames, SumAt, order};
 
 use crate::error::MassError;
 use crate::state::State;
 use frac128::Frac;
+use std::alloc::Global;
 use std::collections::BTreeMap;
 
 pub const MOST_STATES: usize = 65_536;
+
+/// States of so many variables, each once, with its weight.
+#[derive(Drop)]
+pub struct Table {
+    /// How many variables each state has.
+    pub vars: u32,
+    /// The weight of each state.
+    pub states: BTreeMap<State, Frac>,
+    ghost sized: { All (λ s. length s ≡ vars) (keys states) } by { Prim.hlevel props },
+}
 
 // What the state weighs once f is added.
 fn sum_at(table: &BTreeMap<State, Frac>, s: &State, f: &Frac) -> Result<Frac, MassError>
@@ -35,15 +50,42 @@ fn sum_at(table: &BTreeMap<State, Frac>, s: &State, f: &Frac) -> Result<Frac, Ma
     }
 }
 
-/// Adds the weight of a state.
-pub fn put(table: &mut BTreeMap<State, Frac>, s: State, f: Frac) -> Result<(), MassError>
-    ensures ok { OnOk result (PutGives table.old.entries table.new.entries s f) }
-    ensures sized { OnOk result (PutSized table.old.entries table.new.entries s) }
-    ensures cause { IfErr result (λ e. PutBlames e table.old.entries s f) }
-{
-    let sum = sum_at(table, &s, &f)?;
-    match table.insert(s, sum) {
-        Ok(_) => Ok(()),
-        Err(_) => Err(MassError::OutOfMemory),
+impl Table {
+    /// No state, where each has so many variables.
+    pub fn new(alloc: Global, vars: u32) -> Table
+        ensures vars { result.vars ≡ vars }
+        ensures empty { result.states.entries ≡ [] }
+    {
+        Table {
+            vars,
+            states: BTreeMap::new(alloc),
+        }
+    }
+
+    /// One state, of so many variables that are 0, with the weight 1.
+    pub fn start(alloc: Global, vars: u32) -> Result<Table, MassError>
+        ensures one { IfOk result (λ t. t.states.entries ≡ (zeros vars, (1, 1)) ∷ []) }
+        ensures vars { IfOk result (λ t. t.vars ≡ vars) }
+        ensures cause { IfErr result (λ e. e ≡ OutOfMemory) }
+    {
+        let mut states = BTreeMap::new(alloc);
+        let zeros = State::zeros(alloc, vars)?;
+        let one = Frac::of(1, 1);
+        states.insert(zeros, one)?;
+        Ok(Table { vars, states })
+    }
+
+    /// Adds the weight of a state.
+    pub fn put(&mut self, s: State, f: Frac) -> Result<(), MassError>
+        requires { length s ≡ self.old.vars }
+        ensures ok { OnOk result (PutGives self.old.states.entries self.new.states.entries s f) }
+        ensures vars { self.new.vars ≡ self.old.vars }
+        ensures cause { IfErr result (λ e. PutBlames e self.old.states.entries s f) }
+    {
+        let sum = sum_at(&self.states, &s, &f)?;
+        match self.states.insert(s, sum) {
+            Ok(_) => Ok(()),
+            Err(_) => Err(MassError::OutOfMemory),
+        }
     }
 }

@@ -1,55 +1,35 @@
-use Rattle.std.proofs.Common.{◌≡◌, ◌∷◌, [], length, ◌∙◌, ◌<◌, sym, ap, subst, arith}
-use Rattle.std.specs.BTreeMap.{insert_entry}
+use Rattle.std.proofs.Common.{◌≡◌, ◌∷◌, [], ◌∙◌, Err, sym, ap, subst, arith}
 use Rattle.gcl_core.specs.Bounds.{IsWeight, BlockWeights}
 use Rattle.gcl_core.specs.Runs.{zeros}
 use Rattle.gcl_core.specs.Views.{source_of, statements_of}
 use Rattle.mass_tables.specs.Tables.{peak_of}
 use Rattle.mass_tables.specs.Width.{round_width}
-use Rattle.mass_fold.specs.Amounts.{Blames, Sized, order}
+use Rattle.mass_fold.specs.Amounts.{Blames}
 use Rattle.mass_fold.specs.Body.{BodyGives, BodyMeters}
-use Rattle.std.proofs.lemmas.List.{length-replicate}
-use Rattle.mass_fold.proofs.Sizes.{sized_along}
 use Rattle.mass_fold.proofs.Beginning.{body_gives, body_blames, body_meters}
 use Rattle.mass_fold.proofs.body.fold_body.Goals as goal
 
-pub returns-in-Ok-fold_block-clause-ok : goal.returns-in-Ok-fold_block-clause-ok
-returns-in-Ok-fold_block-clause-ok c =
+pub returns-clause-ok : goal.returns-clause-ok
+returns-clause-ok c =
     let same = c.program-program.ensures.same in
     let w = subst (λ q. BlockWeights IsWeight (statements_of q.body)) (sym same) c.program-program.ensures.weights in
-    let f = c.of-sure.result in
-    let fb : 0 < f.1 = omega (arith, c.of-sure.ensures.lowest.positive) in
-    let fa : 0 < f.0 = omega (arith, c.of-sure.ensures.equal) in
-    let ee = c.in-Ok-insert.ensures.entries ∙ ap (λ es. insert_entry order es c.in-Ok.s f) c.new-table.ensures.empty in
-    subst (λ q. BodyGives (source_of q) c.args.turns c.args.attempts c.in-Ok-fold_block.t.entries c.fold_block.new.ended) same
-    (body_gives (source_of c.program-program.result.now) c.args.turns c.args.attempts w _ c.none-ended.result f c.in-Ok.s fa fb c.of-sure.ensures.equal (c.in-Ok.ensures ∙ ap zeros c.count.ensures) ee c.none-ended.ensures _ _ c.in-Ok-fold_block.ensures.ok)
+    let one = c.in_ok-table.ensures.one ∙ ap (λ n. (zeros n, (1, 1)) ∷ []) c.count.ensures in
+    subst (λ q. BodyGives (source_of q) c.args.turns c.args.attempts c.in_ok-table-2.table.states.entries c.fold_block.new.ended) same
+    (body_gives (source_of c.program-program.result.now) c.args.turns c.args.attempts w _ c.none-ended.result one c.none-ended.ensures _ _ c.in_ok-table-2.ensures.ok)
 
-pub returns-in-Ok-fold_block-clause-bits : goal.returns-in-Ok-fold_block-clause-bits
-returns-in-Ok-fold_block-clause-bits c =
+pub returns-clause-bits : goal.returns-clause-bits
+returns-clause-bits c =
     let same = c.program-program.ensures.same in
     let w = subst (λ q. BlockWeights IsWeight (statements_of q.body)) (sym same) c.program-program.ensures.weights in
-    let f = c.of-sure.result in
-    let fb : 0 < f.1 = omega (arith, c.of-sure.ensures.lowest.positive) in
-    let fa : 0 < f.0 = omega (arith, c.of-sure.ensures.equal) in
-    let ee = c.in-Ok-insert.ensures.entries ∙ ap (λ es. insert_entry order es c.in-Ok.s f) c.new-table.ensures.empty in
+    let one = c.in_ok-table.ensures.one ∙ ap (λ n. (zeros n, (1, 1)) ∷ []) c.count.ensures in
     subst (λ q. BodyMeters (source_of q) c.args.turns c.args.attempts c.args.meter.now c.fold_block.new.meter) same
-    (body_meters (source_of c.program-program.result.now) c.args.turns c.args.attempts w _ c.none-ended.result f c.in-Ok.s fa fb c.of-sure.ensures.equal (c.in-Ok.ensures ∙ ap zeros c.count.ensures) ee c.none-ended.ensures _ _ c.in-Ok-fold_block.ensures.bits)
+    (body_meters (source_of c.program-program.result.now) c.args.turns c.args.attempts w _ c.none-ended.result one c.none-ended.ensures _ _ c.in_ok-table-2.ensures.bits)
 
-pub returns-in-Ok-fold_block-clause-sized : goal.returns-in-Ok-fold_block-clause-sized
-returns-in-Ok-fold_block-clause-sized c =
-    let f = c.of-sure.result in
-    let m = length c.args.p.now.names in
-    let ee = c.in-Ok-insert.ensures.entries ∙ ap (λ es. insert_entry order es c.in-Ok.s f) c.new-table.ensures.empty in
-    let z : length c.in-Ok.s ≡ m = ap length c.in-Ok.ensures ∙ length-replicate _ _ ∙ c.count.ensures ∙ ap (λ q. length q.names) c.program-program.ensures.same in
-    let one : Sized m ((c.in-Ok.s, f) ∷ []) = (z, tt) in
-    c.in-Ok-fold_block.ensures.sized m (sized_along m _ _ (sym ee) one)
-
-pub returns-in-Err-fold_block-clause-cause : goal.returns-in-Err-fold_block-clause-cause
-returns-in-Err-fold_block-clause-cause c =
+pub returns-in_err-table-2-clause-cause : goal.returns-in_err-table-2-clause-cause
+returns-in_err-table-2-clause-cause c =
     let same = c.program-program.ensures.same in
     let w = subst (λ q. BlockWeights IsWeight (statements_of q.body)) (sym same) c.program-program.ensures.weights in
-    let f = c.of-sure.result in
-    let fb : 0 < f.1 = omega (arith, c.of-sure.ensures.lowest.positive) in
-    let fa : 0 < f.0 = omega (arith, c.of-sure.ensures.equal) in
-    let ee = c.in-Ok-insert.ensures.entries ∙ ap (λ es. insert_entry order es c.in-Ok.s f) c.new-table.ensures.empty in
-    subst (λ q. Blames c.in-Err-fold_block.error (round_width (source_of q) c.args.turns c.args.attempts) (peak_of (source_of q) c.args.turns c.args.attempts)) same
-    (body_blames (source_of c.program-program.result.now) c.args.turns c.args.attempts w _ c.none-ended.result f c.in-Ok.s fa fb c.of-sure.ensures.equal (c.in-Ok.ensures ∙ ap zeros c.count.ensures) ee c.none-ended.ensures _ c.in-Err-fold_block.ensures.cause)
+    let one = c.in_ok-table.ensures.one ∙ ap (λ n. (zeros n, (1, 1)) ∷ []) c.count.ensures in
+    let out : c.from_residual-in_err-table-2.result ≡ Err c.in_err-table-2.field-0.0 = grind arith in
+    rw out (subst (λ q. Blames c.in_err-table-2.field-0.0 (round_width (source_of q) c.args.turns c.args.attempts) (peak_of (source_of q) c.args.turns c.args.attempts)) same
+    (body_blames (source_of c.program-program.result.now) c.args.turns c.args.attempts w _ c.none-ended.result one c.none-ended.ensures _ c.in_err-table-2.ensures.cause))

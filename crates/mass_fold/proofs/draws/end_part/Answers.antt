@@ -8,7 +8,7 @@ use Rattle.mass_fold.proofs.draws.end_part.Goals as goal
 pub loop-f-init : goal.loop-f-init
 loop-f-init c =
     let p = c.into_iter-f-iterator.ensures.into_iter_gives.0 in
-    record { next = tt; finite = tt; so_far = drawing_start (λ s. c.args.w.now) (λ s. c.args.w.now) none_kept (all_stopped (end_of c.args.x)) c.args.table.now.entries c.args.ended.now _ _ refl p }
+    record { next = tt; finite = tt; so_far = drawing_start (λ s. c.args.w.now) (λ s. c.args.w.now) none_kept (all_stopped (end_of c.args.x)) c.args.table.now.states.entries c.args.ended.now _ _ refl p }
 
 pub loop-f-preserved : goal.loop-f-preserved
 loop-f-preserved c =
@@ -17,28 +17,28 @@ loop-f-preserved c =
     record {
       next = tt;
       finite = tt;
-      so_far = drawing_turn (λ s. w) (λ s. w) none_kept (all_stopped (end_of c.args.x)) c.args.table.now.entries c.args.ended.now [] c.loop-f.ended c.in-Some.field-0-0.now c.in-Some.f.now c.next.new.self
-          (drawing_along (λ s. w) (λ s. w) none_kept (all_stopped (end_of c.args.x)) c.args.table.now.entries c.args.ended.now _ _ _ _ c.in-Some.ensures.steps c.loop-f.invariant.so_far)
+      so_far = drawing_turn (λ s. w) (λ s. w) none_kept (all_stopped (end_of c.args.x)) c.args.table.now.states.entries c.args.ended.now [] c.loop-f.ended c.in-Some.field-0-0.now c.in-Some.f.now c.next.new.self
+          (drawing_along (λ s. w) (λ s. w) none_kept (all_stopped (end_of c.args.x)) c.args.table.now.states.entries c.args.ended.now _ _ _ _ c.in-Some.ensures.steps c.loop-f.invariant.so_far)
           [] c.add.new.self
           (added_none w [] c.in-Some.f.now)
           (stopped_end w w c.loop-f.ended c.add.new.self c.in-Some.f.now c.in-Some-mul.h c.args.x wp refl (sym c.in-Some-mul.ensures) c.in_default.ensures.ok);
     }
 
 pub returns-clause-ok : goal.returns-clause-ok
-returns-clause-ok c = drawing_along (λ s. c.args.w.now) (λ s. c.args.w.now) none_kept (all_stopped (end_of c.args.x)) c.args.table.now.entries c.args.ended.now _ _ _ _ c.in-None.ensures.steps.0 c.loop-f.invariant.so_far
+returns-clause-ok c = drawing_along (λ s. c.args.w.now) (λ s. c.args.w.now) none_kept (all_stopped (end_of c.args.x)) c.args.table.now.states.entries c.args.ended.now _ _ _ _ c.in-None.ensures.steps.0 c.loop-f.invariant.so_far
 
 pub returns-in-None-mul-clause-cause : goal.returns-in-None-mul-clause-cause
 returns-in-None-mul-clause-cause c =
     let w = c.args.w.now in
     let wp : 0 < w.1 = omega (arith, c.num-low.ensures.lowest.positive) in
-    drawing_blame (λ s. w) (λ s. w) none_kept (all_stopped (end_of c.args.x)) c.args.table.now.entries c.args.ended.now [] c.loop-f.ended c.in-Some.field-0-0.now c.in-Some.f.now c.next.new.self
-    (drawing_along (λ s. w) (λ s. w) none_kept (all_stopped (end_of c.args.x)) c.args.table.now.entries c.args.ended.now _ _ _ _ c.in-Some.ensures.steps c.loop-f.invariant.so_far) TooWide
+    drawing_blame (λ s. w) (λ s. w) none_kept (all_stopped (end_of c.args.x)) c.args.table.now.states.entries c.args.ended.now [] c.loop-f.ended c.in-Some.field-0-0.now c.in-Some.f.now c.next.new.self
+    (drawing_along (λ s. w) (λ s. w) none_kept (all_stopped (end_of c.args.x)) c.args.table.now.states.entries c.args.ended.now _ _ _ _ c.in-Some.ensures.steps c.loop-f.invariant.so_far) TooWide
     (blamed_rest w w w [] c.loop-f.ended c.in-Some.f.now (λ G. 0) c.args.x wp refl (sym c.in-None-mul.ensures))
 
 pub returns-in-Err-clause-cause : goal.returns-in-Err-clause-cause
 returns-in-Err-clause-cause c =
     let w = c.args.w.now in
     let wp : 0 < w.1 = omega (arith, c.num-low.ensures.lowest.positive) in
-    drawing_blame (λ s. w) (λ s. w) none_kept (all_stopped (end_of c.args.x)) c.args.table.now.entries c.args.ended.now [] c.loop-f.ended c.in-Some.field-0-0.now c.in-Some.f.now c.next.new.self
-    (drawing_along (λ s. w) (λ s. w) none_kept (all_stopped (end_of c.args.x)) c.args.table.now.entries c.args.ended.now _ _ _ _ c.in-Some.ensures.steps c.loop-f.invariant.so_far) _
+    drawing_blame (λ s. w) (λ s. w) none_kept (all_stopped (end_of c.args.x)) c.args.table.now.states.entries c.args.ended.now [] c.loop-f.ended c.in-Some.field-0-0.now c.in-Some.f.now c.next.new.self
+    (drawing_along (λ s. w) (λ s. w) none_kept (all_stopped (end_of c.args.x)) c.args.table.now.states.entries c.args.ended.now _ _ _ _ c.in-Some.ensures.steps c.loop-f.invariant.so_far) _
     (blamed_end w w w [] c.loop-f.ended c.in-Some.f.now c.in-Some-mul.h (λ G. 0) c.args.x _ wp refl (sym c.in-Some-mul.ensures) c.in-Err.ensures.cause)

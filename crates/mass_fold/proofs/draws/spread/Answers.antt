@@ -1,12 +1,18 @@
-use Rattle.std.proofs.Common.{◌≡◌, ◌∙◌, pos, to_z, w64, length, refl, ap, subst, arith}
+use Rattle.std.proofs.Common.{◌≡◌, ◌∙◌, pos, to_z, w64, length, refl, sym, ap, subst, arith}
 use Rattle.std.proofs.lemmas.Int.{ints}
+use Rattle.std.proofs.lemmas.List.{length-set}
 use Rattle.mass_fold.specs.Steps.{SpreadGives}
-use Rattle.mass_fold.proofs.Sizes.{set_length}
 use Rattle.mass_fold.proofs.Drawings.{spread_none, spread_next, spread_blames, set_as}
 use Rattle.mass_fold.proofs.draws.spread.Goals as goal
 
 pub loop-i-init : goal.loop-i-init
-loop-i-init c = record { so_far = spread_none _ _ c.args.x c.args.s.now c.args.h refl; sized = λ m e h. h }
+loop-i-init c = record { so_far = spread_none _ _ c.args.x c.args.s.now c.args.h refl; vars = refl }
+
+pub put-requires : goal.put-requires
+put-requires c =
+    let z : pos c.loop-i.i ≡ to_z w64 c.loop-i.i = omega (arith, ints) in
+    let q = set_as c.args.s.now c.in-Ok.t c.set.new.self c.args.x c.loop-i.i _ c.in-Ok.ensures z c.set.ensures in
+    ap length q ∙ length-set c.args.s.now c.args.x (pos c.loop-i.i) ∙ c.requires.sized ∙ sym c.loop-i.invariant.vars
 
 pub returns-in-Err-put-clause-cause : goal.returns-in-Err-put-clause-cause
 returns-in-Err-put-clause-cause c =
@@ -19,11 +25,8 @@ loop-i-preserved c =
     let q = set_as c.args.s.now c.in-Ok.t c.set.new.self c.args.x c.loop-i.i _ c.in-Ok.ensures z c.set.ensures in
     record {
       so_far = spread_next _ _ _ c.args.x c.loop-i.i c.args.s.now c.set.new.self c.args.h c.loop-i.invariant.so_far q c.in_default.ensures.ok;
-      sized = λ m e h. c.in_default.ensures.sized m (ap length q ∙ set_length c.args.s.now c.args.x (pos c.loop-i.i) ∙ e) (c.loop-i.invariant.sized m e h);
+      vars = c.put.ensures.vars ∙ c.loop-i.invariant.vars;
     }
 
 pub returns-clause-ok : goal.returns-clause-ok
-returns-clause-ok c = let e : c.loop-i.i ≡ c.args.bound = omega arith in subst (λ n. SpreadGives c.args.next.now.entries c.loop-i.next.entries c.args.x n c.args.s.now c.args.h) e c.loop-i.invariant.so_far
-
-pub returns-clause-sized : goal.returns-clause-sized
-returns-clause-sized c = c.loop-i.invariant.sized
+returns-clause-ok c = let e : c.loop-i.i ≡ c.args.bound = omega arith in subst (λ n. SpreadGives c.args.next.now.states.entries c.loop-i.next.states.entries c.args.x n c.args.s.now c.args.h) e c.loop-i.invariant.so_far

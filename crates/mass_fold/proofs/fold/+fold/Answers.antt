@@ -1,10 +1,10 @@
-use Rattle.std.proofs.Common.{rules, ◌≡◌, ◌+◌, ◌-◌, suc, arith, sym, ap, ◌∙◌, subst, length}
+use Rattle.std.proofs.Common.{rules, ◌≡◌, ◌+◌, ◌-◌, suc, arith, refl, sym, ap, ◌∙◌, subst, length}
 use Rattle.gcl_core.specs.declared.syntax.Stmt.{the_lemmas}
+use Rattle.gcl_core.specs.Bounds.{StatementBelow, BlockBelow}
 use Rattle.gcl_core.specs.Views.{expression_of, statement_of, statements_of, list_of}
-use Rattle.gcl_core.specs.Value.{value_of}
+use Rattle.gcl_core.specs.Value.{value_of, Reads}
 use Rattle.mass_tables.specs.Tables.{block_flow, loop_flow}
 use Rattle.gcl_core.proofs.ViewLemmas.{skip_view, set_view, observe_view, if_view, while_view, choice_view, uniform_view}
-use Rattle.mass_fold.specs.Amounts.{Sized}
 use Rattle.mass_fold.specs.Fold.{FoldBlames}
 use Rattle.mass_fold.proofs.Fitting.{below_as, weights_as, folds_as, blames_as, list_step, below_next, weights_next, along_list, below_list, empty_of}
 use Rattle.mass_fold.proofs.Folds.{rest_next, blames_next, blames_here, rest_none, fold_empty, fold_skip, fold_assign, assign_blames, fold_observe, observe_blames, failed_blames, fold_branch, fold_draw, draw_blames}
@@ -20,10 +20,10 @@ use Rattle.mass_fold.proofs.fold.+fold.Goals as goal
 pub fold_block-fold_stmt-requires : goal.fold_block-fold_stmt-requires
 fold_block-fold_stmt-requires t c =
     let p = list_step c.deref-s-items.result.now c.loop-s.s-index c.s-item.result c.loop-s-test.true c.s-item.is in
-    let m = c.requires.fits.count in (
+    let m = c.args.table.vars in (
       search (rules, the_lemmas),
       (
-        record { count = m; fact = (below_next m _ _ _ p (c.loop-s.invariant.below m (below_list m _ _ c.deref-s-items.ensures.value c.requires.fits.fact))).0; sized = c.loop-s.invariant.sized m c.requires.fits.sized },
+        subst (λ m. StatementBelow m (statement_of c.s-item.result)) (sym c.loop-s.invariant.vars) (below_next m _ _ _ p (c.loop-s.invariant.below m (below_list m _ _ c.deref-s-items.ensures.value c.requires.below))).0,
         ((weights_next _ _ _ p (c.loop-s.invariant.weights (along_list _ _ c.deref-s-items.ensures.value c.requires.weights))).0, c.requires.some),
       ),
     )
@@ -31,7 +31,7 @@ fold_block-fold_stmt-requires t c =
 pub fold_block-returns-in-Err-clause-cause : goal.fold_block-returns-in-Err-clause-cause
 fold_block-returns-in-Err-clause-cause t c =
     let p = list_step c.deref-s-items.result.now c.loop-s.s-index c.s-item.result c.loop-s-test.true c.s-item.is in
-    subst (λ z. FoldBlames (block_flow c.args.turns c.args.attempts (list_of z)) c.args.table.entries c.args.ended.now c.in-Err.error) c.deref-s-items.ensures.value
+    subst (λ z. FoldBlames (block_flow c.args.turns c.args.attempts (list_of z)) c.args.table.states.entries c.args.ended.now c.in-Err.error) c.deref-s-items.ensures.value
     (blames_here c.args.turns c.args.attempts (block_flow c.args.turns c.args.attempts (list_of c.deref-s-items.result.now)) _ _ _ _ _ _ _ _ p c.loop-s.invariant.blames c.in-Err.ensures.cause)
 
 pub fold_block-loop-s-preserved : goal.fold_block-loop-s-preserved
@@ -41,7 +41,7 @@ fold_block-loop-s-preserved t c =
     record {
       below = λ m h. (below_next m _ _ _ p (c.loop-s.invariant.below m h)).1;
       weights = λ h. (weights_next _ _ _ p (c.loop-s.invariant.weights h)).1;
-      sized = λ m h. c.in-Ok.ensures.sized m (c.loop-s.invariant.sized m h);
+      vars = c.in-Ok.ensures.vars ∙ c.loop-s.invariant.vars;
       so_far = rest_next c.args.turns c.args.attempts (block_flow c.args.turns c.args.attempts (list_of c.deref-s-items.result.now)) _ _ _ _ _ _ _ _ _ p c.loop-s.invariant.so_far c.in-Ok.ensures.ok;
       bits = meters_next c.args.turns c.args.attempts (block_flow c.args.turns c.args.attempts (list_of c.deref-s-items.result.now)) (block_draws c.args.turns c.args.attempts (list_of c.deref-s-items.result.now)) _ _ _ _ _ _ _ _ _ _ _ _ p c.loop-s.invariant.bits c.in-Ok.ensures.ok c.in-Ok.ensures.bits;
       blames = blames_next c.args.turns c.args.attempts (block_flow c.args.turns c.args.attempts (list_of c.deref-s-items.result.now)) _ _ _ _ _ _ _ _ _ p w c.loop-s.invariant.blames c.in-Ok.ensures.ok;
@@ -59,174 +59,161 @@ pub fold_loop-loop-init : goal.fold_loop-loop-init
 fold_loop-loop-init t c =
     let e : c.args.turns ≡ c.args.turns - 0 = omega arith in
     record {
-      now_sized = λ m h. h;
-      exits_sized = λ m h. subst (Sized m) (sym c.new-exits.ensures.empty) tt;
-      so_far = loops_at (loop_flow (value_of (expression_of c.args.e.now)) (block_flow c.args.turns c.args.attempts (statements_of c.args.body.now))) c.args.turns _ _ _ _ _ _ _ e (loop_start c.args.turns c.args.attempts (expression_of c.args.e.now) (statements_of c.args.body.now) c.args.table.entries c.args.ended.now c.new-exits.result.entries c.new-exits.ensures.empty);
-      bits = meters_at c.args.attempts (loop_flow (value_of (expression_of c.args.e.now)) (block_flow c.args.turns c.args.attempts (statements_of c.args.body.now))) (draws c.args.turns c.args.attempts (expression_of c.args.e.now) (statements_of c.args.body.now) c.args.table.entries c.args.ended.now c.args.meter.now) c.args.turns _ _ _ _ _ _ _ _ _ e (meter_start c.args.turns c.args.attempts (expression_of c.args.e.now) (statements_of c.args.body.now) c.args.table.entries c.args.ended.now c.args.meter.now c.new-exits.result.entries c.new-exits.ensures.empty);
+      now_vars = refl;
+      exits_vars = c.new-exits.ensures.vars;
+      so_far = loops_at (loop_flow (value_of (expression_of c.args.e.now)) (block_flow c.args.turns c.args.attempts (statements_of c.args.body.now))) c.args.turns _ _ _ _ _ _ _ e (loop_start c.args.turns c.args.attempts (expression_of c.args.e.now) (statements_of c.args.body.now) c.args.table.states.entries c.args.ended.now c.new-exits.result.states.entries c.new-exits.ensures.empty);
+      bits = meters_at c.args.attempts (loop_flow (value_of (expression_of c.args.e.now)) (block_flow c.args.turns c.args.attempts (statements_of c.args.body.now))) (draws c.args.turns c.args.attempts (expression_of c.args.e.now) (statements_of c.args.body.now) c.args.table.states.entries c.args.ended.now c.args.meter.now) c.args.turns _ _ _ _ _ _ _ _ _ e (meter_start c.args.turns c.args.attempts (expression_of c.args.e.now) (statements_of c.args.body.now) c.args.table.states.entries c.args.ended.now c.args.meter.now c.new-exits.result.states.entries c.new-exits.ensures.empty);
     }
 
 pub fold_loop-returns-then-len-eq0-clause-ok : goal.fold_loop-returns-then-len-eq0-clause-ok
 fold_loop-returns-then-len-eq0-clause-ok t c =
-    loop_dry c.args.turns c.args.attempts (expression_of c.args.e.now) (statements_of c.args.body.now) c.args.table.entries c.args.ended.now (c.args.turns - c.loop.counter) c.loop.now.entries c.loop.exits.entries c.loop.ended c.loop.invariant.so_far c.requires.weights (empty_of c.loop.now.entries (sym c.len.ensures.len ∙ c.if-len-eq0.true))
+    loop_dry c.args.turns c.args.attempts (expression_of c.args.e.now) (statements_of c.args.body.now) c.args.table.states.entries c.args.ended.now (c.args.turns - c.loop.counter) c.loop.now.states.entries c.loop.exits.states.entries c.loop.ended c.loop.invariant.so_far c.requires.weights (empty_of c.loop.now.states.entries (sym c.len.ensures.len ∙ c.if-len-eq0.true))
 
 pub fold_loop-split-requires : goal.fold_loop-split-requires
-fold_loop-split-requires t c =
-    record { count = c.requires.fits.count; fact = c.requires.fits.fact.0; sized = c.loop.invariant.now_sized c.requires.fits.count c.requires.fits.sized }
+fold_loop-split-requires t c = subst (Reads (expression_of c.args.e.now)) (sym c.loop.invariant.now_vars) c.requires.reads
 
 pub fold_loop-split-requires-2 : goal.fold_loop-split-requires-2
-fold_loop-split-requires-2 t c =
-    record { count = c.requires.fits.count; fact = c.requires.fits.fact.0; sized = c.loop.invariant.now_sized c.requires.fits.count c.requires.fits.sized }
+fold_loop-split-requires-2 t c = subst (Reads (expression_of c.args.e.now)) (sym c.loop.invariant.now_vars) c.requires.reads
 
 pub fold_loop-fold_block-requires : goal.fold_loop-fold_block-requires
 fold_loop-fold_block-requires t c =
-    let m = c.requires.fits.count in
-    (search (rules, the_lemmas), (record { count = m; fact = c.requires.fits.fact.1; sized = c.in-Ok.ensures.first_sized m (c.loop.invariant.now_sized m c.requires.fits.sized) }, (c.requires.weights, c.requires.some)))
+    let m : c.in-Ok.first.vars ≡ c.args.table.vars = c.in-Ok.ensures.vars.0 ∙ c.loop.invariant.now_vars in
+    (search (rules, the_lemmas), (subst (λ m. BlockBelow m (statements_of c.args.body.now)) (sym m) c.requires.below, (c.requires.weights, c.requires.some)))
 
 pub fold_loop-returns-in-Err-merge-clause-cause : goal.fold_loop-returns-in-Err-merge-clause-cause
 fold_loop-returns-in-Err-merge-clause-cause t c =
-    exits_blame c.args.turns c.args.attempts (expression_of c.args.e.now) (statements_of c.args.body.now) c.args.table.entries c.args.ended.now (c.args.turns - c.loop.counter) c.loop.now.entries c.loop.exits.entries c.loop.ended c.loop.invariant.so_far _ _ _ c.in-Ok.ensures.first c.in-Ok.ensures.second _ c.requires.weights c.in-Err-merge.ensures.cause
+    exits_blame c.args.turns c.args.attempts (expression_of c.args.e.now) (statements_of c.args.body.now) c.args.table.states.entries c.args.ended.now (c.args.turns - c.loop.counter) c.loop.now.states.entries c.loop.exits.states.entries c.loop.ended c.loop.invariant.so_far _ _ _ c.in-Ok.ensures.first c.in-Ok.ensures.second _ c.requires.weights c.in-Err-merge.ensures.cause
 
 pub fold_loop-returns-in-Err-fold_block-clause-cause : goal.fold_loop-returns-in-Err-fold_block-clause-cause
 fold_loop-returns-in-Err-fold_block-clause-cause t c =
     let e : c.args.turns - c.loop.counter ≡ suc (c.args.turns - (c.loop.counter + 1)) = omega arith in
     let l = loops_at (loop_flow (value_of (expression_of c.args.e.now)) (block_flow c.args.turns c.args.attempts (statements_of c.args.body.now))) c.args.turns _ _ _ _ _ _ _ e c.loop.invariant.so_far in
-    body_blames c.args.turns c.args.attempts (expression_of c.args.e.now) (statements_of c.args.body.now) c.args.table.entries c.args.ended.now (c.args.turns - (c.loop.counter + 1)) c.loop.now.entries c.loop.exits.entries c.loop.ended l _ _ _ c.in-Ok.ensures.first c.in-Ok.ensures.second _ c.requires.weights c.in-Err-fold_block.ensures.cause
+    body_blames c.args.turns c.args.attempts (expression_of c.args.e.now) (statements_of c.args.body.now) c.args.table.states.entries c.args.ended.now (c.args.turns - (c.loop.counter + 1)) c.loop.now.states.entries c.loop.exits.states.entries c.loop.ended l _ _ _ c.in-Ok.ensures.first c.in-Ok.ensures.second _ c.requires.weights c.in-Err-fold_block.ensures.cause
 
 pub fold_loop-returns-in-Err-clause-cause : goal.fold_loop-returns-in-Err-clause-cause
 fold_loop-returns-in-Err-clause-cause t c =
-    guard_blames c.args.turns c.args.attempts (expression_of c.args.e.now) (statements_of c.args.body.now) c.args.table.entries c.args.ended.now (c.args.turns - c.loop.counter) c.loop.now.entries c.loop.exits.entries c.loop.ended c.loop.invariant.so_far _ c.requires.weights c.in-Err.ensures.cause
+    guard_blames c.args.turns c.args.attempts (expression_of c.args.e.now) (statements_of c.args.body.now) c.args.table.states.entries c.args.ended.now (c.args.turns - c.loop.counter) c.loop.now.states.entries c.loop.exits.states.entries c.loop.ended c.loop.invariant.so_far _ c.requires.weights c.in-Err.ensures.cause
 
 pub fold_loop-loop-preserved : goal.fold_loop-loop-preserved
 fold_loop-loop-preserved t c =
     let e : c.args.turns - c.loop.counter ≡ suc (c.args.turns - (c.loop.counter + 1)) = omega arith in
     let l = loops_at (loop_flow (value_of (expression_of c.args.e.now)) (block_flow c.args.turns c.args.attempts (statements_of c.args.body.now))) c.args.turns _ _ _ _ _ _ _ e c.loop.invariant.so_far in
     record {
-      now_sized = λ m h. c.in-Ok-fold_block.ensures.sized m (c.in-Ok.ensures.first_sized m (c.loop.invariant.now_sized m h));
-      exits_sized = λ m h. c.in_default.ensures.sized m (c.loop.invariant.exits_sized m h) (c.in-Ok.ensures.second_sized m (c.loop.invariant.now_sized m h));
-      so_far = loop_turn c.args.turns c.args.attempts (expression_of c.args.e.now) (statements_of c.args.body.now) c.args.table.entries c.args.ended.now (c.args.turns - (c.loop.counter + 1)) c.loop.now.entries c.loop.exits.entries c.loop.ended l _ _ _ c.in-Ok.ensures.first c.in-Ok.ensures.second _ _ _ c.in_default.ensures.ok c.in-Ok-fold_block.ensures.ok;
-      bits = meter_turn c.args.turns c.args.attempts (expression_of c.args.e.now) (statements_of c.args.body.now) c.args.table.entries c.args.ended.now c.args.meter.now (c.args.turns - (c.loop.counter + 1)) c.loop.now.entries c.loop.exits.entries c.loop.ended c.loop.meter (meters_at c.args.attempts (loop_flow (value_of (expression_of c.args.e.now)) (block_flow c.args.turns c.args.attempts (statements_of c.args.body.now))) (draws c.args.turns c.args.attempts (expression_of c.args.e.now) (statements_of c.args.body.now) c.args.table.entries c.args.ended.now c.args.meter.now) c.args.turns _ _ _ _ _ _ _ _ _ e c.loop.invariant.bits) _ _ _ c.in-Ok.ensures.first c.in-Ok.ensures.second _ _ _ _ c.in_default.ensures.ok c.in-Ok-fold_block.ensures.ok c.in-Ok-fold_block.ensures.bits;
+      now_vars = c.in-Ok-fold_block.ensures.vars ∙ c.in-Ok.ensures.vars.0 ∙ c.loop.invariant.now_vars;
+      exits_vars = c.merge.ensures.vars ∙ c.loop.invariant.exits_vars;
+      so_far = loop_turn c.args.turns c.args.attempts (expression_of c.args.e.now) (statements_of c.args.body.now) c.args.table.states.entries c.args.ended.now (c.args.turns - (c.loop.counter + 1)) c.loop.now.states.entries c.loop.exits.states.entries c.loop.ended l _ _ _ c.in-Ok.ensures.first c.in-Ok.ensures.second _ _ _ c.in_default.ensures.ok c.in-Ok-fold_block.ensures.ok;
+      bits = meter_turn c.args.turns c.args.attempts (expression_of c.args.e.now) (statements_of c.args.body.now) c.args.table.states.entries c.args.ended.now c.args.meter.now (c.args.turns - (c.loop.counter + 1)) c.loop.now.states.entries c.loop.exits.states.entries c.loop.ended c.loop.meter (meters_at c.args.attempts (loop_flow (value_of (expression_of c.args.e.now)) (block_flow c.args.turns c.args.attempts (statements_of c.args.body.now))) (draws c.args.turns c.args.attempts (expression_of c.args.e.now) (statements_of c.args.body.now) c.args.table.states.entries c.args.ended.now c.args.meter.now) c.args.turns _ _ _ _ _ _ _ _ _ e c.loop.invariant.bits) _ _ _ c.in-Ok.ensures.first c.in-Ok.ensures.second _ _ _ _ c.in_default.ensures.ok c.in-Ok-fold_block.ensures.ok c.in-Ok-fold_block.ensures.bits;
     }
 
 pub fold_loop-returns-then-len-eq0-clause-bits : goal.fold_loop-returns-then-len-eq0-clause-bits
 fold_loop-returns-then-len-eq0-clause-bits t c =
-    meter_dry c.args.turns c.args.attempts (expression_of c.args.e.now) (statements_of c.args.body.now) c.args.table.entries c.args.ended.now c.args.meter.now (c.args.turns - c.loop.counter) c.loop.now.entries c.loop.exits.entries c.loop.ended c.loop.meter c.requires.weights (empty_of c.loop.now.entries (sym c.len.ensures.len ∙ c.if-len-eq0.true)) c.loop.invariant.bits
+    meter_dry c.args.turns c.args.attempts (expression_of c.args.e.now) (statements_of c.args.body.now) c.args.table.states.entries c.args.ended.now c.args.meter.now (c.args.turns - c.loop.counter) c.loop.now.states.entries c.loop.exits.states.entries c.loop.ended c.loop.meter c.requires.weights (empty_of c.loop.now.states.entries (sym c.len.ensures.len ∙ c.if-len-eq0.true)) c.loop.invariant.bits
 
 pub fold_loop-returns-in-Ok-end_all-clause-bits : goal.fold_loop-returns-in-Ok-end_all-clause-bits
 fold_loop-returns-in-Ok-end_all-clause-bits t c =
-    meter_end c.args.turns c.args.attempts (expression_of c.args.e.now) (statements_of c.args.body.now) c.args.table.entries c.args.ended.now c.args.meter.now (c.args.turns - c.loop.counter) c.loop.now.entries c.loop.exits.entries c.loop.ended c.loop.meter (omega arith) c.loop.invariant.bits
+    meter_end c.args.turns c.args.attempts (expression_of c.args.e.now) (statements_of c.args.body.now) c.args.table.states.entries c.args.ended.now c.args.meter.now (c.args.turns - c.loop.counter) c.loop.now.states.entries c.loop.exits.states.entries c.loop.ended c.loop.meter (omega arith) c.loop.invariant.bits
 
 pub fold_loop-returns-in-Err-merge-2-clause-cause : goal.fold_loop-returns-in-Err-merge-2-clause-cause
 fold_loop-returns-in-Err-merge-2-clause-cause t c =
-    exits_blame c.args.turns c.args.attempts (expression_of c.args.e.now) (statements_of c.args.body.now) c.args.table.entries c.args.ended.now (c.args.turns - c.loop.counter) c.loop.now.entries c.loop.exits.entries c.loop.ended c.loop.invariant.so_far _ _ _ c.in-Ok-split.ensures.first c.in-Ok-split.ensures.second _ c.requires.weights c.in-Err-merge-2.ensures.cause
+    exits_blame c.args.turns c.args.attempts (expression_of c.args.e.now) (statements_of c.args.body.now) c.args.table.states.entries c.args.ended.now (c.args.turns - c.loop.counter) c.loop.now.states.entries c.loop.exits.states.entries c.loop.ended c.loop.invariant.so_far _ _ _ c.in-Ok-split.ensures.first c.in-Ok-split.ensures.second _ c.requires.weights c.in-Err-merge-2.ensures.cause
 
 pub fold_loop-returns-in-Ok-end_all-clause-ok : goal.fold_loop-returns-in-Ok-end_all-clause-ok
 fold_loop-returns-in-Ok-end_all-clause-ok t c =
     let e : c.args.turns - c.loop.counter ≡ 0 = omega arith in
     let l = loops_at (loop_flow (value_of (expression_of c.args.e.now)) (block_flow c.args.turns c.args.attempts (statements_of c.args.body.now))) c.args.turns _ _ _ _ _ _ _ e c.loop.invariant.so_far in
-    loop_end c.args.turns c.args.attempts (expression_of c.args.e.now) (statements_of c.args.body.now) c.args.table.entries c.args.ended.now c.loop.now.entries c.loop.exits.entries c.loop.ended l _ _ _ c.in-Ok-split.ensures.first c.in-Ok-split.ensures.second _ _ c.in_default-merge.ensures.ok c.in-Ok-end_all.ensures.ok
-
-pub fold_loop-returns-in-Ok-end_all-clause-sized : goal.fold_loop-returns-in-Ok-end_all-clause-sized
-fold_loop-returns-in-Ok-end_all-clause-sized t c =
-    λ m h. c.in_default-merge.ensures.sized m (c.loop.invariant.exits_sized m h) (c.in-Ok-split.ensures.second_sized m (c.loop.invariant.now_sized m h))
+    loop_end c.args.turns c.args.attempts (expression_of c.args.e.now) (statements_of c.args.body.now) c.args.table.states.entries c.args.ended.now c.loop.now.states.entries c.loop.exits.states.entries c.loop.ended l _ _ _ c.in-Ok-split.ensures.first c.in-Ok-split.ensures.second _ _ c.in_default-merge.ensures.ok c.in-Ok-end_all.ensures.ok
 
 pub fold_loop-returns-in-Err-end_all-clause-cause : goal.fold_loop-returns-in-Err-end_all-clause-cause
 fold_loop-returns-in-Err-end_all-clause-cause t c =
     let e : c.args.turns - c.loop.counter ≡ 0 = omega arith in
     let l = loops_at (loop_flow (value_of (expression_of c.args.e.now)) (block_flow c.args.turns c.args.attempts (statements_of c.args.body.now))) c.args.turns _ _ _ _ _ _ _ e c.loop.invariant.so_far in
-    turns_blame c.args.turns c.args.attempts (expression_of c.args.e.now) (statements_of c.args.body.now) c.args.table.entries c.args.ended.now c.loop.now.entries c.loop.exits.entries c.loop.ended l _ _ _ c.in-Ok-split.ensures.first c.in-Ok-split.ensures.second _ c.requires.weights c.in-Err-end_all.ensures.cause
+    turns_blame c.args.turns c.args.attempts (expression_of c.args.e.now) (statements_of c.args.body.now) c.args.table.states.entries c.args.ended.now c.loop.now.states.entries c.loop.exits.states.entries c.loop.ended l _ _ _ c.in-Ok-split.ensures.first c.in-Ok-split.ensures.second _ c.requires.weights c.in-Err-end_all.ensures.cause
 
 pub fold_loop-returns-in-Err-split-clause-cause : goal.fold_loop-returns-in-Err-split-clause-cause
 fold_loop-returns-in-Err-split-clause-cause t c =
-    guard_blames c.args.turns c.args.attempts (expression_of c.args.e.now) (statements_of c.args.body.now) c.args.table.entries c.args.ended.now (c.args.turns - c.loop.counter) c.loop.now.entries c.loop.exits.entries c.loop.ended c.loop.invariant.so_far _ c.requires.weights c.in-Err-split.ensures.cause
+    guard_blames c.args.turns c.args.attempts (expression_of c.args.e.now) (statements_of c.args.body.now) c.args.table.states.entries c.args.ended.now (c.args.turns - c.loop.counter) c.loop.now.states.entries c.loop.exits.states.entries c.loop.ended c.loop.invariant.so_far _ c.requires.weights c.in-Err-split.ensures.cause
 
 pub fold_stmt-returns-then-len-eq0-clause-ok : goal.fold_stmt-returns-then-len-eq0-clause-ok
 fold_stmt-returns-then-len-eq0-clause-ok t c =
-    fold_empty c.args.turns c.args.attempts _ c.args.table.entries c.args.ended.now c.requires.weights (empty_of c.args.table.entries (sym c.len.ensures.len ∙ c.if-len-eq0.true))
+    fold_empty c.args.turns c.args.attempts _ c.args.table.states.entries c.args.ended.now c.requires.weights (empty_of c.args.table.states.entries (sym c.len.ensures.len ∙ c.if-len-eq0.true))
 
 pub fold_stmt-returns-in-Skip-clause-ok : goal.fold_stmt-returns-in-Skip-clause-ok
-fold_stmt-returns-in-Skip-clause-ok t c = folds_as c.args.turns c.args.attempts _ _ _ _ _ _ (ap statement_of c.in-Skip.is ∙ skip_view) (fold_skip c.args.turns c.args.attempts c.args.table.entries c.args.ended.now)
+fold_stmt-returns-in-Skip-clause-ok t c = folds_as c.args.turns c.args.attempts _ _ _ _ _ _ (ap statement_of c.in-Skip.is ∙ skip_view) (fold_skip c.args.turns c.args.attempts c.args.table.states.entries c.args.ended.now)
 
 pub fold_stmt-returns-in-Ok-clause-ok : goal.fold_stmt-returns-in-Ok-clause-ok
 fold_stmt-returns-in-Ok-clause-ok t c =
     folds_as c.args.turns c.args.attempts _ _ _ _ _ _ (ap statement_of c.in-Set.is ∙ set_view c.in-Set.x c.in-Set.e)
-    (fold_assign c.args.turns c.args.attempts c.in-Set.x (expression_of c.in-Set.e) c.args.table.entries c.args.ended.now _ _ c.in-Ok.ensures.ok)
+    (fold_assign c.args.turns c.args.attempts c.in-Set.x (expression_of c.in-Set.e) c.args.table.states.entries c.args.ended.now _ _ c.in-Ok.ensures.ok)
 
 pub fold_stmt-returns-in-Set-clause-cause : goal.fold_stmt-returns-in-Set-clause-cause
 fold_stmt-returns-in-Set-clause-cause t c =
     blames_as c.args.turns c.args.attempts _ _ _ _ _ (ap statement_of c.in-Set.is ∙ set_view c.in-Set.x c.in-Set.e)
-    (assign_blames c.args.turns c.args.attempts c.in-Set.x (expression_of c.in-Set.e) c.args.table.entries c.args.ended.now _ c.in-Err.ensures.cause)
+    (assign_blames c.args.turns c.args.attempts c.in-Set.x (expression_of c.in-Set.e) c.args.table.states.entries c.args.ended.now _ c.in-Err.ensures.cause)
 
 pub fold_stmt-returns-in-Ok-draw-clause-ok : goal.fold_stmt-returns-in-Ok-draw-clause-ok
 fold_stmt-returns-in-Ok-draw-clause-ok t c =
     folds_as c.args.turns c.args.attempts _ _ _ _ _ _ (ap statement_of c.in-Uniform.is ∙ uniform_view c.in-Uniform.x c.in-Uniform.e)
-    (fold_draw c.args.turns c.args.attempts c.in-Uniform.x (expression_of c.in-Uniform.e) c.args.table.entries c.args.ended.now c.len.ensures.ordered _ _ c.in-Ok-draw.ensures.ok)
+    (fold_draw c.args.turns c.args.attempts c.in-Uniform.x (expression_of c.in-Uniform.e) c.args.table.states.entries c.args.ended.now c.len.ensures.ordered _ _ c.in-Ok-draw.ensures.ok)
 
 pub fold_stmt-returns-in-Uniform-clause-cause : goal.fold_stmt-returns-in-Uniform-clause-cause
 fold_stmt-returns-in-Uniform-clause-cause t c =
     blames_as c.args.turns c.args.attempts _ _ _ _ _ (ap statement_of c.in-Uniform.is ∙ uniform_view c.in-Uniform.x c.in-Uniform.e)
-    (draw_blames c.args.turns c.args.attempts c.in-Uniform.x (expression_of c.in-Uniform.e) c.args.table.entries c.args.ended.now c.len.ensures.ordered _ c.in-Err-draw.ensures.cause)
+    (draw_blames c.args.turns c.args.attempts c.in-Uniform.x (expression_of c.in-Uniform.e) c.args.table.states.entries c.args.ended.now c.len.ensures.ordered _ c.in-Err-draw.ensures.cause)
 
 pub fold_stmt-returns-in-Ok-end_all-clause-ok : goal.fold_stmt-returns-in-Ok-end_all-clause-ok
 fold_stmt-returns-in-Ok-end_all-clause-ok t c =
     folds_as c.args.turns c.args.attempts _ _ _ _ _ _ (ap statement_of c.in-Observe.is ∙ observe_view c.in-Observe.e)
-    (fold_observe c.args.turns c.args.attempts (expression_of c.in-Observe.e) c.args.table.entries c.args.ended.now _ _ _ _ c.in-Ok-split.ensures.first c.in-Ok-split.ensures.second c.in-Ok-end_all.ensures.ok)
+    (fold_observe c.args.turns c.args.attempts (expression_of c.in-Observe.e) c.args.table.states.entries c.args.ended.now _ _ _ _ c.in-Ok-split.ensures.first c.in-Ok-split.ensures.second c.in-Ok-end_all.ensures.ok)
 
 pub fold_stmt-returns-in-Ok-split-clause-cause : goal.fold_stmt-returns-in-Ok-split-clause-cause
 fold_stmt-returns-in-Ok-split-clause-cause t c =
     blames_as c.args.turns c.args.attempts _ _ _ _ _ (ap statement_of c.in-Observe.is ∙ observe_view c.in-Observe.e)
-    (failed_blames c.args.turns c.args.attempts (expression_of c.in-Observe.e) c.args.table.entries _ _ c.args.ended.now _ _ c.in-Ok-split.ensures.first c.in-Ok-split.ensures.second c.in-Err-end_all.ensures.cause)
+    (failed_blames c.args.turns c.args.attempts (expression_of c.in-Observe.e) c.args.table.states.entries _ _ c.args.ended.now _ _ c.in-Ok-split.ensures.first c.in-Ok-split.ensures.second c.in-Err-end_all.ensures.cause)
 
 pub fold_stmt-returns-in-Observe-clause-cause : goal.fold_stmt-returns-in-Observe-clause-cause
 fold_stmt-returns-in-Observe-clause-cause t c =
     blames_as c.args.turns c.args.attempts _ _ _ _ _ (ap statement_of c.in-Observe.is ∙ observe_view c.in-Observe.e)
-    (observe_blames c.args.turns c.args.attempts (expression_of c.in-Observe.e) c.args.table.entries c.args.ended.now _ c.in-Err-split.ensures.cause)
+    (observe_blames c.args.turns c.args.attempts (expression_of c.in-Observe.e) c.args.table.states.entries c.args.ended.now _ c.in-Err-split.ensures.cause)
 
 pub fold_stmt-fold_block-requires : goal.fold_stmt-fold_block-requires
 fold_stmt-fold_block-requires t c =
-    let m = c.requires.fits.count in
     let q = (ap statement_of c.in-If.is ∙ if_view c.in-If.e c.in-If.a c.in-If.c) in
-    (search (rules, the_lemmas), (record { count = m; fact = (below_as m _ _ q c.requires.fits.fact).1; sized = c.in-Ok-split-2.ensures.first_sized m c.requires.fits.sized }, ((weights_as _ _ q c.requires.weights).0, c.requires.some)))
+    (search (rules, the_lemmas), (subst (λ m. BlockBelow m (statements_of c.in-If.a)) (sym c.in-Ok-split-2.ensures.vars.0) (below_as _ _ _ q c.requires.below).1, ((weights_as _ _ q c.requires.weights).0, c.requires.some)))
 
 pub fold_stmt-fold_block-requires-in-Ok-fold_block : goal.fold_stmt-fold_block-requires-in-Ok-fold_block
 fold_stmt-fold_block-requires-in-Ok-fold_block t c =
-    let m = c.requires.fits.count in
     let q = (ap statement_of c.in-If.is ∙ if_view c.in-If.e c.in-If.a c.in-If.c) in
-    (search (rules, the_lemmas), (record { count = m; fact = (below_as m _ _ q c.requires.fits.fact).2; sized = c.in-Ok-split-2.ensures.second_sized m c.requires.fits.sized }, ((weights_as _ _ q c.requires.weights).1, c.requires.some)))
+    (search (rules, the_lemmas), (subst (λ m. BlockBelow m (statements_of c.in-If.c)) (sym c.in-Ok-split-2.ensures.vars.1) (below_as _ _ _ q c.requires.below).2, ((weights_as _ _ q c.requires.weights).1, c.requires.some)))
 
 pub fold_stmt-returns-in-Ok-merge-clause-ok : goal.fold_stmt-returns-in-Ok-merge-clause-ok
 fold_stmt-returns-in-Ok-merge-clause-ok t c =
     folds_as c.args.turns c.args.attempts _ _ _ _ _ _ (ap statement_of c.in-If.is ∙ if_view c.in-If.e c.in-If.a c.in-If.c)
-    (fold_branch c.args.turns c.args.attempts (expression_of c.in-If.e) (statements_of c.in-If.a) (statements_of c.in-If.c) c.args.table.entries _ _ c.args.ended.now _ c.in-Ok-split-2.ensures.first c.in-Ok-split-2.ensures.second _ _ _ _ _ c.in-Ok-fold_block.ensures.ok c.in-Ok-fold_block-2.ensures.ok c.in-Ok-merge.ensures.ok)
-
-pub fold_stmt-returns-in-Ok-merge-clause-sized : goal.fold_stmt-returns-in-Ok-merge-clause-sized
-fold_stmt-returns-in-Ok-merge-clause-sized t c =
-    λ m h. c.in-Ok-merge.ensures.sized m (c.in-Ok-fold_block.ensures.sized m (c.in-Ok-split-2.ensures.first_sized m h)) (c.in-Ok-fold_block-2.ensures.sized m (c.in-Ok-split-2.ensures.second_sized m h))
+    (fold_branch c.args.turns c.args.attempts (expression_of c.in-If.e) (statements_of c.in-If.a) (statements_of c.in-If.c) c.args.table.states.entries _ _ c.args.ended.now _ c.in-Ok-split-2.ensures.first c.in-Ok-split-2.ensures.second _ _ _ _ _ c.in-Ok-fold_block.ensures.ok c.in-Ok-fold_block-2.ensures.ok c.in-Ok-merge.ensures.ok)
 
 pub fold_stmt-returns-in-Ok-fold_block-2-clause-cause : goal.fold_stmt-returns-in-Ok-fold_block-2-clause-cause
 fold_stmt-returns-in-Ok-fold_block-2-clause-cause t c =
     blames_as c.args.turns c.args.attempts _ _ _ _ _ (ap statement_of c.in-If.is ∙ if_view c.in-If.e c.in-If.a c.in-If.c)
-    (let ws = weights_as _ _ (ap statement_of c.in-If.is ∙ if_view c.in-If.e c.in-If.a c.in-If.c) c.requires.weights in branches.both_blame c.args.turns c.args.attempts (expression_of c.in-If.e) (statements_of c.in-If.a) (statements_of c.in-If.c) c.args.table.entries _ _ c.args.ended.now _ c.in-Ok-split-2.ensures.first c.in-Ok-split-2.ensures.second _ _ c.in-Ok-fold_block.ensures.ok ws.0 _ _ _ ws.1 c.in-Ok-fold_block-2.ensures.ok c.in-Err-merge.ensures.cause)
+    (let ws = weights_as _ _ (ap statement_of c.in-If.is ∙ if_view c.in-If.e c.in-If.a c.in-If.c) c.requires.weights in branches.both_blame c.args.turns c.args.attempts (expression_of c.in-If.e) (statements_of c.in-If.a) (statements_of c.in-If.c) c.args.table.states.entries _ _ c.args.ended.now _ c.in-Ok-split-2.ensures.first c.in-Ok-split-2.ensures.second _ _ c.in-Ok-fold_block.ensures.ok ws.0 _ _ _ ws.1 c.in-Ok-fold_block-2.ensures.ok c.in-Err-merge.ensures.cause)
 
 pub fold_stmt-returns-in-Ok-fold_block-clause-cause : goal.fold_stmt-returns-in-Ok-fold_block-clause-cause
 fold_stmt-returns-in-Ok-fold_block-clause-cause t c =
     blames_as c.args.turns c.args.attempts _ _ _ _ _ (ap statement_of c.in-If.is ∙ if_view c.in-If.e c.in-If.a c.in-If.c)
-    (let ws = weights_as _ _ (ap statement_of c.in-If.is ∙ if_view c.in-If.e c.in-If.a c.in-If.c) c.requires.weights in branches.second_blames c.args.turns c.args.attempts (expression_of c.in-If.e) (statements_of c.in-If.a) (statements_of c.in-If.c) c.args.table.entries _ _ c.args.ended.now _ c.in-Ok-split-2.ensures.first c.in-Ok-split-2.ensures.second _ _ c.in-Ok-fold_block.ensures.ok ws.0 _ c.in-Err-fold_block-2.ensures.cause)
+    (let ws = weights_as _ _ (ap statement_of c.in-If.is ∙ if_view c.in-If.e c.in-If.a c.in-If.c) c.requires.weights in branches.second_blames c.args.turns c.args.attempts (expression_of c.in-If.e) (statements_of c.in-If.a) (statements_of c.in-If.c) c.args.table.states.entries _ _ c.args.ended.now _ c.in-Ok-split-2.ensures.first c.in-Ok-split-2.ensures.second _ _ c.in-Ok-fold_block.ensures.ok ws.0 _ c.in-Err-fold_block-2.ensures.cause)
 
 pub fold_stmt-returns-in-Ok-split-2-clause-cause : goal.fold_stmt-returns-in-Ok-split-2-clause-cause
 fold_stmt-returns-in-Ok-split-2-clause-cause t c =
     blames_as c.args.turns c.args.attempts _ _ _ _ _ (ap statement_of c.in-If.is ∙ if_view c.in-If.e c.in-If.a c.in-If.c)
-    (branches.first_blames c.args.turns c.args.attempts (expression_of c.in-If.e) (statements_of c.in-If.a) (statements_of c.in-If.c) c.args.table.entries _ _ c.args.ended.now _ c.in-Ok-split-2.ensures.first c.in-Ok-split-2.ensures.second _ c.in-Err-fold_block.ensures.cause)
+    (branches.first_blames c.args.turns c.args.attempts (expression_of c.in-If.e) (statements_of c.in-If.a) (statements_of c.in-If.c) c.args.table.states.entries _ _ c.args.ended.now _ c.in-Ok-split-2.ensures.first c.in-Ok-split-2.ensures.second _ c.in-Err-fold_block.ensures.cause)
 
 pub fold_stmt-returns-in-If-clause-cause : goal.fold_stmt-returns-in-If-clause-cause
 fold_stmt-returns-in-If-clause-cause t c =
     blames_as c.args.turns c.args.attempts _ _ _ _ _ (ap statement_of c.in-If.is ∙ if_view c.in-If.e c.in-If.a c.in-If.c)
-    (branches.branch_blames c.args.turns c.args.attempts (expression_of c.in-If.e) (statements_of c.in-If.a) (statements_of c.in-If.c) c.args.table.entries c.args.ended.now _ c.in-Err-split-2.ensures.cause)
+    (branches.branch_blames c.args.turns c.args.attempts (expression_of c.in-If.e) (statements_of c.in-If.a) (statements_of c.in-If.c) c.args.table.states.entries c.args.ended.now _ c.in-Err-split-2.ensures.cause)
 
 pub fold_stmt-fold_loop-requires : goal.fold_stmt-fold_loop-requires
 fold_stmt-fold_loop-requires t c =
-    let m = c.requires.fits.count in
     let q = (ap statement_of c.in-While.is ∙ while_view c.in-While.e c.in-While.body) in
-    (search (rules, the_lemmas), (record { count = m; fact = below_as m _ _ q c.requires.fits.fact; sized = c.requires.fits.sized }, (weights_as _ _ q c.requires.weights, c.requires.some)))
+    (search (rules, the_lemmas), ((below_as _ _ _ q c.requires.below).0, ((below_as _ _ _ q c.requires.below).1, (weights_as _ _ q c.requires.weights, c.requires.some))))
 
 pub fold_stmt-returns-in-Ok-fold_loop-clause-ok : goal.fold_stmt-returns-in-Ok-fold_loop-clause-ok
 fold_stmt-returns-in-Ok-fold_loop-clause-ok t c =
@@ -244,58 +231,52 @@ fold_stmt-sides-requires-clause-weight t c =
 
 pub fold_stmt-fold_block-requires-in-Ok-sides : goal.fold_stmt-fold_block-requires-in-Ok-sides
 fold_stmt-fold_block-requires-in-Ok-sides t c =
-    let m = c.requires.fits.count in
     let q = (ap statement_of c.in-Choice.is ∙ choice_view c.in-Choice.p c.in-Choice.a c.in-Choice.c) in
-    (search (rules, the_lemmas), (record { count = m; fact = (below_as m _ _ q c.requires.fits.fact).0; sized = c.in-Ok-sides.ensures.first_sized m c.requires.fits.sized }, ((weights_as _ _ q c.requires.weights).1, c.requires.some)))
+    (search (rules, the_lemmas), (subst (λ m. BlockBelow m (statements_of c.in-Choice.a)) (sym c.in-Ok-sides.ensures.vars.0) (below_as _ _ _ q c.requires.below).0, ((weights_as _ _ q c.requires.weights).1, c.requires.some)))
 
 pub fold_stmt-fold_block-requires-in-Ok-fold_block-3 : goal.fold_stmt-fold_block-requires-in-Ok-fold_block-3
 fold_stmt-fold_block-requires-in-Ok-fold_block-3 t c =
-    let m = c.requires.fits.count in
     let q = (ap statement_of c.in-Choice.is ∙ choice_view c.in-Choice.p c.in-Choice.a c.in-Choice.c) in
-    (search (rules, the_lemmas), (record { count = m; fact = (below_as m _ _ q c.requires.fits.fact).1; sized = c.in-Ok-sides.ensures.second_sized m c.requires.fits.sized }, ((weights_as _ _ q c.requires.weights).2, c.requires.some)))
+    (search (rules, the_lemmas), (subst (λ m. BlockBelow m (statements_of c.in-Choice.c)) (sym c.in-Ok-sides.ensures.vars.1) (below_as _ _ _ q c.requires.below).1, ((weights_as _ _ q c.requires.weights).2, c.requires.some)))
 
 pub fold_stmt-returns-in-Ok-merge-2-clause-ok : goal.fold_stmt-returns-in-Ok-merge-2-clause-ok
 fold_stmt-returns-in-Ok-merge-2-clause-ok t c =
     folds_as c.args.turns c.args.attempts _ _ _ _ _ _ (ap statement_of c.in-Choice.is ∙ choice_view c.in-Choice.p c.in-Choice.a c.in-Choice.c)
-    (let ws = weights_as _ _ (ap statement_of c.in-Choice.is ∙ choice_view c.in-Choice.p c.in-Choice.a c.in-Choice.c) c.requires.weights in fold_choice c.args.turns c.args.attempts c.in-Choice.p (statements_of c.in-Choice.a) (statements_of c.in-Choice.c) ws.0 c.args.table.entries c.args.ended.now _ _ _ c.in-Ok-sides.ensures.ok _ _ _ _ _ c.in-Ok-fold_block-3.ensures.ok c.in-Ok-fold_block-4.ensures.ok c.in-Ok-merge-2.ensures.ok)
-
-pub fold_stmt-returns-in-Ok-merge-2-clause-sized : goal.fold_stmt-returns-in-Ok-merge-2-clause-sized
-fold_stmt-returns-in-Ok-merge-2-clause-sized t c =
-    λ m h. c.in-Ok-merge-2.ensures.sized m (c.in-Ok-fold_block-3.ensures.sized m (c.in-Ok-sides.ensures.first_sized m h)) (c.in-Ok-fold_block-4.ensures.sized m (c.in-Ok-sides.ensures.second_sized m h))
+    (let ws = weights_as _ _ (ap statement_of c.in-Choice.is ∙ choice_view c.in-Choice.p c.in-Choice.a c.in-Choice.c) c.requires.weights in fold_choice c.args.turns c.args.attempts c.in-Choice.p (statements_of c.in-Choice.a) (statements_of c.in-Choice.c) ws.0 c.args.table.states.entries c.args.ended.now _ _ _ c.in-Ok-sides.ensures.ok _ _ _ _ _ c.in-Ok-fold_block-3.ensures.ok c.in-Ok-fold_block-4.ensures.ok c.in-Ok-merge-2.ensures.ok)
 
 pub fold_stmt-returns-in-Ok-fold_block-4-clause-cause : goal.fold_stmt-returns-in-Ok-fold_block-4-clause-cause
 fold_stmt-returns-in-Ok-fold_block-4-clause-cause t c =
     blames_as c.args.turns c.args.attempts _ _ _ _ _ (ap statement_of c.in-Choice.is ∙ choice_view c.in-Choice.p c.in-Choice.a c.in-Choice.c)
-    (let ws = weights_as _ _ (ap statement_of c.in-Choice.is ∙ choice_view c.in-Choice.p c.in-Choice.a c.in-Choice.c) c.requires.weights in choices.both_blame c.args.turns c.args.attempts c.in-Choice.p (statements_of c.in-Choice.a) (statements_of c.in-Choice.c) ws.0 c.args.table.entries c.args.ended.now _ _ _ c.in-Ok-sides.ensures.ok _ _ c.in-Ok-fold_block-3.ensures.ok ws.1 _ _ _ ws.2 c.in-Ok-fold_block-4.ensures.ok c.in-Err-merge-2.ensures.cause)
+    (let ws = weights_as _ _ (ap statement_of c.in-Choice.is ∙ choice_view c.in-Choice.p c.in-Choice.a c.in-Choice.c) c.requires.weights in choices.both_blame c.args.turns c.args.attempts c.in-Choice.p (statements_of c.in-Choice.a) (statements_of c.in-Choice.c) ws.0 c.args.table.states.entries c.args.ended.now _ _ _ c.in-Ok-sides.ensures.ok _ _ c.in-Ok-fold_block-3.ensures.ok ws.1 _ _ _ ws.2 c.in-Ok-fold_block-4.ensures.ok c.in-Err-merge-2.ensures.cause)
 
 pub fold_stmt-returns-in-Ok-fold_block-3-clause-cause : goal.fold_stmt-returns-in-Ok-fold_block-3-clause-cause
 fold_stmt-returns-in-Ok-fold_block-3-clause-cause t c =
     blames_as c.args.turns c.args.attempts _ _ _ _ _ (ap statement_of c.in-Choice.is ∙ choice_view c.in-Choice.p c.in-Choice.a c.in-Choice.c)
-    (let ws = weights_as _ _ (ap statement_of c.in-Choice.is ∙ choice_view c.in-Choice.p c.in-Choice.a c.in-Choice.c) c.requires.weights in choices.second_blames c.args.turns c.args.attempts c.in-Choice.p (statements_of c.in-Choice.a) (statements_of c.in-Choice.c) ws.0 c.args.table.entries c.args.ended.now _ _ _ c.in-Ok-sides.ensures.ok _ _ c.in-Ok-fold_block-3.ensures.ok ws.1 _ c.in-Err-fold_block-4.ensures.cause)
+    (let ws = weights_as _ _ (ap statement_of c.in-Choice.is ∙ choice_view c.in-Choice.p c.in-Choice.a c.in-Choice.c) c.requires.weights in choices.second_blames c.args.turns c.args.attempts c.in-Choice.p (statements_of c.in-Choice.a) (statements_of c.in-Choice.c) ws.0 c.args.table.states.entries c.args.ended.now _ _ _ c.in-Ok-sides.ensures.ok _ _ c.in-Ok-fold_block-3.ensures.ok ws.1 _ c.in-Err-fold_block-4.ensures.cause)
 
 pub fold_stmt-returns-in-Ok-sides-clause-cause : goal.fold_stmt-returns-in-Ok-sides-clause-cause
 fold_stmt-returns-in-Ok-sides-clause-cause t c =
     blames_as c.args.turns c.args.attempts _ _ _ _ _ (ap statement_of c.in-Choice.is ∙ choice_view c.in-Choice.p c.in-Choice.a c.in-Choice.c)
-    (let ws = weights_as _ _ (ap statement_of c.in-Choice.is ∙ choice_view c.in-Choice.p c.in-Choice.a c.in-Choice.c) c.requires.weights in choices.first_blames c.args.turns c.args.attempts c.in-Choice.p (statements_of c.in-Choice.a) (statements_of c.in-Choice.c) ws.0 c.args.table.entries c.args.ended.now _ _ _ c.in-Ok-sides.ensures.ok _ c.in-Err-fold_block-3.ensures.cause)
+    (let ws = weights_as _ _ (ap statement_of c.in-Choice.is ∙ choice_view c.in-Choice.p c.in-Choice.a c.in-Choice.c) c.requires.weights in choices.first_blames c.args.turns c.args.attempts c.in-Choice.p (statements_of c.in-Choice.a) (statements_of c.in-Choice.c) ws.0 c.args.table.states.entries c.args.ended.now _ _ _ c.in-Ok-sides.ensures.ok _ c.in-Err-fold_block-3.ensures.cause)
 
 pub fold_stmt-returns-clause-cause : goal.fold_stmt-returns-clause-cause
 fold_stmt-returns-clause-cause t c =
     blames_as c.args.turns c.args.attempts _ _ _ _ _ (ap statement_of c.in-Choice.is ∙ choice_view c.in-Choice.p c.in-Choice.a c.in-Choice.c)
-    (let ws = weights_as _ _ (ap statement_of c.in-Choice.is ∙ choice_view c.in-Choice.p c.in-Choice.a c.in-Choice.c) c.requires.weights in sides_blame c.args.turns c.args.attempts c.in-Choice.p (statements_of c.in-Choice.a) (statements_of c.in-Choice.c) ws.0 c.args.table.entries c.args.ended.now _ (λ e. c.if-len-eq0.false (c.len.ensures.len ∙ ap length e)) c.in-Err-sides.ensures.cause)
+    (let ws = weights_as _ _ (ap statement_of c.in-Choice.is ∙ choice_view c.in-Choice.p c.in-Choice.a c.in-Choice.c) c.requires.weights in sides_blame c.args.turns c.args.attempts c.in-Choice.p (statements_of c.in-Choice.a) (statements_of c.in-Choice.c) ws.0 c.args.table.states.entries c.args.ended.now _ (λ e. c.if-len-eq0.false (c.len.ensures.len ∙ ap length e)) c.in-Err-sides.ensures.cause)
 
 pub fold_stmt-returns-then-len-eq0-clause-bits : goal.fold_stmt-returns-then-len-eq0-clause-bits
 fold_stmt-returns-then-len-eq0-clause-bits t c =
-    meters_empty c.args.turns c.args.attempts _ c.args.table.entries c.args.ended.now c.args.meter.now c.requires.weights (empty_of c.args.table.entries (sym c.len.ensures.len ∙ c.if-len-eq0.true))
+    meters_empty c.args.turns c.args.attempts _ c.args.table.states.entries c.args.ended.now c.args.meter.now c.requires.weights (empty_of c.args.table.states.entries (sym c.len.ensures.len ∙ c.if-len-eq0.true))
 
 pub fold_stmt-returns-in-Ok-draw-clause-bits : goal.fold_stmt-returns-in-Ok-draw-clause-bits
 fold_stmt-returns-in-Ok-draw-clause-bits t c =
     meters_as c.args.turns c.args.attempts _ _ _ _ _ _ (ap statement_of c.in-Uniform.is ∙ uniform_view c.in-Uniform.x c.in-Uniform.e)
-    (uniform_meters c.args.turns c.args.attempts c.in-Uniform.x (expression_of c.in-Uniform.e) c.args.table.entries c.args.ended.now _ _ c.count_uniform.ensures)
+    (uniform_meters c.args.turns c.args.attempts c.in-Uniform.x (expression_of c.in-Uniform.e) c.args.table.states.entries c.args.ended.now _ _ c.count_uniform.ensures)
 
 pub fold_stmt-returns-in-Ok-merge-clause-bits : goal.fold_stmt-returns-in-Ok-merge-clause-bits
 fold_stmt-returns-in-Ok-merge-clause-bits t c =
     meters_as c.args.turns c.args.attempts _ _ _ _ _ _ (ap statement_of c.in-If.is ∙ if_view c.in-If.e c.in-If.a c.in-If.c)
-    (branch_meters c.args.turns c.args.attempts (expression_of c.in-If.e) (statements_of c.in-If.a) (statements_of c.in-If.c) c.args.table.entries _ _ c.args.ended.now _ c.in-Ok-split-2.ensures.first c.in-Ok-split-2.ensures.second _ _ _ _ _ c.in-Ok-fold_block.ensures.ok c.in-Ok-fold_block.ensures.bits c.in-Ok-fold_block-2.ensures.bits)
+    (branch_meters c.args.turns c.args.attempts (expression_of c.in-If.e) (statements_of c.in-If.a) (statements_of c.in-If.c) c.args.table.states.entries _ _ c.args.ended.now _ c.in-Ok-split-2.ensures.first c.in-Ok-split-2.ensures.second _ _ _ _ _ c.in-Ok-fold_block.ensures.ok c.in-Ok-fold_block.ensures.bits c.in-Ok-fold_block-2.ensures.bits)
 
 pub fold_stmt-returns-in-Ok-fold_loop-clause-bits : goal.fold_stmt-returns-in-Ok-fold_loop-clause-bits
 fold_stmt-returns-in-Ok-fold_loop-clause-bits t c =
@@ -306,4 +287,4 @@ pub fold_stmt-returns-in-Ok-merge-2-clause-bits : goal.fold_stmt-returns-in-Ok-m
 fold_stmt-returns-in-Ok-merge-2-clause-bits t c =
     meters_as c.args.turns c.args.attempts _ _ _ _ _ _ (ap statement_of c.in-Choice.is ∙ choice_view c.in-Choice.p c.in-Choice.a c.in-Choice.c)
     (let ws = weights_as _ _ (ap statement_of c.in-Choice.is ∙ choice_view c.in-Choice.p c.in-Choice.a c.in-Choice.c) c.requires.weights in
-    choice_meters c.args.turns c.args.attempts c.in-Choice.p (statements_of c.in-Choice.a) (statements_of c.in-Choice.c) ws.0 c.args.table.entries c.args.ended.now _ _ _ c.in-Ok-sides.ensures.ok _ _ _ _ _ _ c.count_choice.ensures c.in-Ok-fold_block-3.ensures.ok c.in-Ok-fold_block-3.ensures.bits c.in-Ok-fold_block-4.ensures.bits)
+    choice_meters c.args.turns c.args.attempts c.in-Choice.p (statements_of c.in-Choice.a) (statements_of c.in-Choice.c) ws.0 c.args.table.states.entries c.args.ended.now _ _ _ c.in-Ok-sides.ensures.ok _ _ _ _ _ _ c.count_choice.ensures c.in-Ok-fold_block-3.ensures.ok c.in-Ok-fold_block-3.ensures.bits c.in-Ok-fold_block-4.ensures.bits)

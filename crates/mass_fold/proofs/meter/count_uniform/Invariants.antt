@@ -1,14 +1,11 @@
-use Rattle.std.proofs.Common.{[]}
 use Rattle.gcl_core.specs.Views.{expression_of}
 use Rattle.gcl_core.specs.Value.{value_of}
 use Rattle.mass_fold.specs.Metering.{IsBoundPriced, bound_price, CountsRest}
-use Rattle.mass_fold.proofs.Sizes.{SizedOn}
 use Rattle.mass_fold.proofs.meter.count_uniform.Given as goal
 
 abbrev pub invariant-loop-s : goal.invariant-loop-s
 invariant-loop-s l = record {
   next : (goal.iterator-loop-s).can_next l.s-iterator;
   finite : (goal.iterator-loop-s).is_finite l.s-iterator;
-  sized : SizedOn l.table.entries [] l.s-iterator;
-  so_far : CountsRest (IsBoundPriced (value_of (expression_of l.e)) l.attempts) (bound_price (value_of (expression_of l.e)) l.attempts) l.table.entries l.fn.meter l.now l.s-iterator;
+  so_far : CountsRest (IsBoundPriced (value_of (expression_of l.e)) l.attempts) (bound_price (value_of (expression_of l.e)) l.attempts) l.table.states.entries l.fn.meter l.now l.s-iterator;
 }

@@ -1,10 +1,13 @@
 use Rattle.std.proofs.Common.{◌≡◌, Err, arith}
+use Rattle.std.specs.Map.Iter.{deref_pair}
 use Rattle.gcl_core.specs.Views.{expression_of}
-use Rattle.mass_fold.proofs.Results.{results_end, results_reads, results_next, results_blame}
+use Rattle.mass_fold.proofs.Moves.{reads_at}
+use Rattle.mass_fold.proofs.Sizes.{sized_at}
+use Rattle.mass_fold.proofs.Results.{results_end, results_next, results_blame}
 use Rattle.mass_fold.proofs.outcomes.add_results.Goals as goal
 
 pub outcome-requires : goal.outcome-requires
-outcome-requires c = results_reads (expression_of c.args.e.now) _ _ _ _ c.in-Some.s.now c.in-Some.f.now _ c.in-Some.ensures.steps c.loop-s.invariant.so_far c.requires
+outcome-requires c = reads_at (expression_of c.args.e.now) _ _ (sized_at _ _ c.args.table.now.sized deref_pair _ _ _ _ _ _ c.into_iter-s-iterator.ensures.into_iter_gives.0 c.loop-s.yielded_by c.in-Some.is c.next.ensures.steps) c.requires
 
 pub loop-s-preserved : goal.loop-s-preserved
 loop-s-preserved c =

@@ -6,5 +6,5 @@ abbrev pub invariant-loop-s : goal.invariant-loop-s
 invariant-loop-s l = record {
   next : (goal.iterator-loop-s).can_next l.s-iterator;
   finite : (goal.iterator-loop-s).is_finite l.s-iterator;
-  so_far : ResultsOn (expression_of l.e) l.table.entries l.fn.rows.entries l.rows.entries l.s-iterator;
+  so_far : ResultsOn (expression_of l.e) l.table.states.entries l.fn.rows.entries l.rows.entries l.s-iterator;
 }

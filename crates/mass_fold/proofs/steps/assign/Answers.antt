@@ -1,40 +1,44 @@
-use Rattle.std.proofs.Common.{◌≡◌, arith, slice_set, [], length, ap, ◌∙◌}
+use Rattle.std.proofs.Common.{◌≡◌, arith, slice_set, [], length, sym, ap, ◌∙◌}
 use Rattle.std.proofs.lemmas.Int.{to_z-of_z}
+use Rattle.std.proofs.lemmas.List.{length-set}
 use Rattle.gcl_core.specs.Views.{expression_of}
 use Rattle.gcl_core.specs.Value.{value_of}
 use Rattle.mass_tables.specs.Counts.{moved, stopped}
 use Rattle.mass_fold.proofs.Doings.{doing_start, doing_along, doing_go, doing_stop, doing_all, blame_stop}
 use Rattle.mass_fold.proofs.Moves.{moved_ok, stopped_ok, moved_err, stopped_err, reads_at}
-use Rattle.mass_fold.proofs.Sizes.{sized_start, sized_next, sized_skip, sized_end, sized_head, set_length}
+use Rattle.mass_fold.proofs.Sizes.{sized_at}
 use Rattle.mass_fold.proofs.steps.assign.Goals as goal
 
 pub loop-s-init : goal.loop-s-init
 loop-s-init c =
-    let p : c.into_iter-s-iterator.result ≡ c.args.table.entries = c.into_iter-s-iterator.ensures.into_iter_gives.0 in
+    let p : c.into_iter-s-iterator.result ≡ c.args.table.states.entries = c.into_iter-s-iterator.ensures.into_iter_gives.0 in
     record {
       next = tt;
       finite = tt;
-      sized = sized_start _ _ _ c.new-next.ensures.empty p;
+      vars = c.new-next.ensures.vars;
       so_far = doing_start _ _ _ _ _ _ _ c.new-next.ensures.empty p;
     }
 
 pub eval-requires : goal.eval-requires
 eval-requires c =
-    let p : length c.in-Some.s ≡ c.requires.count = sized_head _ _ _ _ c.in-Some.s c.in-Some.f c.requires.count c.in-Some.ensures.steps c.loop-s.invariant.sized c.requires.sized in
-    reads_at (expression_of c.args.e.now) _ _ (ap length c.values.ensures ∙ p) c.requires.fact.1
+    let p : length c.in-Some.s ≡ c.args.table.vars = sized_at _ _ c.args.table.sized (λ e. e) _ _ _ _ _ _ c.into_iter-s-iterator.ensures.into_iter_gives.0 c.loop-s.yielded_by c.in-Some.is c.next.ensures.steps in
+    reads_at (expression_of c.args.e.now) _ _ (ap length c.values.ensures ∙ p) c.requires.reads
 
 pub set-requires : goal.set-requires
 set-requires c =
-    let p : length c.in-Some.s ≡ c.requires.count = sized_head _ _ _ _ c.in-Some.s c.in-Some.f c.requires.count c.in-Some.ensures.steps c.loop-s.invariant.sized c.requires.sized in
-    omega (arith, c.requires.fact.0)
+    let p : length c.in-Some.s ≡ c.args.table.vars = sized_at _ _ c.args.table.sized (λ e. e) _ _ _ _ _ _ c.into_iter-s-iterator.ensures.into_iter_gives.0 c.loop-s.yielded_by c.in-Some.is c.next.ensures.steps in
+    omega (arith, c.requires.place)
 
-pub returns-clause-sized : goal.returns-clause-sized
-returns-clause-sized c = sized_end _ _ _ c.loop-s.invariant.sized
+pub put-requires : goal.put-requires
+put-requires c =
+    let p : length c.in-Some.s ≡ c.args.table.vars = sized_at _ _ c.args.table.sized (λ e. e) _ _ _ _ _ _ c.into_iter-s-iterator.ensures.into_iter_gives.0 c.loop-s.yielded_by c.in-Some.is c.next.ensures.steps in
+    let t : c.set.new.self ≡ slice_set c.in-Some.s c.args.x c.in-Ok.v = grind (arith, to_z-of_z, c.set.ensures) in
+    ap length t ∙ length-set c.in-Some.s c.args.x c.in-Ok.v ∙ p ∙ sym c.loop-s.invariant.vars
 
 pub returns-clause-ok : goal.returns-clause-ok
 returns-clause-ok c =
     let v = value_of (expression_of c.args.e.now) in
-    doing_all (moved c.args.x v) (stopped v) [] c.args.table.entries c.args.ended.now c.loop-s.next.entries c.loop-s.ended
+    doing_all (moved c.args.x v) (stopped v) [] c.args.table.states.entries c.args.ended.now c.loop-s.next.states.entries c.loop-s.ended
     (doing_along _ _ _ _ _ _ _ _ _ c.in-None.ensures.steps.0 c.loop-s.invariant.so_far)
 
 pub loop-s-preserved-in_default : goal.loop-s-preserved-in_default
@@ -44,10 +48,10 @@ loop-s-preserved-in_default c =
     record {
       next = tt;
       finite = tt;
-      sized = sized_next _ _ _ _ _ c.in-Some.s c.set.new.self c.in-Some.f c.in-Some.ensures.steps c.loop-s.invariant.sized c.in_default.ensures.sized (ap length t ∙ set_length c.in-Some.s c.args.x c.in-Ok.v);
-      so_far = doing_go (moved c.args.x v) (stopped v) [] c.args.table.entries c.args.ended.now c.loop-s.next.entries c.loop-s.ended c.in-Some.s c.in-Some.f c.next.new.self
+      vars = c.put.ensures.vars ∙ c.loop-s.invariant.vars;
+      so_far = doing_go (moved c.args.x v) (stopped v) [] c.args.table.states.entries c.args.ended.now c.loop-s.next.states.entries c.loop-s.ended c.in-Some.s c.in-Some.f c.next.new.self
           (doing_along _ _ _ _ _ _ _ _ _ c.in-Some.ensures.steps c.loop-s.invariant.so_far)
-          c.put.new.table.entries c.set.new.self c.in_default.ensures.ok
+          c.put.new.self.states.entries c.set.new.self c.in_default.ensures.ok
           (moved_ok c.args.x v _ _ _ _ c.in-Ok.ensures c.values.ensures t)
           (stopped_ok v _ _ _ c.in-Ok.ensures c.values.ensures);
     }
@@ -55,7 +59,7 @@ loop-s-preserved-in_default c =
 pub returns-in-Err-add-clause-cause : goal.returns-in-Err-add-clause-cause
 returns-in-Err-add-clause-cause c =
     let v = value_of (expression_of c.args.e.now) in
-    blame_stop (moved c.args.x v) (stopped v) [] c.args.table.entries c.args.ended.now c.loop-s.next.entries c.loop-s.ended c.in-Some.s c.in-Some.f c.next.new.self
+    blame_stop (moved c.args.x v) (stopped v) [] c.args.table.states.entries c.args.ended.now c.loop-s.next.states.entries c.loop-s.ended c.in-Some.s c.in-Some.f c.next.new.self
     (doing_along _ _ _ _ _ _ _ _ _ c.in-Some.ensures.steps c.loop-s.invariant.so_far) _ c.gone-kind.result c.in-Err-add.ensures.cause
     (stopped_err v _ _ _ _ c.in-Err.ensures c.values.ensures c.gone-kind.ensures)
 
@@ -65,8 +69,8 @@ loop-s-preserved c =
     record {
       next = tt;
       finite = tt;
-      sized = sized_skip _ _ _ _ c.in-Some.s c.in-Some.f c.in-Some.ensures.steps c.loop-s.invariant.sized;
-      so_far = doing_stop (moved c.args.x v) (stopped v) [] c.args.table.entries c.args.ended.now c.loop-s.next.entries c.loop-s.ended c.in-Some.s c.in-Some.f c.next.new.self
+      vars = c.loop-s.invariant.vars;
+      so_far = doing_stop (moved c.args.x v) (stopped v) [] c.args.table.states.entries c.args.ended.now c.loop-s.next.states.entries c.loop-s.ended c.in-Some.s c.in-Some.f c.next.new.self
           (doing_along _ _ _ _ _ _ _ _ _ c.in-Some.ensures.steps c.loop-s.invariant.so_far)
           c.add.new.self c.gone-kind.result c.in_default-add.ensures.ok
           (moved_err c.args.x v _ _ _ c.in-Err.ensures c.values.ensures)

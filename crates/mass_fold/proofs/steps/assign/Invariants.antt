@@ -1,15 +1,14 @@
-use Rattle.std.proofs.Common.{[]}
+use Rattle.std.proofs.Common.{◌≡◌, []}
 use Rattle.gcl_core.specs.Views.{expression_of}
 use Rattle.gcl_core.specs.Value.{value_of}
 use Rattle.mass_fold.specs.Steps.{StepsOn}
 use Rattle.mass_tables.specs.Counts.{moved, stopped}
-use Rattle.mass_fold.proofs.Sizes.{SizedOn}
 use Rattle.mass_fold.proofs.steps.assign.Given as goal
 
 abbrev pub invariant-loop-s : goal.invariant-loop-s
 invariant-loop-s l = record {
   next : (goal.iterator-loop-s).can_next l.s-iterator;
   finite : (goal.iterator-loop-s).is_finite l.s-iterator;
-  sized : SizedOn l.fn.table.entries l.next.entries l.s-iterator;
-  so_far : StepsOn (moved l.x (value_of (expression_of l.e))) (stopped (value_of (expression_of l.e))) [] l.fn.table.entries l.fn.ended l.next.entries l.ended l.s-iterator;
+  vars : l.next.vars ≡ l.fn.table.vars;
+  so_far : StepsOn (moved l.x (value_of (expression_of l.e))) (stopped (value_of (expression_of l.e))) [] l.fn.table.states.entries l.fn.ended l.next.states.entries l.ended l.s-iterator;
 }

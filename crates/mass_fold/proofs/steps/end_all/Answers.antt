@@ -8,11 +8,11 @@ pub loop-f-preserved : goal.loop-f-preserved
 loop-f-preserved c = record {
   next = tt;
   finite = tt;
-  so_far = doing_stop none_kept (all_stopped (end_of c.args.x)) [] c.args.table.entries c.args.ended.now [] c.loop-f.ended c.in-Some.field-0-0 c.in-Some.f c.next.new.self
+  so_far = doing_stop none_kept (all_stopped (end_of c.args.x)) [] c.args.table.states.entries c.args.ended.now [] c.loop-f.ended c.in-Some.field-0-0 c.in-Some.f c.next.new.self
       (doing_along _ _ _ _ _ _ _ _ _ c.in-Some.ensures.steps c.loop-f.invariant.so_far) c.add.new.self c.args.x c.in_default.ensures.ok (λ G. refl) (λ G. refl);
 }
 
 pub returns-clause-ok : goal.returns-clause-ok
 returns-clause-ok c =
-    doing_all none_kept (all_stopped (end_of c.args.x)) [] c.args.table.entries c.args.ended.now [] c.loop-f.ended
+    doing_all none_kept (all_stopped (end_of c.args.x)) [] c.args.table.states.entries c.args.ended.now [] c.loop-f.ended
     (doing_along _ _ _ _ _ _ _ _ _ c.in-None.ensures.steps.0 c.loop-f.invariant.so_far)

@@ -1,4 +1,4 @@
-use Rattle.std.proofs.Common.{◌≡◌, ◌∙◌, [], length, pos, of_z, w64, ap, refl, arith}
+use Rattle.std.proofs.Common.{◌≡◌, ◌∙◌, [], length, pos, of_z, w64, sym, ap, arith}
 use Rattle.std.proofs.lemmas.Int.{to_z-of_z}
 use Rattle.gcl_core.specs.Views.{expression_of}
 use Rattle.gcl_core.specs.Value.{value_of}
@@ -6,7 +6,7 @@ use Rattle.mass_tables.specs.Tables.{holds, fails}
 use Rattle.mass_tables.specs.Counts.{kept_if, stopped}
 use Rattle.mass_fold.proofs.Doings.{doing_along, doing_go, doing_skip, doing_stop, doing_all, blame_go, blame_stop, blame_within}
 use Rattle.mass_fold.proofs.Moves.{stopped_ok, stopped_err, reads_at, kept_most, first_zero, second_zero, first_not, second_not, first_err, second_err}
-use Rattle.mass_fold.proofs.Sizes.{sized_next, sized_skip, sized_end, sized_head}
+use Rattle.mass_fold.proofs.Sizes.{sized_at}
 use Rattle.mass_fold.proofs.steps.split.Goals as goal
 
 pub loop-s-preserved-in_default : goal.loop-s-preserved-in_default
@@ -16,12 +16,12 @@ loop-s-preserved-in_default c =
     record {
       next = tt;
       finite = tt;
-      second_sized = sized_next _ _ _ _ _ c.in-Some.s c.in-Some.s c.in-Some.f c.in-Some.ensures.steps c.loop-s.invariant.second_sized c.in_default.ensures.sized refl;
-      first_sized = sized_skip _ _ _ _ c.in-Some.s c.in-Some.f c.in-Some.ensures.steps c.loop-s.invariant.first_sized;
-      second = doing_go (kept_if (fails v)) (stopped v) [] c.args.table.entries c.args.ended.now c.loop-s.second.entries c.loop-s.ended c.in-Some.s c.in-Some.f c.next.new.self
+      second_vars = c.put.ensures.vars ∙ c.loop-s.invariant.second_vars;
+      first_vars = c.loop-s.invariant.first_vars;
+      second = doing_go (kept_if (fails v)) (stopped v) [] c.args.table.states.entries c.args.ended.now c.loop-s.second.states.entries c.loop-s.ended c.in-Some.s c.in-Some.f c.next.new.self
           (doing_along _ _ _ _ _ _ _ _ _ c.in-Some.ensures.steps c.loop-s.invariant.second)
-          c.put.new.table.entries c.in-Some.s c.in_default.ensures.ok (second_zero v _ _ _ c.in-Ok.ensures c.values.ensures z) (stopped_ok v _ _ _ c.in-Ok.ensures c.values.ensures);
-      first = doing_skip (kept_if (holds v)) (stopped v) [] c.args.table.entries c.args.ended.now c.loop-s.first.entries c.loop-s.ended c.in-Some.s c.in-Some.f c.next.new.self
+          c.put.new.self.states.entries c.in-Some.s c.in_default.ensures.ok (second_zero v _ _ _ c.in-Ok.ensures c.values.ensures z) (stopped_ok v _ _ _ c.in-Ok.ensures c.values.ensures);
+      first = doing_skip (kept_if (holds v)) (stopped v) [] c.args.table.states.entries c.args.ended.now c.loop-s.first.states.entries c.loop-s.ended c.in-Some.s c.in-Some.f c.next.new.self
           (doing_along _ _ _ _ _ _ _ _ _ c.in-Some.ensures.steps c.loop-s.invariant.first)
           (first_zero v _ _ _ c.in-Ok.ensures c.values.ensures z) (stopped_ok v _ _ _ c.in-Ok.ensures c.values.ensures);
     }
@@ -33,12 +33,12 @@ loop-s-preserved-in_default-put c =
     record {
       next = tt;
       finite = tt;
-      first_sized = sized_next _ _ _ _ _ c.in-Some.s c.in-Some.s c.in-Some.f c.in-Some.ensures.steps c.loop-s.invariant.first_sized c.in_default-put.ensures.sized refl;
-      second_sized = sized_skip _ _ _ _ c.in-Some.s c.in-Some.f c.in-Some.ensures.steps c.loop-s.invariant.second_sized;
-      first = doing_go (kept_if (holds v)) (stopped v) [] c.args.table.entries c.args.ended.now c.loop-s.first.entries c.loop-s.ended c.in-Some.s c.in-Some.f c.next.new.self
+      first_vars = c.put-else-v-eq0.ensures.vars ∙ c.loop-s.invariant.first_vars;
+      second_vars = c.loop-s.invariant.second_vars;
+      first = doing_go (kept_if (holds v)) (stopped v) [] c.args.table.states.entries c.args.ended.now c.loop-s.first.states.entries c.loop-s.ended c.in-Some.s c.in-Some.f c.next.new.self
           (doing_along _ _ _ _ _ _ _ _ _ c.in-Some.ensures.steps c.loop-s.invariant.first)
-          c.put-else-v-eq0.new.table.entries c.in-Some.s c.in_default-put.ensures.ok (first_not v _ _ _ c.in-Ok.ensures c.values.ensures z) (stopped_ok v _ _ _ c.in-Ok.ensures c.values.ensures);
-      second = doing_skip (kept_if (fails v)) (stopped v) [] c.args.table.entries c.args.ended.now c.loop-s.second.entries c.loop-s.ended c.in-Some.s c.in-Some.f c.next.new.self
+          c.put-else-v-eq0.new.self.states.entries c.in-Some.s c.in_default-put.ensures.ok (first_not v _ _ _ c.in-Ok.ensures c.values.ensures z) (stopped_ok v _ _ _ c.in-Ok.ensures c.values.ensures);
+      second = doing_skip (kept_if (fails v)) (stopped v) [] c.args.table.states.entries c.args.ended.now c.loop-s.second.states.entries c.loop-s.ended c.in-Some.s c.in-Some.f c.next.new.self
           (doing_along _ _ _ _ _ _ _ _ _ c.in-Some.ensures.steps c.loop-s.invariant.second)
           (second_not v _ _ _ c.in-Ok.ensures c.values.ensures z) (stopped_ok v _ _ _ c.in-Ok.ensures c.values.ensures);
     }
@@ -47,8 +47,8 @@ pub returns-in-Err-put-clause-cause : goal.returns-in-Err-put-clause-cause
 returns-in-Err-put-clause-cause c =
     let v = value_of (expression_of c.args.e.now) in
     let z : c.in-Ok.v ≡ pos 0 = grind (arith, to_z-of_z, c.if-v-eq0.true) in
-    blame_within (kept_if (fails v)) (stopped v) [] c.args.table.entries c.args.ended.now _ (kept_most (fails v))
-    (blame_go (kept_if (fails v)) (stopped v) [] c.args.table.entries c.args.ended.now c.loop-s.second.entries c.loop-s.ended c.in-Some.s c.in-Some.f c.next.new.self
+    blame_within (kept_if (fails v)) (stopped v) [] c.args.table.states.entries c.args.ended.now _ (kept_most (fails v))
+    (blame_go (kept_if (fails v)) (stopped v) [] c.args.table.states.entries c.args.ended.now c.loop-s.second.states.entries c.loop-s.ended c.in-Some.s c.in-Some.f c.next.new.self
     (doing_along _ _ _ _ _ _ _ _ _ c.in-Some.ensures.steps c.loop-s.invariant.second)
     _ c.in-Some.s c.in-Err-put.ensures.cause (second_zero v _ _ _ c.in-Ok.ensures c.values.ensures z))
 
@@ -56,16 +56,16 @@ pub returns-in-Err-put-2-clause-cause : goal.returns-in-Err-put-2-clause-cause
 returns-in-Err-put-2-clause-cause c =
     let v = value_of (expression_of c.args.e.now) in
     let z : ¬ (c.in-Ok.v ≡ pos 0) = λ e. c.if-v-eq0.false (ap (of_z w64) e) in
-    blame_within (kept_if (holds v)) (stopped v) [] c.args.table.entries c.args.ended.now _ (kept_most (holds v))
-    (blame_go (kept_if (holds v)) (stopped v) [] c.args.table.entries c.args.ended.now c.loop-s.first.entries c.loop-s.ended c.in-Some.s c.in-Some.f c.next.new.self
+    blame_within (kept_if (holds v)) (stopped v) [] c.args.table.states.entries c.args.ended.now _ (kept_most (holds v))
+    (blame_go (kept_if (holds v)) (stopped v) [] c.args.table.states.entries c.args.ended.now c.loop-s.first.states.entries c.loop-s.ended c.in-Some.s c.in-Some.f c.next.new.self
     (doing_along _ _ _ _ _ _ _ _ _ c.in-Some.ensures.steps c.loop-s.invariant.first)
     _ c.in-Some.s c.in-Err-put-2.ensures.cause (first_not v _ _ _ c.in-Ok.ensures c.values.ensures z))
 
 pub returns-in-Err-add-clause-cause : goal.returns-in-Err-add-clause-cause
 returns-in-Err-add-clause-cause c =
     let v = value_of (expression_of c.args.e.now) in
-    blame_within (kept_if (holds v)) (stopped v) [] c.args.table.entries c.args.ended.now _ (kept_most (holds v))
-    (blame_stop (kept_if (holds v)) (stopped v) [] c.args.table.entries c.args.ended.now c.loop-s.first.entries c.loop-s.ended c.in-Some.s c.in-Some.f c.next.new.self
+    blame_within (kept_if (holds v)) (stopped v) [] c.args.table.states.entries c.args.ended.now _ (kept_most (holds v))
+    (blame_stop (kept_if (holds v)) (stopped v) [] c.args.table.states.entries c.args.ended.now c.loop-s.first.states.entries c.loop-s.ended c.in-Some.s c.in-Some.f c.next.new.self
     (doing_along _ _ _ _ _ _ _ _ _ c.in-Some.ensures.steps c.loop-s.invariant.first) _ c.gone-kind.result c.in-Err-add.ensures.cause (stopped_err v _ _ _ _ c.in-Err.ensures c.values.ensures c.gone-kind.ensures))
 
 pub loop-s-preserved : goal.loop-s-preserved
@@ -74,33 +74,33 @@ loop-s-preserved c =
     record {
       next = tt;
       finite = tt;
-      first_sized = sized_skip _ _ _ _ c.in-Some.s c.in-Some.f c.in-Some.ensures.steps c.loop-s.invariant.first_sized;
-      second_sized = sized_skip _ _ _ _ c.in-Some.s c.in-Some.f c.in-Some.ensures.steps c.loop-s.invariant.second_sized;
-      first = doing_stop (kept_if (holds v)) (stopped v) [] c.args.table.entries c.args.ended.now c.loop-s.first.entries c.loop-s.ended c.in-Some.s c.in-Some.f c.next.new.self
+      first_vars = c.loop-s.invariant.first_vars;
+      second_vars = c.loop-s.invariant.second_vars;
+      first = doing_stop (kept_if (holds v)) (stopped v) [] c.args.table.states.entries c.args.ended.now c.loop-s.first.states.entries c.loop-s.ended c.in-Some.s c.in-Some.f c.next.new.self
           (doing_along _ _ _ _ _ _ _ _ _ c.in-Some.ensures.steps c.loop-s.invariant.first) c.add.new.self c.gone-kind.result c.in_default-add.ensures.ok (first_err v _ _ _ c.in-Err.ensures c.values.ensures) (stopped_err v _ _ _ _ c.in-Err.ensures c.values.ensures c.gone-kind.ensures);
-      second = doing_stop (kept_if (fails v)) (stopped v) [] c.args.table.entries c.args.ended.now c.loop-s.second.entries c.loop-s.ended c.in-Some.s c.in-Some.f c.next.new.self
+      second = doing_stop (kept_if (fails v)) (stopped v) [] c.args.table.states.entries c.args.ended.now c.loop-s.second.states.entries c.loop-s.ended c.in-Some.s c.in-Some.f c.next.new.self
           (doing_along _ _ _ _ _ _ _ _ _ c.in-Some.ensures.steps c.loop-s.invariant.second) c.add.new.self c.gone-kind.result c.in_default-add.ensures.ok (second_err v _ _ _ c.in-Err.ensures c.values.ensures) (stopped_err v _ _ _ _ c.in-Err.ensures c.values.ensures c.gone-kind.ensures);
     }
 
 pub returns-clause-first : goal.returns-clause-first
 returns-clause-first c =
     let v = value_of (expression_of c.args.e.now) in
-    doing_all (kept_if (holds v)) (stopped v) [] c.args.table.entries c.args.ended.now c.loop-s.first.entries c.loop-s.ended
+    doing_all (kept_if (holds v)) (stopped v) [] c.args.table.states.entries c.args.ended.now c.loop-s.first.states.entries c.loop-s.ended
     (doing_along _ _ _ _ _ _ _ _ _ c.in-None.ensures.steps.0 c.loop-s.invariant.first)
 
 pub returns-clause-second : goal.returns-clause-second
 returns-clause-second c =
     let v = value_of (expression_of c.args.e.now) in
-    doing_all (kept_if (fails v)) (stopped v) [] c.args.table.entries c.args.ended.now c.loop-s.second.entries c.loop-s.ended
+    doing_all (kept_if (fails v)) (stopped v) [] c.args.table.states.entries c.args.ended.now c.loop-s.second.states.entries c.loop-s.ended
     (doing_along _ _ _ _ _ _ _ _ _ c.in-None.ensures.steps.0 c.loop-s.invariant.second)
-
-pub returns-clause-first_sized : goal.returns-clause-first_sized
-returns-clause-first_sized c = sized_end _ _ _ c.loop-s.invariant.first_sized
-
-pub returns-clause-second_sized : goal.returns-clause-second_sized
-returns-clause-second_sized c = sized_end _ _ _ c.loop-s.invariant.second_sized
 
 pub eval-requires : goal.eval-requires
 eval-requires c =
-    let p : length c.in-Some.s ≡ c.requires.count = sized_head _ _ _ _ c.in-Some.s c.in-Some.f c.requires.count c.in-Some.ensures.steps c.loop-s.invariant.first_sized c.requires.sized in
-    reads_at (expression_of c.args.e.now) _ _ (ap length c.values.ensures ∙ p) c.requires.fact
+    let p : length c.in-Some.s ≡ c.args.table.vars = sized_at _ _ c.args.table.sized (λ e. e) _ _ _ _ _ _ c.into_iter-s-iterator.ensures.into_iter_gives.0 c.loop-s.yielded_by c.in-Some.is c.next.ensures.steps in
+    reads_at (expression_of c.args.e.now) _ _ (ap length c.values.ensures ∙ p) c.requires
+
+pub put-requires : goal.put-requires
+put-requires c = sized_at _ _ c.args.table.sized (λ e. e) _ _ _ _ _ _ c.into_iter-s-iterator.ensures.into_iter_gives.0 c.loop-s.yielded_by c.in-Some.is c.next.ensures.steps ∙ sym c.loop-s.invariant.second_vars
+
+pub put-requires-else-v-eq0 : goal.put-requires-else-v-eq0
+put-requires-else-v-eq0 c = sized_at _ _ c.args.table.sized (λ e. e) _ _ _ _ _ _ c.into_iter-s-iterator.ensures.into_iter_gives.0 c.loop-s.yielded_by c.in-Some.is c.next.ensures.steps ∙ sym c.loop-s.invariant.first_vars

@@ -1,18 +1,17 @@
-use Rattle.std.proofs.Common.{[]}
+use Rattle.std.proofs.Common.{◌≡◌, []}
 use Rattle.gcl_core.specs.Views.{expression_of}
 use Rattle.gcl_core.specs.Value.{value_of}
 use Rattle.mass_tables.specs.Tables.{holds, fails}
 use Rattle.mass_fold.specs.Steps.{StepsOn}
 use Rattle.mass_tables.specs.Counts.{kept_if, stopped}
-use Rattle.mass_fold.proofs.Sizes.{SizedOn}
 use Rattle.mass_fold.proofs.steps.split.Given as goal
 
 abbrev pub invariant-loop-s : goal.invariant-loop-s
 invariant-loop-s l = record {
   next : (goal.iterator-loop-s).can_next l.s-iterator;
   finite : (goal.iterator-loop-s).is_finite l.s-iterator;
-  first_sized : SizedOn l.fn.table.entries l.first.entries l.s-iterator;
-  second_sized : SizedOn l.fn.table.entries l.second.entries l.s-iterator;
-  first : StepsOn (kept_if (holds (value_of (expression_of l.e)))) (stopped (value_of (expression_of l.e))) [] l.fn.table.entries l.fn.ended l.first.entries l.ended l.s-iterator;
-  second : StepsOn (kept_if (fails (value_of (expression_of l.e)))) (stopped (value_of (expression_of l.e))) [] l.fn.table.entries l.fn.ended l.second.entries l.ended l.s-iterator;
+  first_vars : l.first.vars ≡ l.fn.table.vars;
+  second_vars : l.second.vars ≡ l.fn.table.vars;
+  first : StepsOn (kept_if (holds (value_of (expression_of l.e)))) (stopped (value_of (expression_of l.e))) [] l.fn.table.states.entries l.fn.ended l.first.states.entries l.ended l.s-iterator;
+  second : StepsOn (kept_if (fails (value_of (expression_of l.e)))) (stopped (value_of (expression_of l.e))) [] l.fn.table.states.entries l.fn.ended l.second.states.entries l.ended l.s-iterator;
 }
