@@ -1,28 +1,26 @@
 -- What a meter counts in a block, statement by statement.
-use Rattle.std.proofs.Common.{◌≡◌, ℕ, zero, suc, ◌+◌, ◌-◌, ◌*◌, ◌≤◌, ◌<◌, ℤ, pos, negsuc, List, [], ◌∷◌, ◌++◌, Ok, Err, Option, length, drop, refl, sym, ap, ◌∙◌, subst, arith}
+use Rattle.std.proofs.Common.{◌≡◌, ℕ, zero, suc, ◌*◌, ◌≤◌, ◌<◌, ℤ, pos, negsuc, List, [], ◌∷◌, ◌++◌, Ok, Err, Option, length, drop, refl, sym, ap, ◌∙◌, subst}
 use Rattle.std.proofs.Math.ListN.{drop_of_length-le}
 use Rattle.gcl_core.specs.declared.syntax.Stmt.{Stmt}
 use Rattle.gcl_core.specs.declared.syntax.Weight.{Weight}
 use Rattle.gcl_core.specs.Views.{list_of}
-use Rattle.gcl_core.specs.Syntax.{Expression, Statement, skip, assign, branch, choice, uniform, observe, Statements, done, ◌▸◌}
-use Rattle.gcl_core.specs.Bounds.{IsWeight, StatementWeights, BlockWeights}
+use Rattle.gcl_core.specs.Syntax.{Expression, Statement, branch, choice, uniform, Statements, done, ◌▸◌}
+use Rattle.gcl_core.specs.Bounds.{IsWeight, StatementWeights}
 use Rattle.gcl_core.specs.Value.{State, Value, value_of}
-use Rattle.gcl_core.specs.Blocks.{End, by_value, by_bound, choice_ends, uniform_ends}
+use Rattle.gcl_core.specs.Blocks.{by_value, by_bound, choice_ends, uniform_ends}
 use Rattle.gcl_core.specs.Draw.{last_end}
-use Rattle.gcl_core.specs.Fractions.{Fraction}
-use Rattle.gcl_core.specs.WeightedEnds.{Weighted, scaled, class_weight}
 use Rattle.mass_tables.specs.Tables.{Table, Flow, holds, fails, only, faults, statement_flow, block_flow}
 use Rattle.mass_tables.specs.Reached.{Reached, drawn_each, drawn_bound, statement_draws, block_draws}
-use Rattle.mass_tables.specs.Scale.{Within, amount, weight}
+use Rattle.mass_tables.specs.Scale.{amount, weight}
 use Rattle.mass_tables.specs.Counts.{stopped, kept_if}
 use Rattle.mass_tables.proofs.Amounts.{amount_append, both_first, both_second}
 use Rattle.mass_tables.proofs.Draws.{uniform_last}
-use Rattle.mass_tables.proofs.NoneReached.{amount_drawn_each, amount_drawn_bound, at_bound, none_one}
+use Rattle.mass_tables.proofs.NoneReached.{amount_drawn_each, amount_drawn_bound, none_one}
 use Rattle.mass_fold.specs.declared.ended.Ended.{Ended}
 use Rattle.mass_fold.specs.declared.meter.Meter.{Meter}
 use Rattle.mass_fold.specs.Amounts.{Entries, held}
-use Rattle.mass_fold.specs.Steps.{StepsTo, EachState}
-use Rattle.mass_fold.specs.Fold.{Stands, EndStands, FoldsTo, Around, FoldsOne, SidesTo}
+use Rattle.mass_fold.specs.Steps.{StepsTo}
+use Rattle.mass_fold.specs.Fold.{Stands, FoldsTo, FoldsOne, SidesTo}
 use Rattle.mass_fold.specs.Metering.{Counted, IsPriced, Priced, price, bound_price, IsValuePriced, IsBoundPriced, CountsAll, Meters, MetersOne}
 use Rattle.mass_fold.proofs.Folds.{first_of, looked_first, looked_second}
 use Rattle.mass_fold.proofs.Meters.{counted_none, counted_then, counted_as}

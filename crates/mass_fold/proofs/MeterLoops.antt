@@ -2,7 +2,7 @@
 use Rattle.std.proofs.Common.{◌≡◌, ℕ, zero, suc, ◌+◌, ◌*◌, ◌<◌, [], ◌++◌, Option, refl, sym, ap, ◌∙◌, subst, arith}
 use Rattle.gcl_core.specs.Syntax.{Expression, Statements}
 use Rattle.gcl_core.specs.Bounds.{IsWeight, BlockWeights}
-use Rattle.gcl_core.specs.Value.{State, Value, value_of}
+use Rattle.gcl_core.specs.Value.{value_of}
 use Rattle.gcl_core.specs.Blocks.{End}
 use Rattle.gcl_core.specs.WeightedEnds.{Weighted}
 use Rattle.mass_tables.specs.Tables.{Table, Flow, holds, fails, only, faults, loop_flow, block_flow}

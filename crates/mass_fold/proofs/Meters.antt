@@ -1,20 +1,20 @@
 -- What a meter counts, draw by draw.
-use Rattle.std.proofs.Common.{◌≡◌, ℕ, zero, suc, ◌+◌, ◌*◌, ◌^◌, ◌≤◌, ◌<◌, [], ◌∷◌, Option, Some, None, length, refl, sym, ap, ◌∙◌, subst, arith}
+use Rattle.std.proofs.Common.{◌≡◌, ℕ, ◌+◌, ◌*◌, ◌^◌, ◌≤◌, ◌<◌, [], ◌∷◌, Option, Some, None, refl, sym, ap, ◌∙◌, subst, arith}
 use Rattle.std.proofs.Math.Nat.{mul-le-mul_left, mul-le-mul_right}
 use Rattle.gcl_core.specs.Value.{State}
 use Rattle.gcl_core.specs.Fractions.{Fraction, times}
 use Rattle.gcl_core.specs.WeightedEnds.{class_weight, no_class_weight}
 use Rattle.frac128.specs.Fraction.{InLowest, IsEqual, sum_of, product_of}
-use Rattle.frac128.proofs.Divisors.{product_pos, lowest_in_lowest}
+use Rattle.frac128.proofs.Divisors.{product_pos}
 use Rattle.mass_tables.specs.Scale.{whole, Whole}
 use Rattle.mass_tables.proofs.Wholes.{whole_from, sum_whole, sum_wide, product_whole, product_wide}
 use Rattle.mass_fold.specs.declared.meter.Meter.{Meter}
 use Rattle.mass_fold.specs.declared.meter.Meter.TheVariants.{Off, Bits, TooWide}
-use Rattle.mass_fold.specs.Amounts.{Entries, held, Held}
+use Rattle.mass_fold.specs.Amounts.{Entries, held}
 use Rattle.mass_fold.specs.Steps.{EachState, IsParts}
-use Rattle.mass_fold.specs.Metering.{CountedOn, Counted, AddsBits, IsPriced, IsPrice, PriceBlames, CountsAll, CountsRest}
+use Rattle.mass_fold.specs.Metering.{Counted, AddsBits, IsPriced, IsPrice, PriceBlames, CountsAll, CountsRest}
 use Rattle.mass_fold.proofs.Insertion.{whole_pos}
-use Rattle.mass_fold.proofs.Powers.{equal_whole, product_is}
+use Rattle.mass_fold.proofs.Powers.{equal_whole}
 
 -- ---- one sum
 

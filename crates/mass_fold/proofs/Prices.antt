@@ -1,10 +1,10 @@
 -- The draw of one state, and of each entry, on a meter.
-use Rattle.std.proofs.Common.{◌≡◌, ℕ, zero, suc, ◌+◌, ◌*◌, ◌^◌, ◌≤◌, ◌<◌, ℤ, pos, negsuc, [], ◌∷◌, Option, Ok, Err, length, refl, sym, ap, ◌∙◌, subst, arith}
+use Rattle.std.proofs.Common.{◌≡◌, ℕ, suc, ◌*◌, ◌≤◌, pos, [], ◌∷◌, Option, Ok, length, sym, ap, ◌∙◌, subst, arith}
 use Rattle.gcl_core.specs.declared.syntax.Weight.{Weight}
 use Rattle.gcl_core.specs.Value.{State, Value}
 use Rattle.gcl_core.specs.Blocks.{by_value, by_bound, choice_ends, uniform_ends}
 use Rattle.gcl_core.specs.Fractions.{Fraction}
-use Rattle.gcl_core.specs.WeightedEnds.{class_weight, no_class_weight}
+use Rattle.gcl_core.specs.WeightedEnds.{class_weight}
 use Rattle.cost_law.specs.ExpectedBits.{attempt_bits}
 use Rattle.mass_tables.specs.Scale.{whole, Whole}
 use Rattle.mass_tables.proofs.Draws.{uniform_last}
@@ -12,9 +12,9 @@ use Rattle.mass_fold.specs.declared.error.MassError.{MassError}
 use Rattle.mass_fold.specs.declared.error.MassError.TheVariants as error_kind
 use Rattle.mass_fold.specs.declared.meter.Meter.{Meter}
 use Rattle.mass_fold.specs.declared.meter.Meter.TheVariants.{Bits, TooWide}
-use Rattle.mass_fold.specs.Amounts.{Entries, Blames, held}
+use Rattle.mass_fold.specs.Amounts.{Entries}
 use Rattle.mass_fold.specs.Steps.{PartsBlame}
-use Rattle.mass_fold.specs.Metering.{Counted, AddsBits, IsPriced, IsPrice, PriceBlames, price, bound_price, IsValuePriced, IsBoundPriced, CountsAll}
+use Rattle.mass_fold.specs.Metering.{AddsBits, IsPriced, IsPrice, PriceBlames, price, bound_price, IsValuePriced, IsBoundPriced, CountsAll}
 use Rattle.mass_fold.proofs.Meters.{counted_as, counts_as, parts_wide, wide_here}
 
 -- the parts of a draw do not fit

@@ -1,5 +1,5 @@
 -- What a meter holds after a round.
-use Rattle.std.proofs.Common.{◌≡◌, ℕ, ◌+◌, ◌*◌, ◌<◌, ◌≤◌, Option, sym, subst, arith}
+use Rattle.std.proofs.Common.{◌≡◌, ℕ, ◌*◌, ◌<◌, Option, sym, subst, arith}
 use Rattle.gcl_core.specs.Fractions.{Fraction}
 use Rattle.gcl_core.specs.Mass.{is_failed, failed_mass}
 use Rattle.gcl_core.specs.Bounds.{IsWeight, BlockWeights}
@@ -8,7 +8,7 @@ use Rattle.frac128.specs.Fraction.{InLowest, IsEqual, lowest}
 use Rattle.mass_tables.specs.Width.{round_width}
 use Rattle.mass_fold.specs.declared.meter.Meter.{Meter}
 use Rattle.mass_fold.specs.declared.meter.Meter.TheVariants.{Off, Bits, TooWide}
-use Rattle.mass_fold.specs.Body.{BodyMeters, BitsAt, RoundBits}
+use Rattle.mass_fold.specs.Body.{BodyMeters, RoundBits}
 use Rattle.mass_fold.specs.Ended.{IsNoWeight}
 use Rattle.mass_fold.specs.Metering.{bits_of}
 use Rattle.mass_fold.proofs.Beginning.{no_weight}

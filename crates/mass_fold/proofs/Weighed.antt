@@ -1,12 +1,10 @@
 -- Rows of masses under limits are those of which the weighing law speaks.
-use Rattle.std.proofs.Common.{◌≡◌, ℕ, ◌*◌, ◌/◌, ◌^◌, ◌≤◌, ◌<◌, Bool, List, Some, inl, inr, zero, suc, refl, ap, sym, ◌∙◌, subst, arith}
+use Rattle.std.proofs.Common.{◌≡◌, ℕ, ◌*◌, ◌^◌, ◌≤◌, Bool, List, Some, inl, inr, zero, suc, refl, ap, sym, ◌∙◌, subst, arith}
 use Rattle.std.proofs.lemmas.Bool.{cases_lt}
-use Rattle.std.specs.Prelude.{Contains}
 use native.Mathlib.Nat.{mul-div_cancel'}
 use Rattle.std.proofs.Math.Nat.{le_of_mul-le-mul_left}
 use Rattle.gcl_core.specs.declared.answers.Answer.{Answer}
 use Rattle.gcl_core.specs.declared.answers.Limits.{Limits}
-use Rattle.gcl_core.specs.declared.answers.Outcome.{Outcome}
 use Rattle.gcl_core.specs.Fractions.{Fraction, IsShare, IsWithinShare}
 use Rattle.gcl_core.specs.Mass.{mass_of}
 use Rattle.gcl_core.specs.StringWeight.{outcome_weight}
@@ -15,7 +13,7 @@ use Rattle.frac128.specs.Divisor.{gcd}
 use Rattle.frac128.specs.Fraction.{lowest}
 use Rattle.frac128.proofs.Divisors.{gcd_is, gcd_pos}
 use Rattle.mass_tables.proofs.Wholes.{cancel}
-use Rattle.weighing_law.specs.Weighing.{WeighsExactly, Suffices, limited_mass}
+use Rattle.weighing_law.specs.Weighing.{WeighsExactly, limited_mass}
 use Rattle.mass_fold.specs.Rows.{Rows, AreMasses}
 use Rattle.mass_fold.specs.Weighed.{AreWeighed}
 

@@ -3,7 +3,7 @@ use Rattle.std.specs.Prelude.{◌≡◌, ℕ, zero, suc, ◌+◌, ◌*◌, ◌^�
 use Rattle.gcl_core.specs.Value.{State, Value}
 use Rattle.gcl_core.specs.Blocks.{by_value, by_bound, uniform_ends}
 use Rattle.gcl_core.specs.Draw.{last_end}
-use Rattle.gcl_core.specs.Fractions.{Fraction, times}
+use Rattle.gcl_core.specs.Fractions.{Fraction}
 use Rattle.gcl_core.specs.WeightedEnds.{Weighted, class_weight, no_class_weight}
 use Rattle.cost_law.specs.ExpectedBits.{attempt_bits}
 use Rattle.mass_tables.specs.Tables.{Table, Flow}
