@@ -9,10 +9,7 @@ pub loop-i-init : goal.loop-i-init
 loop-i-init c = record { so_far = spread_none _ _ c.args.x c.args.s.now c.args.h refl; vars = refl }
 
 pub put-requires : goal.put-requires
-put-requires c =
-    let z : pos c.loop-i.i ≡ to_z w64 c.loop-i.i = omega (arith, ints) in
-    let q = set_as c.args.s.now c.in-Ok.t c.set.new.self c.args.x c.loop-i.i _ c.in-Ok.ensures z c.set.ensures in
-    ap length q ∙ length-set c.args.s.now c.args.x (pos c.loop-i.i) ∙ c.requires.sized ∙ sym c.loop-i.invariant.vars
+put-requires c = ap length c.set.ensures ∙ length-set _ _ _ ∙ ap length c.in-Ok.ensures ∙ c.requires.sized ∙ sym c.loop-i.invariant.vars
 
 pub returns-in-Err-put-clause-cause : goal.returns-in-Err-put-clause-cause
 returns-in-Err-put-clause-cause c =

@@ -32,8 +32,7 @@ set-requires c =
 pub put-requires : goal.put-requires
 put-requires c =
     let p : length c.in-Some.s ≡ c.args.table.vars = sized_at _ _ c.args.table.sized (λ e. e) _ _ _ _ _ _ c.into_iter-s-iterator.ensures.into_iter_gives.0 c.loop-s.yielded_by c.in-Some.is c.next.ensures.steps in
-    let t : c.set.new.self ≡ slice_set c.in-Some.s c.args.x c.in-Ok.v = grind (arith, to_z-of_z, c.set.ensures) in
-    ap length t ∙ length-set c.in-Some.s c.args.x c.in-Ok.v ∙ p ∙ sym c.loop-s.invariant.vars
+    ap length c.set.ensures ∙ length-set _ _ _ ∙ p ∙ sym c.loop-s.invariant.vars
 
 pub returns-clause-ok : goal.returns-clause-ok
 returns-clause-ok c =
