@@ -51,7 +51,7 @@ fn sum_at(table: &BTreeMap<State, Frac>, s: &State, f: &Frac) -> Result<Frac, Ma
 }
 
 impl Table {
-    /// No state, where each has so many variables.
+    /// No states yet, of so many variables.
     pub fn new(alloc: Global, vars: u32) -> Table
         ensures vars { result.vars ≡ vars }
         ensures empty { result.states.entries ≡ [] }

@@ -77,8 +77,8 @@ fold_loop-split-requires-2 t c = subst (Reads (expression_of c.args.e.now)) (sym
 
 pub fold_loop-fold_block-requires : goal.fold_loop-fold_block-requires
 fold_loop-fold_block-requires t c =
-    let m : c.in-Ok.first.vars ≡ c.args.table.vars = c.in-Ok.ensures.vars.0 ∙ c.loop.invariant.now_vars in
-    (search (rules, the_lemmas), (subst (λ m. BlockBelow m (statements_of c.args.body.now)) (sym m) c.requires.below, (c.requires.weights, c.requires.some)))
+    let p : c.in-Ok.first.vars ≡ c.args.table.vars = c.in-Ok.ensures.vars.0 ∙ c.loop.invariant.now_vars in
+    (search (rules, the_lemmas), (subst (λ m. BlockBelow m (statements_of c.args.body.now)) (sym p) c.requires.below, (c.requires.weights, c.requires.some)))
 
 pub fold_loop-returns-in-Err-merge-clause-cause : goal.fold_loop-returns-in-Err-merge-clause-cause
 fold_loop-returns-in-Err-merge-clause-cause t c =
