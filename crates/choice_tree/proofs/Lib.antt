@@ -1,5 +1,6 @@
 pub mod ViewLemmas
 pub mod Meanings
 pub mod Rows
-pub mod Weights
+pub mod WellFormedTrees
+pub mod PartialSums
 pub mod Places

@@ -1,13 +1,13 @@
 -- What each choice-fix tree stands for: one equation a variant. The members of a row are seen as a list.
-use Rattle.std.proofs.Common.{◌≡◌, ℕ, refl, ap, ◌∙◌, Box, Global}
+use Rattle.std.proofs.Common.{◌≡◌, ℕ, List, refl, ap, ◌∙◌, Box, Global}
 use mathlib.Core.Former.{Count}
 use Rattle.gcl_core.specs.declared.syntax.Expr.{Expr}
 use Rattle.gcl_core.specs.declared.syntax.Weight.{Weight}
 use Rattle.gcl_core.specs.Views.{expression_of}
 use Rattle.choice_tree.specs.declared.tree.CfRow.{CfRow}
 use Rattle.choice_tree.specs.declared.tree.Cf.{Cf, Row_of-Cf, end_of-Cf, more_of-Cf, items-the_row-Cf, items_hidden-the_row-Cf-0}
-use Rattle.choice_tree.specs.declared.tree.Cf.TheVariants.{Fail, Set, Test, Choice, Uniform, Row, Fix, Row'}
-use Rattle.choice_tree.specs.Tree.{fails, sets, tests, chooses, draws_below, in_order, repeats, ◌▹◌}
+use Rattle.choice_tree.specs.declared.tree.Cf.TheVariants.{Fail, Set, Test, Choice, Choose, Uniform, Row, Fix, Choose', Row'}
+use Rattle.choice_tree.specs.Tree.{fails, sets, tests, chooses, chooses_among, draws_below, in_order, repeats, ◌▹◌}
 use Rattle.choice_tree.specs.Views.{choice_tree_of, row_of, list_of, choice_trees_of}
 
 row_as_list : (n : _) (r : Row_of-Cf n) → row_of r ≡ list_of (items-the_row-Cf n r)
@@ -16,6 +16,7 @@ row_as_list n end_of-Cf = refl
 row_as_list n (more_of-Cf t rest) = ap (λ ts. choice_tree_of t ▹ ts) (row_as_list _ rest)
 
 abbrev members : Cf → (n : Count) × Row_of-Cf n
+members (Choose' _ _ r) = (_, r)
 members (Row' _ r) = (_, r)
 members _ = (_, end_of-Cf)
 
@@ -38,6 +39,10 @@ pub choice_view : (p : Weight) (a c : Box Cf Global) → choice_tree_of (Choice 
 unfolding choice_tree_of
 choice_view p a c = refl
 
+pub choose_view : (ps : List ℕ) (r : CfRow) → choice_tree_of (Choose ps r) ≡ chooses_among ps (choice_trees_of r)
+unfolding choice_tree_of
+choose_view ps r = ap (chooses_among ps) (members_view r)
+
 pub uniform_view : (x : ℕ) (e : Expr) → choice_tree_of (Uniform x e) ≡ draws_below x (expression_of e)
 unfolding choice_tree_of
 uniform_view x e = refl
@@ -50,4 +55,4 @@ pub fix_view : (e : Expr) (a : Box Cf Global) → choice_tree_of (Fix e a) ≡ r
 unfolding choice_tree_of
 fix_view e a = refl
 
-pub ruleset views = (fail_view, set_view, test_view, choice_view, uniform_view, row_view, fix_view)
+pub ruleset views = (fail_view, set_view, test_view, choice_view, choose_view, uniform_view, row_view, fix_view)

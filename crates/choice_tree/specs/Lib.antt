@@ -1,4 +1,6 @@
+pub mod Parts
 pub mod Tree
+pub mod WellFormed
 pub mod Views
 pub mod Meaning
 pub mod TreeOf

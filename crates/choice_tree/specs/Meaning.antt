@@ -1,12 +1,13 @@
 -- What a choice-fix tree does from a state on a list of bits, by the same cases as a block: a row is a block, a test an `if`, a
 -- repetition a loop, and the tree that fails a failed observation.
-use Rattle.std.specs.Prelude.{ℕ, Bool, List, slice_set}
+use Rattle.std.specs.Prelude.{ℕ, zero, suc, Bool, List, slice_set}
 use Rattle.gcl_core.specs.declared.answers.Limit.TheVariants.{Attempts}
 use Rattle.gcl_core.specs.Value.{State, value_of}
 use Rattle.gcl_core.specs.Reading.{Reading, gives, after}
 use Rattle.gcl_core.specs.Draw.{draw_on}
 use Rattle.gcl_core.specs.Blocks.{End, on, failed, fault, limit, by_value, by_truth, by_class, by_side, by_end, choice_ends, uniform_on, loop_on}
-use Rattle.choice_tree.specs.Tree.{ChoiceTree, fails, sets, tests, chooses, draws_below, in_order, repeats, ChoiceTrees, no_tree, ◌▹◌}
+use Rattle.choice_tree.specs.Parts.{partial_sums}
+use Rattle.choice_tree.specs.Tree.{ChoiceTree, fails, sets, tests, chooses, chooses_among, draws_below, in_order, repeats, ChoiceTrees, no_tree, ◌▹◌}
 
 -- under limits of n turns for each entry of a repetition and r attempts for each draw
 module _ (n r : ℕ) where
@@ -19,6 +20,9 @@ module _ (n r : ℕ) where
     choice_tree_on (chooses p a c) s w =
         after (draw_on (choice_ends p) r w)
         (λ class rest. by_class (gives (limit Attempts) rest) class (λ i. by_side i (choice_tree_on a s rest) (choice_tree_on c s rest)))
+    choice_tree_on (chooses_among ps ts) s w =
+        after (draw_on (partial_sums ps) r w)
+        (λ class rest. by_class (gives (limit Attempts) rest) class (λ i. choice_arm_on ts i s rest))
     choice_tree_on (draws_below x e) s w = by_value (λ f. gives (fault f) w) (value_of e s) (λ v. uniform_on r x v s w)
     choice_tree_on (in_order ts) s w = choice_row_on ts s w
     choice_tree_on (repeats e a) s w = loop_on (value_of e) (choice_tree_on a) n s w
@@ -26,3 +30,9 @@ module _ (n r : ℕ) where
     pub choice_row_on : ChoiceTrees → State → List Bool → Reading End
     choice_row_on no_tree s w = gives (on s) w
     choice_row_on (t ▹ ts) s w = after (choice_tree_on t s w) (λ e rest. by_end (λ e. gives e rest) e (λ s. choice_row_on ts s rest))
+
+    -- the arm with a number; there is one for each class of the draw
+    pub choice_arm_on : ChoiceTrees → ℕ → State → List Bool → Reading End
+    choice_arm_on no_tree i s w = gives (on s) w
+    choice_arm_on (t ▹ ts) zero s w = choice_tree_on t s w
+    choice_arm_on (t ▹ ts) (suc i) s w = choice_arm_on ts i s w

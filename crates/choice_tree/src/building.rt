@@ -3,13 +3,13 @@
 ghost use Rattle.std.specs.Prelude.{◌≡◌, ℕ, Bool, List, IfOk};
 ghost use Rattle.std.specs.Option.{option_map};
 ghost use Rattle.gcl_core.specs.Value.{State};
-ghost use Rattle.gcl_core.specs.Bounds.{IsWeight};
 ghost use Rattle.gcl_core.specs.Blocks.{block_on};
 ghost use Rattle.gcl_core.specs.Views.{expression_of, statement_of, statements_of};
 ghost use Rattle.choice_tree.specs.Meaning.{choice_tree_on};
-ghost use Rattle.choice_tree.specs.Tree.{fails, tests, in_order, no_tree, TreeWeights};
+ghost use Rattle.choice_tree.specs.Tree.{fails, tests, in_order, no_tree};
 ghost use Rattle.choice_tree.specs.TreeOf.{member_of, members_of, tree_of};
 ghost use Rattle.choice_tree.specs.Views.{choice_tree_of, choice_trees_of};
+ghost use Rattle.choice_tree.specs.WellFormed.{IsWellFormed};
 
 use crate::tree::{Cf, CfRow};
 use gcl_core::{Block, Checked, Expr, Stmt};
@@ -78,12 +78,12 @@ fn member(alloc: Global, s: &Stmt) -> Result<Option<Cf>, AllocError>
 }
 
 /// The choice-fix tree of a program's body: a row of the trees of its statements, in their order. It means on bits what the body does,
-/// from every state and under all limits, and has its weights. It refuses where memory is wanting.
+/// from every state and under all limits, and is well formed. It refuses where memory is wanting.
 pub fn to_tree(alloc: Global, p: &Checked) -> Result<Cf, AllocError>
     ensures tree { IfOk result (λ t. choice_tree_of t ≡ tree_of (statements_of p.now.body)) }
     ensures meaning { IfOk result (λ t. (n r : ℕ) (s : State) (w : List Bool) →
         choice_tree_on n r (choice_tree_of t) s w ≡ block_on n r (statements_of p.now.body) s w) }
-    ensures weights { IfOk result (λ t. TreeWeights IsWeight (choice_tree_of t)) }
+    ensures well_formed { IfOk result (λ t. IsWellFormed (choice_tree_of t)) }
 {
     Ok(Cf::Row(row(alloc, &p.program().body)?))
 }

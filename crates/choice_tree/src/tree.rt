@@ -4,6 +4,7 @@ ghost use Rattle.std.specs.Prelude.{◌≡◌, ◌<◌, Some};
 ghost use Rattle.choice_tree.specs.Tree.{count, tree_at};
 ghost use Rattle.choice_tree.specs.Views.{choice_tree_of, choice_trees_of};
 
+use crate::parts::Parts;
 use gcl_core::{Expr, Weight};
 
 /// Trees in order.
@@ -24,6 +25,8 @@ pub enum Cf {
     Test(Expr, Box<Cf>, Box<Cf>),
     /// The first tree with this weight, else the second.
     Choice(Weight, Box<Cf>, Box<Cf>),
+    /// The arm whose class the draw gives: each with its part over the sum of the parts.
+    Choose(Parts, CfRow),
     /// A number from 0 up to the bound, which the expression gives, each with the same weight.
     Uniform(u32, Expr),
     /// One tree after the other. An empty row does nothing.

@@ -1,13 +1,13 @@
 use Rattle.std.proofs.Common.{◌≡◌, ap, ◌∙◌, sym, subst}
 use Rattle.gcl_core.specs.Views.{statements_of}
 use Rattle.choice_tree.specs.Meaning.{choice_tree_on}
-use Rattle.gcl_core.specs.Bounds.{IsWeight}
-use Rattle.choice_tree.specs.Tree.{in_order, TreeWeights}
+use Rattle.choice_tree.specs.Tree.{in_order}
 use Rattle.choice_tree.specs.TreeOf.{members_of, tree_of}
 use Rattle.choice_tree.specs.Views.{choice_trees_of}
+use Rattle.choice_tree.specs.WellFormed.{IsWellFormed}
 use Rattle.choice_tree.proofs.Meanings.{tree_means}
-use Rattle.choice_tree.proofs.Weights.{members_weights}
 use Rattle.choice_tree.proofs.ViewLemmas.{row_view}
+use Rattle.choice_tree.proofs.WellFormedTrees.{members_well_formed}
 use Rattle.choice_tree.proofs.building.to_tree.Goals as goal
 
 pub returns-clause-tree : goal.returns-clause-tree
@@ -18,5 +18,5 @@ returns-clause-tree c =
 pub returns-clause-meaning : goal.returns-clause-meaning
 returns-clause-meaning c = λ n r s w. ap (λ t. choice_tree_on n r t s w) (returns-clause-tree c) ∙ tree_means n r (statements_of c.args.p.now.body) s w
 
-pub returns-clause-weights : goal.returns-clause-weights
-returns-clause-weights c = subst (TreeWeights IsWeight) (sym (returns-clause-tree c)) (members_weights IsWeight (statements_of c.args.p.now.body) c.program.ensures.weights)
+pub returns-clause-well_formed : goal.returns-clause-well_formed
+returns-clause-well_formed c = subst IsWellFormed (sym (returns-clause-tree c)) (members_well_formed (statements_of c.args.p.now.body) c.program.ensures.weights)
