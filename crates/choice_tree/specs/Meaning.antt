@@ -1,5 +1,6 @@
 -- What a choice-fix tree does from a state on a list of bits, by the same cases as a block: a row is a block, a test an `if`, a
--- repetition a loop, and the tree that fails a failed observation.
+-- repetition a loop, and the tree that fails a failed observation. A choice among several arms goes on with the arm whose number is the
+-- class of its draw.
 use Rattle.std.specs.Prelude.{ℕ, zero, suc, Bool, List, slice_set}
 use Rattle.gcl_core.specs.declared.answers.Limit.TheVariants.{Attempts}
 use Rattle.gcl_core.specs.Value.{State, value_of}

@@ -1,5 +1,5 @@
--- The parts of a choice among several arms: arm i is taken with a weight of its part over the sum of all parts.
--- A weight of 0 is a part as well; parts in lowest terms, so few and with so great a sum are this project's own rule.
+-- The parts of a choice among several arms: arm i has the weight of its part over the sum of all. A part may be 0.
+-- How many arms there may be, and how great their sum, is this project's own rule.
 use Rattle.std.specs.Prelude.{ℕ, ◌+◌, ◌≤◌, List, [], ◌∷◌, length, All}
 use Rattle.std.specs.Int.{◌∣◌}
 use Rattle.std.specs.List.{sum}
@@ -15,7 +15,7 @@ sums_from c (p ∷ ps) = (c + p) ∷ sums_from (c + p) ps
 abbrev pub partial_sums : List ℕ → List ℕ
 partial_sums ps = sums_from 0 ps
 
--- there are so many parts, no number above 1 divides all of them, and their sum is from 1 to the greatest denominator
+-- from LEAST_ARMS to MOST_ARMS parts, all of which no number above 1 divides, with a sum from 1 to the greatest denominator
 pub record AreParts (ps : List ℕ) : Type 0 where
   pub enough : LEAST_ARMS ≤ length ps
   pub few : length ps ≤ MOST_ARMS

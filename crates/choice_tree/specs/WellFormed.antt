@@ -1,4 +1,4 @@
--- Trees whose draws can be made: each weight is one, and the parts of a choice among several arms are such parts, one for each arm.
+-- Well-formed trees: each weight is at most 1 over a number in range, and a choice among several arms has such parts, one for each arm.
 use Rattle.std.specs.Prelude.{◌≡◌, length}
 use Rattle.gcl_core.specs.Bounds.{IsWeight}
 use Rattle.choice_tree.specs.Parts.{AreParts}
