@@ -1,6 +1,6 @@
 -- Partial sums: how many there are, which is the last, and that they grow at their end while the parts are read.
-use Rattle.std.proofs.Common.{◌≡◌, ◌∙◌, ℕ, ◌+◌, ◌<◌, ◌≤◌, List, [], ◌∷◌, ◌++◌, length, get_or, drop, append_assoc, append-nil, refl, sym, ap, arith}
-use Rattle.std.proofs.lemmas.List.{at_drop_more, at_drop_all}
+use Rattle.std.proofs.Common.{◌≡◌, ◌∙◌, ℕ, ◌+◌, ◌<◌, ◌≤◌, List, [], ◌∷◌, ◌++◌, length, get_or, drop, refl, sym, ap, arith}
+use Rattle.std.proofs.lemmas.List.{at_drop_more}
 use Rattle.std.specs.List.{fold, sum}
 use Rattle.gcl_core.specs.Draw.{last_from, last_end}
 use Rattle.choice_tree.specs.Parts.{sums_from, partial_sums}
@@ -36,23 +36,13 @@ pub record Summed (ends : List ℕ) (end i : ℕ) (ps : List ℕ) : Type 0 where
   pub whole : ends ++ sums_from end (drop i ps) ≡ partial_sums ps
   pub total : added_to end (drop i ps) ≡ sum ps
 
-pub summed_all : (ends : List ℕ) (end i : ℕ) (ps : List ℕ) → length ps ≤ i → Summed ends end i ps → ends ≡ partial_sums ps
-summed_all ends end i ps le b = sym (append-nil ends) ∙ ap (λ l. ends ++ l) (sym (at_drop_all (sums_from end) ps i le)) ∙ b.whole
-
 module _ (ends : List ℕ) (end i : ℕ) (ps : List ℕ) (p : ℕ) (lt : i < length ps) (is : p ≡ get_or ps i p) (b : Summed ends end i ps) where
   next : drop i ps ≡ p ∷ drop (i + 1) ps
   next = at_drop_more (λ l. l) ps i p lt ∙ ap (λ x. x ∷ drop (i + 1) ps) (sym is)
 
-  total_next : added_to (end + p) (drop (i + 1) ps) ≡ sum ps
-  total_next = ap (added_to end) (sym next) ∙ b.total
-
   -- the next end is no more than the sum of all
   pub end_within : end + p ≤ sum ps
-  end_within = let le = none_less (end + p) (drop (i + 1) ps) in omega (arith, le, total_next)
-
-  pub summed_one : (us : List ℕ) → us ≡ ends ++ (end + p) ∷ [] → Summed us (end + p) (i + 1) ps
-  summed_one us u = record {
-    whole = ap (λ l. l ++ sums_from (end + p) (drop (i + 1) ps)) u ∙ append_assoc ends ((end + p) ∷ []) (sums_from (end + p) (drop (i + 1) ps))
-        ∙ ap (λ l. ends ++ sums_from end l) (sym next) ∙ b.whole;
-    total = total_next;
-  }
+  end_within =
+      let le = none_less (end + p) (drop (i + 1) ps) in
+      let total : added_to (end + p) (drop (i + 1) ps) ≡ sum ps = ap (added_to end) (sym next) ∙ b.total in
+      omega (arith, le, total)
