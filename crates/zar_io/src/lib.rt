@@ -4,6 +4,7 @@
 mod calls;
 mod copying;
 mod faults;
+mod faulty_bits;
 mod file_bits;
 mod gate;
 mod host;
@@ -17,6 +18,7 @@ mod source;
 mod stream_bits;
 mod writing;
 
+pub use faulty_bits::FaultyBits;
 pub use file_bits::FileBits;
 pub use gate::{Gate, Open};
 pub use host::{HostFiles, HostSink};
