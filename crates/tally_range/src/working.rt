@@ -4,7 +4,7 @@ ghost use Rattle.std.specs.Prelude.{All, OnOk};
 ghost use Rattle.std.specs.List.{AllZip};
 ghost use Rattle.std.specs.Thread.{IsSync};
 ghost use Rattle.gcl_core.specs.Runs.{InRange};
-ghost use Rattle.claim_board.specs.Board.{IsSamePass};
+ghost use Rattle.claim_board.specs.Board.{IsPassOf, IsSamePass};
 ghost use Rattle.tally_range.specs.Shares.{IsRange, IsReady, IsCounted, pass_of};
 ghost use Rattle.tally_range.specs.inner.Worked.{IsWorked};
 
@@ -20,7 +20,7 @@ use zar_io::Gate;
 
 /// Claims blocks of 64 streams, the last of which may be shorter, until there is none left, runs the sampler on the streams of each,
 /// and counts how the runs end. The gate is told of each block before its first stream. Whatever the answer, the share holds the same
-/// pass. An error comes only where memory is wanting, and nothing is promised of the table then.
+/// pass of the same board. An error comes only where memory is wanting, and nothing is promised of the table then.
 pub fn work<G: Gate>(
     board: &Board,
     share: &mut Share,
@@ -33,6 +33,7 @@ pub fn work<G: Gate>(
     requires range { IsRange range.now }
     requires ready { IsReady board.now range.now share.old }
     ensures pass { IsSamePass (pass_of share.old) (pass_of share.new) }
+    ensures board { IsPassOf board.now (pass_of share.new) }
     ensures counted { OnOk result (IsCounted s.now l.now range.now share.new) }
 {
     let mut state = s.start(share.alloc, l)?;
