@@ -3,9 +3,11 @@
 
 mod hunter;
 mod hunting;
+mod laws;
 mod streams;
 #[cfg(test)]
 mod tests;
 mod working;
 
 pub use hunting::hunt;
+pub use laws::least_is_one;

@@ -8,16 +8,43 @@ use gcl_check::check;
 use gcl_core::{Block, Checked, Expr, Limits, Names, Outcome, Program, Stmt, TallyKey};
 use sampler_run::{Sampler, compile};
 use std::alloc::{AllocError, Global};
+use std::sync::atomic::AtomicU64;
+use std::sync::atomic::Ordering::SeqCst;
 use std::test::Fail;
 use std::thread::Threads;
 use tally_range::SeedRange;
-use zar_io::Open;
+use zar_io::{Gate, Open};
 
 const LIMITS: Limits = Limits {
     turns: 1000,
     attempts: 1000,
     rounds: 1000,
 };
+
+// Counts the blocks that are entered.
+#[derive(Drop)]
+struct Counter {
+    entered: AtomicU64,
+}
+
+impl Gate for Counter {
+    fn entered(&self, _: u64) {
+        self.entered.fetch_add(1, SeqCst);
+    }
+}
+
+// `return 5;`
+#[tactic(auto, using(gcl_core::proofs::ViewLemmas::views))]
+fn five(alloc: Global) -> Result<Option<Checked>, AllocError> {
+    Ok(check(Program {
+        names: Names::new(alloc),
+        body: Block {
+            stmts: Vec::new(alloc),
+        },
+        result: Expr::Num(5),
+    })
+    .ok())
+}
 
 // `x ~ uniform(6); return x;`
 #[tactic(auto, using(gcl_core::proofs::ViewLemmas::views))]
@@ -99,6 +126,38 @@ fn the_least_of_many(rt: HostRuntime) -> Result<(), Fail> {
             let sampler = compile(alloc, &die)?;
             assert!(rt; finds_draws(&rt, alloc, &sampler)?);
             assert!(rt; ends_early(&rt, alloc, &sampler)?);
+        }
+        None => assert!(rt; false),
+    }
+    Ok(())
+}
+
+// In a hunt over 2^40 streams, each of which is wanted, no worker enters a third block.
+fn enters_few<R: Threads + Sync>(
+    rt: &R,
+    alloc: Global,
+    s: &Sampler,
+    workers: u32,
+) -> Result<bool, AllocError>
+    requires { IsWorkers workers }
+{
+    let gate = Counter {
+        entered: AtomicU64::new(0),
+    };
+    let range = streams(0, 1 << 40, 1000, workers);
+    let found = hunt(rt, alloc, s, &LIMITS, &range, &FIVE, &gate)?;
+    Ok(found == Some(0) && gate.entered.load(SeqCst) <= 2 * u64::from(workers))
+}
+
+#[test]
+fn workers_stop_behind_what_they_found(rt: HostRuntime) -> Result<(), Fail> {
+    let alloc = rt.alloc();
+    match five(alloc)? {
+        Some(five) => {
+            let sampler = compile(alloc, &five)?;
+            for workers in [1, 4, 64] {
+                assert!(rt; enters_few(&rt, alloc, &sampler, workers)?);
+            }
         }
         None => assert!(rt; false),
     }

@@ -1,6 +1,6 @@
 -- The lines that are printed, one for each answer and each refusal. This project's own format: words of plain letters, numbers in
 -- decimal digits with a minus sign before one below 0, and one line feed, the byte 10, at the end.
-use Rattle.std.specs.Prelude.{ℕ, List, [], ◌++◌, Some, None, codes, decimal, map, slice_get, unwrap_or}
+use Rattle.std.specs.Prelude.{ℕ, List, [], ◌++◌, Option, Some, None, codes, decimal, map, slice_get, unwrap_or}
 use Rattle.std.specs.Fmt.{signed_decimal}
 use Rattle.gcl_core.specs.declared.answers.Fault.TheVariants.{Overflow, ZeroDivisor, BadBound}
 use Rattle.gcl_core.specs.declared.answers.Limit.TheVariants.{Turns, Attempts, Rounds}
@@ -69,6 +69,11 @@ abbrev pub number_text : Count → ℕ → List ℕ
 number_text Statements n = codes "statements " ++ decimal n ++ codes "\n"
 number_text Bytes n = codes "bytes " ++ decimal n ++ codes "\n"
 number_text Streams n = codes "streams " ++ decimal n ++ codes "\n"
+
+-- the number of a stream that was found, or that there is none
+abbrev pub hunt_text : Option ℕ → List ℕ
+hunt_text (Some i) = codes "stream " ++ decimal i ++ codes "\n"
+hunt_text None = codes "stream none\n"
 
 -- the label of a roll with the number of its flips, or that number where there is none
 abbrev pub roll_text : Roll → List ℕ

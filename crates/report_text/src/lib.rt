@@ -8,6 +8,7 @@ mod outcomes;
 mod refusals;
 mod rolls;
 mod shares;
+mod streams;
 #[cfg(test)]
 mod tests;
 
@@ -17,3 +18,4 @@ pub use line::Line;
 pub use refusals::{Refusal, fault_line};
 pub use rolls::{each_line, flips_line, roll_line};
 pub use shares::{bound_line, cost_line, mass_line, other_line, undecided_line};
+pub use streams::hunt_line;

@@ -1,8 +1,8 @@
 // The lines, byte by byte.
 
 use crate::{
-    Refusal, bound_line, check_line, cost_line, fault_line, mass_line, other_line, sample_line,
-    tally_line, undecided_line,
+    Refusal, bound_line, check_line, cost_line, fault_line, hunt_line, mass_line, other_line,
+    sample_line, tally_line, undecided_line,
 };
 use frac128::Frac;
 use gcl_core::{Answer, Fault, Limit, Outcome, TallyKey};
@@ -125,4 +125,14 @@ fn bounds_have_their_lines(rt: HostRuntime) {
         other_line(&Frac::of(7, 7)).bytes(),
         b"other from 0/1 to 1/1\n".as_slice()
     );
+}
+
+#[test]
+fn streams_have_their_lines(rt: HostRuntime) {
+    assert_eq!(rt; hunt_line(Some(0)).bytes(), b"stream 0\n".as_slice());
+    assert_eq!(rt;
+        hunt_line(Some(u64::MAX - 1)).bytes(),
+        b"stream 18446744073709551614\n".as_slice()
+    );
+    assert_eq!(rt; hunt_line(None).bytes(), b"stream none\n".as_slice());
 }

@@ -4,9 +4,9 @@ use Rattle.gcl_core.specs.declared.refusals.TheConstants.{TOO_DEEP, TOO_FINE, TO
 use Rattle.report_text.specs.declared.refusals.Refusal.{Refusal}
 use Rattle.report_text.specs.declared.refusals.Refusal.TheVariants.{Coded, Read, Write, Memory, NoFile}
 use Rattle.zar_cli.specs.declared.said.Said.{Said}
-use Rattle.zar_cli.specs.declared.said.Said.TheVariants.{Answered, Accepted, Costed, Shown, Rolled}
+use Rattle.zar_cli.specs.declared.said.Said.TheVariants.{Answered, Accepted, Costed, Shown, Found, Rolled}
 use Rattle.zar_cli.specs.declared.command.Command.{Command}
-use Rattle.zar_cli.specs.declared.command.Command.TheVariants.{Sample, Mass, Cost, Posterior, Audit, Tally, Check, Show, Code, Gen, Fast}
+use Rattle.zar_cli.specs.declared.command.Command.TheVariants.{Sample, Mass, Cost, Posterior, Audit, Tally, Hunt, Check, Show, Code, Gen, Fast}
 use Rattle.zar_cli.specs.declared.command.Source.TheVariants.{File, Stream}
 use Rattle.zar_cli.specs.Words.{Word}
 use Rattle.zar_cli.specs.Output.{Output}
@@ -20,6 +20,7 @@ names_in (Cost program limits) = program ∷ []
 names_in (Posterior program turns) = program ∷ []
 names_in (Audit program depth limits) = program ∷ []
 names_in (Tally program range limits) = program ∷ []
+names_in (Hunt program range limits want) = program ∷ []
 names_in (Check program) = program ∷ []
 names_in (Show program) = program ∷ []
 names_in (Code program) = program ∷ []
@@ -37,6 +38,7 @@ greatest_code (Cost program limits) = TOO_MANY_STATES
 greatest_code (Posterior program turns) = ALL_FAILED
 greatest_code (Audit program depth limits) = TOO_FINE
 greatest_code (Tally program range limits) = TOO_FINE
+greatest_code (Hunt program range limits want) = TOO_FINE
 greatest_code (Check program) = TOO_FINE
 greatest_code (Show program) = TOO_DEEP
 greatest_code (Code program) = TOO_FINE
@@ -52,6 +54,7 @@ FitsSaid (Cost program limits) (Costed bits) = Unit {0}
 FitsSaid (Posterior program turns) (Shown text) = Unit {0}
 FitsSaid (Audit program depth limits) (Shown text) = Unit {0}
 FitsSaid (Tally program range limits) (Shown text) = Unit {0}
+FitsSaid (Hunt program range limits want) (Found stream) = Unit {0}
 FitsSaid (Check program) (Accepted statements names) = Unit {0}
 FitsSaid (Show program) (Shown text) = Unit {0}
 FitsSaid (Code program) (Shown text) = Unit {0}

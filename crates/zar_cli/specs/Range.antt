@@ -7,7 +7,7 @@ use Rattle.generated_program.specs.declared.generating.TheConstants.{GREATEST_NU
 use Rattle.mass_fold.specs.Refused.{IsLimit}
 use Rattle.tally_range.specs.Shares.{IsRange, IsWorkers}
 use Rattle.zar_cli.specs.declared.command.Command.{Command}
-use Rattle.zar_cli.specs.declared.command.Command.TheVariants.{Sample, Mass, Cost, Posterior, Audit, Tally, Check, Show, Code, Gen, Fast}
+use Rattle.zar_cli.specs.declared.command.Command.TheVariants.{Sample, Mass, Cost, Posterior, Audit, Tally, Hunt, Check, Show, Code, Gen, Fast}
 use Rattle.zar_cli.specs.declared.command.Source.{Source}
 use Rattle.zar_cli.specs.declared.command.Source.TheVariants.{File, Stream}
 use Rattle.zar_cli.specs.declared.settings.TheConstants.{MOST_BUDGET, MOST_DEPTH}
@@ -23,6 +23,7 @@ HasRange (Cost program limits) = InRange limits
 HasRange (Posterior program turns) = turns ≤ MOST_LIMIT
 HasRange (Audit program depth limits) = (depth ≤ MOST_DEPTH) × InRange limits
 HasRange (Tally program range limits) = InRange limits × IsRange range × IsWorkers range.workers
+HasRange (Hunt program range limits want) = InRange limits × IsRange range × IsWorkers range.workers
 HasRange (Check program) = Unit {0}
 HasRange (Show program) = Unit {0}
 HasRange (Code program) = Unit {0}

@@ -2,7 +2,7 @@
 
 ghost use Rattle.std.specs.Prelude.{◌≡◌, MatchResult};
 
-use gcl_core::Limits;
+use gcl_core::{Limits, TallyKey};
 use std::alloc::{AllocError, Global};
 use std::marker::Model;
 use tally_range::SeedRange;
@@ -62,6 +62,8 @@ pub enum Command {
     Audit(FileName, u32, Limits),
     /// Tallies the program in the file over the streams of a range.
     Tally(FileName, SeedRange, Limits),
+    /// Hunts the streams of a range for the least on which the program in the file has this key.
+    Hunt(FileName, SeedRange, Limits, TallyKey),
     /// Checks the program in the file.
     Check(FileName),
     /// Shows the canonical text of the program in the file.

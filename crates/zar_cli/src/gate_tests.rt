@@ -1,11 +1,16 @@
-// A tally by the top call, with a gate that holds a block.
+// A tally and a hunt by the top call, with a gate that holds a block.
+
+ghost use Rattle.std.specs.Prelude.{◌^◌, ◌<◌, length};
 
 use crate::in_memory::spelled;
 use crate::zar;
+use std::alloc::{AllocError, Global};
+use std::marker::Sync;
 use std::sync::atomic::AtomicU64;
 use std::sync::atomic::Ordering::SeqCst;
 use std::test::Fail;
 use std::thread;
+use std::thread::Threads;
 use zar_io::{Gate, MemFiles, MemSink};
 
 // Holds the block that is entered first until the three others were entered.
@@ -44,9 +49,9 @@ fn each_entered_once(gate: &Held) -> bool {
     gate.turns_spent.load(SeqCst) == 0
 }
 
-#[test]
-fn two_workers_enter_four_blocks(rt: HostRuntime) -> Result<(), Fail> {
-    let gate = Held {
+// A gate at which no block was entered yet.
+fn held() -> Held {
+    Held {
         blocks: [
             AtomicU64::new(0),
             AtomicU64::new(0),
@@ -55,38 +60,76 @@ fn two_workers_enter_four_blocks(rt: HostRuntime) -> Result<(), Fail> {
         ],
         entered: AtomicU64::new(0),
         turns_spent: AtomicU64::new(0),
-    };
-    let alloc = rt.alloc();
-    let words = spelled(
-        alloc,
-        &[
-            "tally",
-            "p.gcl",
-            "--seed",
-            "0",
-            "--from",
-            "0",
-            "--to",
-            "256",
-            "--workers",
-            "2",
-        ],
-    )?;
+    }
+}
+
+// The call of these words on the program `return 7;` has status 0 and writes this line.
+fn says<R: Threads + Sync>(
+    rt: &R,
+    alloc: Global,
+    call: &[&str],
+    gate: &Held,
+    line: &[u8],
+) -> Result<bool, AllocError>
+    requires { length call.now < 2 ^ 32 }
+{
+    let words = spelled(alloc, call)?;
     let mut files = MemFiles::new(alloc, 16, &[])?;
     files.add("p.gcl", b"return 7;")?;
     let mut out = MemSink::new(alloc, 16, 4096, &[])?;
     let mut err = MemSink::new(alloc, 16, 4096, &[])?;
     let status = zar(
-        &rt,
+        rt,
         alloc,
         words.as_slice(),
         &mut files,
         &mut out,
         &mut err,
-        &gate,
+        gate,
     );
-    assert_eq!(rt; status, 0);
-    assert_eq!(rt; out.bytes(), b"value 7 count 256\n".as_slice());
+    Ok(status == 0 && out.bytes() == line)
+}
+
+const TALLIED: [&str; 10] = [
+    "tally",
+    "p.gcl",
+    "--seed",
+    "0",
+    "--from",
+    "0",
+    "--to",
+    "256",
+    "--workers",
+    "2",
+];
+
+const HUNTED: [&str; 12] = [
+    "hunt",
+    "p.gcl",
+    "--seed",
+    "0",
+    "--from",
+    "0",
+    "--to",
+    "256",
+    "--want",
+    "4",
+    "--workers",
+    "2",
+];
+
+#[test]
+fn two_workers_enter_four_blocks(rt: HostRuntime) -> Result<(), Fail> {
+    let gate = held();
+    assert!(rt; says(&rt, rt.alloc(), &TALLIED, &gate, b"value 7 count 256\n")?);
+    assert!(rt; each_entered_once(&gate));
+    Ok(())
+}
+
+#[test]
+fn two_workers_hunt_in_four_blocks(rt: HostRuntime) -> Result<(), Fail> {
+    let gate = held();
+    assert!(rt; says(&rt, rt.alloc(), &HUNTED, &gate, b"stream none\n")?);
     assert!(rt; each_entered_once(&gate));
     Ok(())
 }

@@ -49,7 +49,7 @@ fn call<R: Threads + Sync>(
 #[test]
 fn says_in_memory(rt: HostRuntime) -> Result<(), Fail> {
     let two_thirds: &[u8] = b"choice 2/3 { x := 1; } or { x := 2; } return x;";
-    let cases: [(&[u8], &[&str], &[u8]); 8] = [
+    let cases: [(&[u8], &[&str], &[u8]); 9] = [
         (
             two_thirds,
             &["mass", "p.gcl"],
@@ -74,6 +74,13 @@ fn says_in_memory(rt: HostRuntime) -> Result<(), Fail> {
             b"return 7;",
             &["tally", "p.gcl", "--seed", "0", "--from", "3", "--to", "9"],
             b"value 7 count 6\n",
+        ),
+        (
+            b"x ~ uniform(6); return x;",
+            &[
+                "hunt", "p.gcl", "--seed", "0", "--from", "0", "--to", "1", "--want", "5",
+            ],
+            b"stream 0\n",
         ),
         (
             b"",

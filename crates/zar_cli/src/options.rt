@@ -6,12 +6,13 @@ ghost use Rattle.dice_roll.specs.declared.rules.TheConstants.{MOST_FLIPS};
 ghost use Rattle.gcl_core.specs.declared.rules.TheConstants.{MOST_LIMIT};
 ghost use Rattle.zar_cli.specs.declared.settings.TheConstants.{MOST_BUDGET, MOST_WORKERS, MOST_DEPTH};
 
+use crate::keys::key_named;
 use crate::settings::{
     MOST_BUDGET, MOST_DEPTH, MOST_STREAMS, MOST_WORKERS, Setting, USUAL_BUDGET, USUAL_LIMIT,
     USUAL_WORKERS, Verb, number_in, setting_named,
 };
 use dice_roll::MOST_FLIPS;
-use gcl_core::{Limits, MOST_LIMIT};
+use gcl_core::{Limits, MOST_LIMIT, TallyKey};
 use tally_range::SeedRange;
 
 // What the options said so far.
@@ -29,6 +30,7 @@ pub struct Options<'a> {
     pub turns: Option<u64>,
     pub attempts: Option<u64>,
     pub rounds: Option<u64>,
+    pub want: Option<TallyKey>,
     ghost budget_in_range: { ForSome budget (λ n. n ≤ MOST_BUDGET) },
     ghost workers_in_range: { ForSome workers (λ n. (1 ≤ n) × (n ≤ MOST_WORKERS)) },
     ghost depth_in_range: { ForSome depth (λ n. n ≤ MOST_DEPTH) },
@@ -51,6 +53,7 @@ pub const NO_OPTIONS: Options<'static> = Options {
     turns: None,
     attempts: None,
     rounds: None,
+    want: None,
 };
 
 impl<'a> Options<'a> {
@@ -76,6 +79,7 @@ impl<'a> Options<'a> {
             Setting::Turns => self.turns.is_some(),
             Setting::Attempts => self.attempts.is_some(),
             Setting::Rounds => self.rounds.is_some(),
+            Setting::Want => self.want.is_some(),
         }
     }
 
@@ -93,7 +97,8 @@ impl<'a> Options<'a> {
             | Setting::Flips
             | Setting::Turns
             | Setting::Attempts
-            | Setting::Rounds => false,
+            | Setting::Rounds
+            | Setting::Want => false,
         }
     }
 
@@ -116,6 +121,7 @@ impl<'a> Options<'a> {
             Setting::Turns => options.turns = Some(number_in(0, MOST_LIMIT, value)?),
             Setting::Attempts => options.attempts = Some(number_in(1, MOST_LIMIT, value)?),
             Setting::Rounds => options.rounds = Some(number_in(1, MOST_LIMIT, value)?),
+            Setting::Want => options.want = Some(key_named(value)?),
         }
         Some(options)
     }
@@ -131,7 +137,7 @@ impl<'a> Options<'a> {
         Some(setting)
     }
 
-    /// The streams that are tallied, where the seed and both ends are given, and they are no more than can be.
+    /// The streams that are gone through, where the seed and both ends are given, and they are no more than can be.
     pub fn range(&self) -> Option<SeedRange>
         ensures range { result ≡ range_of (options_of self.now) }
         ensures within { IfSome result (λ r. IsRange r × IsWorkers r.workers) }

@@ -17,6 +17,7 @@ pub enum Verb {
     Posterior,
     Audit,
     Tally,
+    Hunt,
     Check,
     Show,
     Code,
@@ -39,6 +40,7 @@ pub enum Setting {
     Turns,
     Attempts,
     Rounds,
+    Want,
 }
 
 /// The limit of turns, of attempts and of rounds where none is given.
@@ -51,9 +53,9 @@ pub const MOST_BUDGET: u64 = 1_000_000_000;
 pub const USUAL_BUDGET: u64 = 65_536;
 /// The most streams of a range.
 pub const MOST_STREAMS: u64 = 1 << 40;
-/// The most workers of a tally.
+/// The most workers of a tally or a hunt.
 pub const MOST_WORKERS: u64 = 64;
-/// The workers of a tally where no number is given.
+/// The workers of a tally or a hunt where no number is given.
 pub const USUAL_WORKERS: u64 = 4;
 /// The greatest depth of an audit, in bits.
 pub const MOST_DEPTH: u64 = 20;
@@ -74,6 +76,7 @@ pub fn verb_named(word: &str) -> Option<Verb>
         "posterior" => Some(Verb::Posterior),
         "audit" => Some(Verb::Audit),
         "tally" => Some(Verb::Tally),
+        "hunt" => Some(Verb::Hunt),
         "check" => Some(Verb::Check),
         "show" => Some(Verb::Show),
         "code" => Some(Verb::Code),
@@ -99,6 +102,7 @@ pub fn setting_named(word: &str) -> Option<Setting>
         "--turns" => Some(Setting::Turns),
         "--attempts" => Some(Setting::Attempts),
         "--rounds" => Some(Setting::Rounds),
+        "--want" => Some(Setting::Want),
         _ => None,
     }
 }
@@ -121,7 +125,7 @@ impl Setting {
         )
     }
 
-    // Which streams are tallied, and by how many workers.
+    // Which streams are gone through, and by how many workers.
     fn is_range(self) -> bool
         ensures { result ≡ is_range self }
     {
@@ -146,6 +150,7 @@ impl Verb {
             | Verb::Posterior
             | Verb::Audit
             | Verb::Tally
+            | Verb::Hunt
             | Verb::Check
             | Verb::Show
             | Verb::Code => None,
@@ -164,6 +169,7 @@ impl Verb {
             | Verb::Posterior
             | Verb::Audit
             | Verb::Tally
+            | Verb::Hunt
             | Verb::Check
             | Verb::Show
             | Verb::Code => !word.is_empty(),
@@ -180,6 +186,9 @@ impl Verb {
             Verb::Posterior => matches!(setting, Setting::Turns),
             Verb::Audit => setting.is_limit() || matches!(setting, Setting::Depth),
             Verb::Tally => setting.is_limit() || setting.is_range(),
+            Verb::Hunt => {
+                setting.is_limit() || setting.is_range() || matches!(setting, Setting::Want)
+            }
             Verb::Fast => setting.is_bits() || matches!(setting, Setting::Flips),
             Verb::Check | Verb::Show | Verb::Code | Verb::Gen => false,
         }

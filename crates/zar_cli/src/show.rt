@@ -14,7 +14,7 @@ use crate::statuses::{
 use dice_roll::Roll;
 use gcl_core::refusals::{BAD_WORDS, TOO_FINE};
 use gcl_core::{Answer, Outcome};
-use report_text::{Refusal, check_line, cost_line, fault_line, roll_line, sample_line};
+use report_text::{Refusal, check_line, cost_line, fault_line, hunt_line, roll_line, sample_line};
 use zar_io::Sink;
 
 fn answer_status(answer: &Answer) -> u8
@@ -46,6 +46,7 @@ fn said_status(said: &Said) -> u8
         Said::Accepted(_, _) => DONE,
         Said::Costed(_) => DONE,
         Said::Shown(_) => DONE,
+        Said::Found(_) => DONE,
         Said::Rolled(roll) => roll_status(roll),
     }
 }
@@ -90,6 +91,9 @@ pub fn show<O: Sink, E: Sink>(output: &Result<Said, Refusal>, out: &mut O, err: 
             deliver(out, err, line.bytes(), &[], fault.bytes())
         }
         Ok(Said::Costed(bits)) => deliver(out, err, cost_line(bits).bytes(), &[], fault.bytes()),
+        Ok(Said::Found(stream)) => {
+            deliver(out, err, hunt_line(*stream).bytes(), &[], fault.bytes())
+        }
         Ok(Said::Rolled(roll)) => deliver(out, err, roll_line(roll).bytes(), &[], fault.bytes()),
         Ok(Said::Shown(text)) => deliver(out, err, text.bytes(), &[], fault.bytes()),
         Err(refusal) => deliver(out, err, &[], fault_line(refusal).bytes(), fault.bytes()),

@@ -3,7 +3,9 @@
 ghost use Rattle.std.specs.Prelude.{◌^◌, ◌<◌, length};
 
 use crate::in_memory::spelled;
+use crate::keys::key_named;
 use crate::{Command, Source, WordsError, read_words};
+use gcl_core::{Fault, Limit, Outcome, TallyKey};
 use std::alloc::{AllocError, Global};
 use std::test::Fail;
 
@@ -306,4 +308,88 @@ fn reads_the_file_of_check_and_show(rt: HostRuntime) -> Result<(), Fail> {
         _ => panic!(rt; "no show"),
     }
     Ok(())
+}
+
+#[test]
+fn names_the_first_wrong_word_of_hunts(rt: HostRuntime) -> Result<(), Fail> {
+    let cases: [(&[&str], u32); 9] = [
+        (&["hunt"], 1),
+        (&["hunt", "p"], 2),
+        (&["hunt", "p", "--want"], 3),
+        (&["hunt", "p", "--want", "five"], 3),
+        (&["hunt", "p", "--want", "5", "--want", "5"], 4),
+        (&["hunt", "p", "--want", "5", "--stream", "1"], 4),
+        (&["hunt", "p", "--seed", "0", "--from", "0", "--to", "1"], 8),
+        (
+            &[
+                "hunt", "p", "--seed", "0", "--from", "5", "--to", "4", "--want", "5",
+            ],
+            10,
+        ),
+        (&["tally", "p", "--want", "5"], 2),
+    ];
+    let mut row = 0u32;
+    for (words, at) in cases {
+        let answer = read(rt.alloc(), words)?;
+        assert_eq!(rt;
+            answer.err(),
+            Some(WordsError::BadWords { at }),
+            "in row {row}"
+        );
+        row = row.wrapping_add(1);
+    }
+    Ok(())
+}
+
+#[test]
+fn reads_the_numbers_and_the_key_of_hunt(rt: HostRuntime) -> Result<(), Fail> {
+    match read(
+        rt.alloc(),
+        &[
+            "hunt", "p", "--want", "-5", "--to", "9", "--from", "5", "--seed", "7", "--turns", "3",
+        ],
+    )? {
+        Ok(Command::Hunt(program, range, limits, want)) => {
+            assert_eq!(rt; program.text(), "p");
+            assert_eq!(rt; (range.seed, range.from, range.to), (7, 5, 9));
+            assert_eq!(rt; (range.budget, range.workers), (65_536, 4));
+            assert_eq!(rt; (limits.turns, limits.attempts), (3, 1000));
+            assert_eq!(rt; want, TallyKey::Outcome(Outcome::Value(-5)));
+        }
+        _ => panic!(rt; "no hunt"),
+    }
+    Ok(())
+}
+
+#[test]
+fn keys_are_named(rt: HostRuntime) {
+    let cases: [(&str, Option<Outcome>); 21] = [
+        ("0", Some(Outcome::Value(0))),
+        ("-0", Some(Outcome::Value(0))),
+        ("-5", Some(Outcome::Value(-5))),
+        ("00000000000000000005", Some(Outcome::Value(5))),
+        ("-00000000000000000005", Some(Outcome::Value(-5))),
+        ("9223372036854775807", Some(Outcome::Value(i64::MAX))),
+        ("-9223372036854775808", Some(Outcome::Value(i64::MIN))),
+        ("overflow", Some(Outcome::Fault(Fault::Overflow))),
+        ("zero-divisor", Some(Outcome::Fault(Fault::ZeroDivisor))),
+        ("bad-bound", Some(Outcome::Fault(Fault::BadBound))),
+        ("turns", Some(Outcome::Limit(Limit::Turns))),
+        ("attempts", Some(Outcome::Limit(Limit::Attempts))),
+        ("rounds", Some(Outcome::Limit(Limit::Rounds))),
+        ("", None),
+        ("-", None),
+        ("--5", None),
+        ("+5", None),
+        ("five", None),
+        ("9223372036854775808", None),
+        ("-9223372036854775809", None),
+        ("000000000000000000005", None),
+    ];
+    for (word, outcome) in cases {
+        let key = outcome.map(|outcome| TallyKey::Outcome(outcome));
+        assert_eq!(rt; key_named(word), key, "{word}");
+    }
+    assert_eq!(rt; key_named("more-bits"), Some(TallyKey::MoreBits));
+    assert_eq!(rt; key_named("more bits"), None);
 }
