@@ -10,9 +10,9 @@ use Rattle.gcl_core.specs.declared.refusals.TheConstants.{TOO_FINE, BAD_WORDS}
 use Rattle.report_text.specs.declared.refusals.Refusal.TheVariants.{Coded, Read, Write, Memory, NoFile}
 use Rattle.zar_io.specs.Faults.{CountsFault}
 use Rattle.zar_cli.specs.declared.command.Command.{Command}
-use Rattle.zar_cli.specs.declared.command.Command.TheVariants.{Sample, Mass, Cost, Posterior, Audit, Tally, Hunt, Check, Show, Code, Gen, Fast}
+use Rattle.zar_cli.specs.declared.command.Command.TheVariants.{Sample, Mass, Cost, Posterior, Audit, Tally, Hunt, Check, Show, Code, Gen, Fast, Help}
 use Rattle.zar_cli.specs.declared.said.Said.{Said}
-use Rattle.zar_cli.specs.declared.said.Said.TheVariants.{Answered, Accepted, Costed, Shown, Found, Rolled}
+use Rattle.zar_cli.specs.declared.said.Said.TheVariants.{Answered, Accepted, Costed, Shown, Found, Rolled, Helped}
 use Rattle.zar_cli.specs.declared.statuses.TheConstants.{DONE, WORDS_REFUSED, READ_FAULT, WRITE_FAULT, MASS_REFUSED, LIMIT_REACHED, NO_FILE}
 use Rattle.zar_cli.specs.declared.statuses.TheConstants as status
 use Rattle.zar_cli.specs.Answer.{FitsWords, MissesNamed, NamesMissing, IsAnswer, HasCause}
@@ -49,6 +49,7 @@ said_statuses (Costed bits) = done
 said_statuses (Shown text) = done
 said_statuses (Found stream) = done
 said_statuses (Rolled roll) = roll_statuses roll
+said_statuses (Helped topic) = done
 
 said_apart : (n : ℕ) → IsSaidStatus n → (n ≡ WORDS_REFUSED) ⊎ (n ≡ READ_FAULT) ⊎ (n ≡ WRITE_FAULT) ⊎ (n ≡ NO_FILE) → ⊥
 said_apart _ done h = grind arith
@@ -86,6 +87,7 @@ greatest_few (Code program) = omega arith
 greatest_few (Gen k) = omega arith
 greatest_few (Fast labels flips (Some source)) = omega arith
 greatest_few (Fast labels flips None) = omega arith
+greatest_few (Help topic) = omega arith
 
 -- ---- outputs
 

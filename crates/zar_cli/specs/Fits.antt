@@ -4,9 +4,9 @@ use Rattle.gcl_core.specs.declared.refusals.TheConstants.{TOO_DEEP, TOO_FINE, TO
 use Rattle.report_text.specs.declared.refusals.Refusal.{Refusal}
 use Rattle.report_text.specs.declared.refusals.Refusal.TheVariants.{Coded, Read, Write, Memory, NoFile}
 use Rattle.zar_cli.specs.declared.said.Said.{Said}
-use Rattle.zar_cli.specs.declared.said.Said.TheVariants.{Answered, Accepted, Costed, Shown, Found, Rolled}
+use Rattle.zar_cli.specs.declared.said.Said.TheVariants.{Answered, Accepted, Costed, Shown, Found, Rolled, Helped}
 use Rattle.zar_cli.specs.declared.command.Command.{Command}
-use Rattle.zar_cli.specs.declared.command.Command.TheVariants.{Sample, Mass, Cost, Posterior, Audit, Tally, Hunt, Check, Show, Code, Gen, Fast}
+use Rattle.zar_cli.specs.declared.command.Command.TheVariants.{Sample, Mass, Cost, Posterior, Audit, Tally, Hunt, Check, Show, Code, Gen, Fast, Help}
 use Rattle.zar_cli.specs.declared.command.Source.TheVariants.{File, Stream}
 use Rattle.zar_cli.specs.Words.{Word}
 use Rattle.zar_cli.specs.Output.{Output}
@@ -28,6 +28,7 @@ names_in (Gen k) = []
 names_in (Fast labels flips (Some (File bits))) = bits ∷ []
 names_in (Fast labels flips (Some (Stream seed stream budget))) = []
 names_in (Fast labels flips None) = []
+names_in (Help topic) = []
 
 -- the greatest code with which a command is refused, or 0 where it is by none: `show` takes a program as it is written, others one that
 -- is accepted, and masses, expected bits, bounds and weights may be refused
@@ -45,6 +46,7 @@ greatest_code (Code program) = TOO_FINE
 greatest_code (Gen k) = 0
 greatest_code (Fast labels flips (Some source)) = 0
 greatest_code (Fast labels flips None) = TOO_WIDE
+greatest_code (Help topic) = 0
 
 -- the command says things of this kind
 abbrev pub FitsSaid : Command → Said → Type 0
@@ -61,6 +63,7 @@ FitsSaid (Code program) (Shown text) = Unit {0}
 FitsSaid (Gen k) (Shown text) = Unit {0}
 FitsSaid (Fast labels flips (Some source)) (Rolled roll) = Unit {0}
 FitsSaid (Fast labels flips None) (Shown text) = Unit {0}
+FitsSaid (Help topic) (Helped told) = Unit {0}
 FitsSaid _ _ = ⊥
 
 -- it is refused for a text by one of its codes, and reading and working write nothing

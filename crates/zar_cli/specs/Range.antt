@@ -7,7 +7,7 @@ use Rattle.generated_program.specs.declared.generating.TheConstants.{GREATEST_NU
 use Rattle.mass_fold.specs.Refused.{IsLimit}
 use Rattle.tally_range.specs.Shares.{IsRange, IsWorkers}
 use Rattle.zar_cli.specs.declared.command.Command.{Command}
-use Rattle.zar_cli.specs.declared.command.Command.TheVariants.{Sample, Mass, Cost, Posterior, Audit, Tally, Hunt, Check, Show, Code, Gen, Fast}
+use Rattle.zar_cli.specs.declared.command.Command.TheVariants.{Sample, Mass, Cost, Posterior, Audit, Tally, Hunt, Check, Show, Code, Gen, Fast, Help}
 use Rattle.zar_cli.specs.declared.command.Source.{Source}
 use Rattle.zar_cli.specs.declared.command.Source.TheVariants.{File, Stream}
 use Rattle.zar_cli.specs.declared.settings.TheConstants.{MOST_BUDGET, MOST_DEPTH}
@@ -29,3 +29,4 @@ HasRange (Show program) = Unit {0}
 HasRange (Code program) = Unit {0}
 HasRange (Gen k) = k ≤ GREATEST_NUMBER
 HasRange (Fast labels flips source) = (LEAST_LABELS ≤ labels) × (labels ≤ MOST_LABELS) × (flips ≤ MOST_FLIPS) × IfSome source SourceHasRange
+HasRange (Help topic) = Unit {0}

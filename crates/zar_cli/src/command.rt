@@ -2,6 +2,7 @@
 
 ghost use Rattle.std.specs.Prelude.{◌≡◌, MatchResult};
 
+use crate::help::Topic;
 use gcl_core::{Limits, TallyKey};
 use std::alloc::{AllocError, Global};
 use std::marker::Model;
@@ -75,4 +76,6 @@ pub enum Command {
     /// Draws one of so many labels by the Fast Dice Roller with at most so many flips, on the bits of a source; without one, weighs
     /// the labels.
     Fast(u64, u64, Option<Source>),
+    /// Tells of all commands, of the options of one, or of the version.
+    Help(Topic),
 }

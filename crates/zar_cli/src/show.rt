@@ -6,6 +6,7 @@ ghost use Rattle.zar_cli.specs.Delivery.{answer_status, roll_status, said_status
 ghost use Rattle.zar_cli.specs.Seen.{sink_seen};
 
 use crate::deliver::{Delivery, deliver};
+use crate::help::topic_text;
 use crate::said::Said;
 use crate::statuses::{
     DONE, LIMIT_REACHED, MASS_REFUSED, MORE_BITS, NO_FILE, OUT_OF_MEMORY, READ_FAULT, TEXT_REFUSED,
@@ -48,6 +49,7 @@ fn said_status(said: &Said) -> u8
         Said::Shown(_) => DONE,
         Said::Found(_) => DONE,
         Said::Rolled(roll) => roll_status(roll),
+        Said::Helped(_) => DONE,
     }
 }
 
@@ -96,6 +98,9 @@ pub fn show<O: Sink, E: Sink>(output: &Result<Said, Refusal>, out: &mut O, err: 
         }
         Ok(Said::Rolled(roll)) => deliver(out, err, roll_line(roll).bytes(), &[], fault.bytes()),
         Ok(Said::Shown(text)) => deliver(out, err, text.bytes(), &[], fault.bytes()),
+        Ok(Said::Helped(topic)) => {
+            deliver(out, err, topic_text(*topic).as_bytes(), &[], fault.bytes())
+        }
         Err(refusal) => deliver(out, err, &[], fault_line(refusal).bytes(), fault.bytes()),
     }
 }

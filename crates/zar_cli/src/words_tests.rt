@@ -4,7 +4,8 @@ ghost use Rattle.std.specs.Prelude.{◌^◌, ◌<◌, length};
 
 use crate::in_memory::spelled;
 use crate::keys::key_named;
-use crate::{Command, Source, WordsError, read_words};
+use crate::settings::Verb;
+use crate::{Command, Source, Topic, WordsError, read_words};
 use gcl_core::{Fault, Limit, Outcome, TallyKey};
 use std::alloc::{AllocError, Global};
 use std::test::Fail;
@@ -392,4 +393,22 @@ fn keys_are_named(rt: HostRuntime) {
     }
     assert_eq!(rt; key_named("more-bits"), Some(TallyKey::MoreBits));
     assert_eq!(rt; key_named("more bits"), None);
+}
+
+fn asks_for(alloc: Global, words: &[&str], want: Topic) -> Result<bool, AllocError>
+    requires { length words.now < 2 ^ 32 }
+{
+    match read(alloc, words)? {
+        Ok(Command::Help(topic)) => Ok(topic == want),
+        _ => Ok(false),
+    }
+}
+
+#[test]
+fn reads_what_help_is_asked_for(rt: HostRuntime) -> Result<(), Fail> {
+    let alloc = rt.alloc();
+    assert!(rt; asks_for(alloc, &["help"], Topic::Commands)?);
+    assert!(rt; asks_for(alloc, &["-h", "tally"], Topic::Options(Verb::Tally))?);
+    assert!(rt; asks_for(alloc, &["--version"], Topic::Version)?);
+    Ok(())
 }
