@@ -1,0 +1,39 @@
+"""Calls of the built program, each over files in a folder of its own."""
+import concurrent.futures
+import os
+import pathlib
+import subprocess
+import tempfile
+import typing
+
+SECONDS = 60
+
+
+class Said(typing.NamedTuple):
+    out: bytes
+    err: bytes
+    status: int
+
+    def __str__(self):
+        return f"status {self.status}, out {self.out[:200]!r}, err {self.err[:200]!r}"
+
+
+def call(zar, folder, words, **settings):
+    """What the program says of the words in a folder; its status is below 0 where a signal ended it."""
+    streams = {"stdin": subprocess.DEVNULL, "stdout": subprocess.PIPE, "stderr": subprocess.PIPE}
+    done = subprocess.run([zar, *words], cwd=folder, timeout=SECONDS, check=False, **{**streams, **settings})
+    return Said(done.stdout or b"", done.stderr or b"", done.returncode)
+
+
+def folder_of(files):
+    """A folder with these files, which is gone at the end of the block."""
+    folder = tempfile.TemporaryDirectory()
+    for name, content in files.items():
+        pathlib.Path(folder.name, name).write_bytes(content)
+    return folder
+
+
+def side_by_side(work, items):
+    """The results of the work on each item, by as many threads as there are processors."""
+    with concurrent.futures.ThreadPoolExecutor(len(os.sched_getaffinity(0))) as pool:
+        return list(pool.map(work, items))
