@@ -18,11 +18,13 @@ class Said(typing.NamedTuple):
         return f"status {self.status}, out {self.out[:200]!r}, err {self.err[:200]!r}"
 
 
-def call(zar, folder, words, **settings):
-    """What the program says of the words in a folder; its status is below 0 where a signal ended it."""
-    streams = {"stdin": subprocess.DEVNULL, "stdout": subprocess.PIPE, "stderr": subprocess.PIPE}
-    done = subprocess.run([zar, *words], cwd=folder, timeout=SECONDS, check=False, **{**streams, **settings})
-    return Said(done.stdout or b"", done.stderr or b"", done.returncode)
+def call(zar, folder, words, env=None):
+    """What the program says of the words in a folder; the status is below 0 where a signal ended it, or nothing did."""
+    try:
+        done = subprocess.run([zar, *words], cwd=folder, env=env, stdin=subprocess.DEVNULL, capture_output=True, timeout=SECONDS, check=False)
+    except subprocess.TimeoutExpired:
+        return Said(b"", b"no end after %d seconds" % SECONDS, -1)
+    return Said(done.stdout, done.stderr, done.returncode)
 
 
 def folder_of(files):
