@@ -9,7 +9,7 @@ use std::test::Fail;
 use std::thread::Threads;
 use zar_io::{MemFiles, MemSink, Open};
 
-const TWO_THIRDS: &[u8] = b"choice 2/3 { x := 1; } or { x := 2; } return x;";
+pub(crate) const TWO_THIRDS: &[u8] = b"choice 2/3 { x := 1; } or { x := 2; } return x;";
 
 // What a call said.
 #[derive(Drop)]
@@ -20,7 +20,7 @@ struct Said {
 }
 
 // The two files of a call. A read gives at most `step` bytes, and the calls of these numbers fail.
-fn files_of(
+pub(crate) fn files_of(
     alloc: Global,
     program: Option<&[u8]>,
     bits: Option<&[u8]>,
