@@ -1,8 +1,8 @@
--- The first two words of a call, and those of a pair of an option and its value.
-use Rattle.std.proofs.Common.{◌≡◌, ℕ, ◌+◌, List, [], ◌∷◌, map, get_or, drop, length, ◌≤◌, arith, refl, Some, Result, Ok, Err, ap, ◌∙◌}
+-- The first two words of some, and those of a pair of an option and its value.
+use Rattle.std.proofs.Common.{◌≡◌, ℕ, ◌+◌, List, [], ◌∷◌, map, get_or, drop, length, ◌≤◌, arith, refl, Some, Result, Ok, Err, ap}
 use Rattle.zar_cli.specs.declared.settings.Setting.{Setting}
 use Rattle.zar_cli.specs.declared.settings.Verb.{Verb}
-use Rattle.zar_cli.specs.Words.{Word, Options, verb_named, setting_named, if_taken, with_value, or_bad_value, or_bad_name, with_pair, options_from, command_behind, if_verb, command_of}
+use Rattle.zar_cli.specs.Words.{Word, Options, setting_named, if_taken, with_value, or_bad_value, or_bad_name, with_pair, options_from}
 
 pub options_go : (v : Verb) (i : ℕ) (o o' : Options) (name value : Word) (rest : List Word) (setting : Setting) → if_taken v (setting_named name) o ≡ Some setting
     → with_value setting value o ≡ Some o' → options_from v i o (name ∷ value ∷ rest) ≡ options_from v (i + 2) o' rest
@@ -16,8 +16,3 @@ pub two_first : {A : Type 0} (f : A → Word) (xs : List A) (a b : A) → 2 ≤ 
 two_first f [] a b h = absurd (omega arith)
 two_first f (x ∷ []) a b h = absurd (omega arith)
 two_first f (x ∷ y ∷ xs) a b h = refl
-
--- words that begin with a verb and another word
-pub verb_first : (words : List Word) (verb program : Word) (rest : List Word) (v : Verb) → words ≡ verb ∷ program ∷ rest → verb_named verb ≡ Some v
-    → command_of words ≡ command_behind v (program ∷ rest)
-verb_first words verb program rest v is named = ap command_of is ∙ ap (λ x. if_verb x (program ∷ rest)) named

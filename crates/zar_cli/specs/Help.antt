@@ -2,7 +2,7 @@
 use Rattle.std.specs.Prelude.{ℕ, List}
 use Rattle.zar_cli.specs.declared.help.TheConstants.{VERSION, COMMANDS, SAMPLE, MASS, COST, POSTERIOR, AUDIT, TALLY, HUNT, CHECK, SHOW, CODE, GEN, FAST}
 use Rattle.zar_cli.specs.declared.help.Topic.{Topic}
-use Rattle.zar_cli.specs.declared.help.Topic.TheVariants.{Commands, Options, Version}
+use Rattle.zar_cli.specs.declared.help.Topic.TheVariants.{Everything, One, Version}
 use Rattle.zar_cli.specs.declared.settings.Verb.{Verb}
 use Rattle.zar_cli.specs.declared.settings.Verb.TheVariants as verb
 
@@ -21,6 +21,6 @@ help_of verb.Gen = GEN.now
 help_of verb.Fast = FAST.now
 
 abbrev pub topic_text : Topic → List ℕ
-topic_text Commands = COMMANDS.now
-topic_text (Options v) = help_of v
+topic_text Everything = COMMANDS.now
+topic_text (One v) = help_of v
 topic_text Version = VERSION.now

@@ -50,7 +50,7 @@ fn each_entered_once(gate: &Held) -> bool {
 }
 
 // A gate at which no block was entered yet.
-fn held() -> Held {
+fn no_block_entered() -> Held {
     Held {
         blocks: [
             AtomicU64::new(0),
@@ -120,7 +120,7 @@ const HUNTED: [&str; 12] = [
 
 #[test]
 fn two_workers_enter_four_blocks(rt: HostRuntime) -> Result<(), Fail> {
-    let gate = held();
+    let gate = no_block_entered();
     assert!(rt; says(&rt, rt.alloc(), &TALLIED, &gate, b"value 7 count 256\n")?);
     assert!(rt; each_entered_once(&gate));
     Ok(())
@@ -128,7 +128,7 @@ fn two_workers_enter_four_blocks(rt: HostRuntime) -> Result<(), Fail> {
 
 #[test]
 fn two_workers_hunt_in_four_blocks(rt: HostRuntime) -> Result<(), Fail> {
-    let gate = held();
+    let gate = no_block_entered();
     assert!(rt; says(&rt, rt.alloc(), &HUNTED, &gate, b"stream none\n")?);
     assert!(rt; each_entered_once(&gate));
     Ok(())

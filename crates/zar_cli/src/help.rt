@@ -10,9 +10,9 @@ use crate::settings::Verb;
 #[derive(Clone, Copy, Debug, PartialEq, Eq)]
 pub enum Topic {
     /// All commands.
-    Commands,
+    Everything,
     /// The options of one.
-    Options(Verb),
+    One(Verb),
     Version,
 }
 
@@ -156,7 +156,7 @@ pub fn topic_named(word: &str) -> Option<Topic>
     ensures { result ≡ topic_named word.now }
 {
     match word {
-        "help" | "--help" | "-h" => Some(Topic::Commands),
+        "help" | "--help" | "-h" => Some(Topic::Everything),
         "--version" => Some(Topic::Version),
         _ => None,
     }
@@ -187,8 +187,8 @@ pub fn topic_text(topic: Topic) -> &'static str
     ensures { result.now ≡ topic_text topic }
 {
     match topic {
-        Topic::Commands => COMMANDS,
-        Topic::Options(verb) => help_of(verb),
+        Topic::Everything => COMMANDS,
+        Topic::One(verb) => help_of(verb),
         Topic::Version => VERSION,
     }
 }

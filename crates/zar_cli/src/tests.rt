@@ -1,8 +1,9 @@
 // The top call over files and sinks in memory.
 
-ghost use Rattle.std.specs.Prelude.{◌≡◌, ◌<◌, IfOk, OnOk, length, false, vec_len};
+ghost use Rattle.std.specs.Prelude.{◌≡◌, ◌<◌, ◌^◌, IfOk, OnOk, length, false, vec_len};
 ghost use Rattle.zar_io.specs.MemFiles.{has_open};
 
+use crate::in_memory::spelled;
 use crate::zar;
 use std::alloc::{AllocError, Global};
 use std::test::Fail;
@@ -39,16 +40,16 @@ pub(crate) fn files_of(
     Ok(files)
 }
 
-// Checks or shows the program.
+// What the call of these words says.
 fn say<R: Threads + Sync>(
     rt: &R,
     alloc: Global,
-    verb: &str,
+    call: &[&str],
     files: &mut MemFiles,
-) -> Result<Said, AllocError> {
-    let mut words = Vec::with_capacity(alloc, 2)?;
-    words.push(String::from_str(alloc, verb)?)?;
-    words.push(String::from_str(alloc, "p.gcl")?)?;
+) -> Result<Said, AllocError>
+    requires { length call.now < 2 ^ 32 }
+{
+    let words = spelled(alloc, call)?;
     let mut out = MemSink::new(alloc, 4096, 65_536, &[])?;
     let mut err = MemSink::new(alloc, 4096, 65_536, &[])?;
     let status = zar(
@@ -63,35 +64,7 @@ fn say<R: Threads + Sync>(
     Ok(Said { status, out, err })
 }
 
-// Samples. A write takes at most `step` bytes, and the writes of these numbers fail.
-fn sample<R: Threads + Sync>(
-    rt: &R,
-    alloc: Global,
-    files: &mut MemFiles,
-    step: usize,
-    out_fails: &[u64],
-    err_fails: &[u64],
-) -> Result<Said, AllocError>
-    requires { 0 < step }
-{
-    let mut words = Vec::with_capacity(alloc, 4)?;
-    words.push(String::from_str(alloc, "sample")?)?;
-    words.push(String::from_str(alloc, "p.gcl")?)?;
-    words.push(String::from_str(alloc, "--bits")?)?;
-    words.push(String::from_str(alloc, "b.bin")?)?;
-    let mut out = MemSink::new(alloc, step, 65_536, out_fails)?;
-    let mut err = MemSink::new(alloc, step, 65_536, err_fails)?;
-    let status = zar(
-        rt,
-        alloc,
-        words.as_slice(),
-        files,
-        &mut out,
-        &mut err,
-        &Open,
-    );
-    Ok(Said { status, out, err })
-}
+const SAMPLED: [&str; 4] = ["sample", "p.gcl", "--bits", "b.bin"];
 
 #[test]
 fn answers_the_run_on_the_bits(rt: HostRuntime) -> Result<(), Fail> {
@@ -129,7 +102,7 @@ fn answers_the_run_on_the_bits(rt: HostRuntime) -> Result<(), Fail> {
     for (program, bits, status, out) in cases {
         for step in [1, 4096] {
             let mut files = files_of(rt.alloc(), Some(program), Some(bits), step, &[])?;
-            let said = sample(&rt, rt.alloc(), &mut files, step, &[], &[])?;
+            let said = say(&rt, rt.alloc(), &SAMPLED, &mut files)?;
             assert_eq!(rt; said.status, status);
             assert_eq!(rt; said.out.bytes(), out);
             assert!(rt; said.err.bytes().is_empty());
@@ -161,7 +134,7 @@ fn checks_and_shows(rt: HostRuntime) -> Result<(), Fail> {
     ];
     for (verb, program, status, out, err) in cases {
         let mut files = files_of(rt.alloc(), Some(program), None, 4096, &[])?;
-        let said = say(&rt, rt.alloc(), verb, &mut files)?;
+        let said = say(&rt, rt.alloc(), &[verb, "p.gcl"], &mut files)?;
         assert_eq!(rt; said.status, status);
         assert_eq!(rt; said.out.bytes(), out);
         assert_eq!(rt; said.err.bytes(), err);
@@ -180,81 +153,9 @@ fn refuses_texts_and_missing_files(rt: HostRuntime) -> Result<(), Fail> {
     ];
     for (program, bits, status, err) in cases {
         let mut files = files_of(rt.alloc(), program, bits, 4096, &[])?;
-        let said = sample(&rt, rt.alloc(), &mut files, 4096, &[], &[])?;
+        let said = say(&rt, rt.alloc(), &SAMPLED, &mut files)?;
         assert_eq!(rt; said.status, status);
         assert_eq!(rt; said.err.bytes(), err);
-        assert!(rt; said.out.bytes().is_empty());
-    }
-    Ok(())
-}
-
-// The calls are an open, a read of the text and one of its end, an open, and a read of the bits.
-#[test]
-fn each_call_for_the_files_fails_in_turn(rt: HostRuntime) -> Result<(), Fail> {
-    for failing in 0..6 {
-        let mut files = files_of(
-            rt.alloc(),
-            Some(TWO_THIRDS),
-            Some(b"\xc0"),
-            4096,
-            &[failing],
-        )?;
-        let said = sample(&rt, rt.alloc(), &mut files, 4096, &[], &[])?;
-        if failing < 5 {
-            assert_eq!(rt; said.status, 3, "call {failing}");
-            assert_eq!(rt; said.err.bytes(), b"error read fault\n".as_slice());
-            assert!(rt; said.out.bytes().is_empty());
-        } else {
-            assert_eq!(rt; said.status, 0);
-            assert_eq!(rt; said.out.bytes(), b"value 1 bits 3\n".as_slice());
-        }
-    }
-    Ok(())
-}
-
-// A line of 15 bytes takes four writes of at most 4.
-#[test]
-fn each_write_of_the_answer_fails_in_turn(rt: HostRuntime) -> Result<(), Fail> {
-    let fronts: [&[u8]; 5] = [
-        b"",
-        b"valu",
-        b"value 1 ",
-        b"value 1 bits",
-        b"value 1 bits 3\n",
-    ];
-    for failing in 0..5u64 {
-        let mut files = files_of(rt.alloc(), Some(TWO_THIRDS), Some(b"\xc0"), 4096, &[])?;
-        let said = sample(&rt, rt.alloc(), &mut files, 4, &[failing], &[])?;
-        assert_eq!(rt; said.out.bytes(), fronts[failing as usize]);
-        if failing < 4 {
-            assert_eq!(rt; said.status, 4, "write {failing}");
-            assert_eq!(rt; said.err.bytes(), b"error write fault\n".as_slice());
-        } else {
-            assert_eq!(rt; said.status, 0);
-            assert!(rt; said.err.bytes().is_empty());
-        }
-    }
-    Ok(())
-}
-
-#[test]
-fn each_write_of_a_refusal_fails_in_turn(rt: HostRuntime) -> Result<(), Fail> {
-    let fronts: [&[u8]; 5] = [
-        b"",
-        b"erro",
-        b"error no",
-        b"error no fil",
-        b"error no file\n",
-    ];
-    for failing in 0..5u64 {
-        let mut files = files_of(rt.alloc(), None, None, 4096, &[])?;
-        let said = sample(&rt, rt.alloc(), &mut files, 4, &[], &[failing])?;
-        assert_eq!(rt; said.err.bytes(), fronts[failing as usize]);
-        assert_eq!(rt;
-            said.status,
-            if failing < 4 { 4 } else { 9 },
-            "write {failing}"
-        );
         assert!(rt; said.out.bytes().is_empty());
     }
     Ok(())

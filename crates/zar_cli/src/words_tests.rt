@@ -407,8 +407,8 @@ fn asks_for(alloc: Global, words: &[&str], want: Topic) -> Result<bool, AllocErr
 #[test]
 fn reads_what_help_is_asked_for(rt: HostRuntime) -> Result<(), Fail> {
     let alloc = rt.alloc();
-    assert!(rt; asks_for(alloc, &["help"], Topic::Commands)?);
-    assert!(rt; asks_for(alloc, &["-h", "tally"], Topic::Options(Verb::Tally))?);
+    assert!(rt; asks_for(alloc, &["help"], Topic::Everything)?);
+    assert!(rt; asks_for(alloc, &["-h", "tally"], Topic::One(Verb::Tally))?);
     assert!(rt; asks_for(alloc, &["--version"], Topic::Version)?);
     Ok(())
 }
