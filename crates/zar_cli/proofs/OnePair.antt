@@ -1,5 +1,5 @@
 -- The first two words of some, and those of a pair of an option and its value.
-use Rattle.std.proofs.Common.{◌≡◌, ℕ, ◌+◌, List, [], ◌∷◌, map, get_or, drop, length, ◌≤◌, arith, refl, Some, Result, Ok, Err, ap}
+use Rattle.std.proofs.Common.{◌≡◌, ℕ, ◌+◌, List, [], ◌∷◌, map, get_or, drop, length, ◌≤◌, arith, refl, Some, Result, Ok, Err, ap, ◌∙◌}
 use Rattle.zar_cli.specs.declared.settings.Setting.{Setting}
 use Rattle.zar_cli.specs.declared.settings.Verb.{Verb}
 use Rattle.zar_cli.specs.Words.{Word, Options, setting_named, if_taken, with_value, or_bad_value, or_bad_name, with_pair, options_from}
