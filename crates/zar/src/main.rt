@@ -1,13 +1,21 @@
 // The program: the words of the call, the files of the host, and the two standard streams.
 #![tactic(auto)]
 
+ghost use Rattle.std.specs.Prelude.{◌<◌, ◌^◌, length};
+
+mod progress;
+mod wiping;
+
+use crate::progress::Progress;
+use crate::wiping::WipingSink;
 use std::alloc::{AllocError, Global};
+use std::io::IsTerminal;
 use std::process::ExitCode;
 use std::rt::Env;
 use std::{env, io};
 use zar_cli::statuses::{NO_WORDS, OUT_OF_MEMORY};
-use zar_cli::zar;
-use zar_io::{HostFiles, HostSink, Open};
+use zar_cli::{Command, read_words, zar};
+use zar_io::{HostFiles, HostSink};
 
 // The words after the program's name, or the status that says why there are none.
 fn words<R: Env + AllocGlobal>(rt: &R) -> Result<Vec<String>, u8> {
@@ -22,6 +30,18 @@ fn words<R: Env + AllocGlobal>(rt: &R) -> Result<Vec<String>, u8> {
     Ok(words)
 }
 
+// How many streams the words go over, if they name a range and memory suffices.
+fn streams_of_range(alloc: Global, words: &[String]) -> Option<u64>
+    requires { length words.now < 2 ^ 32 }
+{
+    match read_words(alloc, words) {
+        Ok(Command::Tally(_, range, _) | Command::Hunt(_, range, _, _)) => {
+            Some(range.to.saturating_sub(range.from))
+        }
+        _ => None,
+    }
+}
+
 fn main(rt: HostRuntime) -> ExitCode {
     let words = match words(&rt) {
         Ok(words) => words,
@@ -30,9 +50,15 @@ fn main(rt: HostRuntime) -> ExitCode {
     if words.len() >= 1 << 32 {
         return ExitCode::from(NO_WORDS);
     }
+    let streams = if rt.stderr().is_terminal() {
+        streams_of_range(rt.alloc(), words.as_slice())
+    } else {
+        None
+    };
+    let progress = Progress::new(&rt, streams);
     let mut files = HostFiles::new(&rt);
-    let mut out = HostSink::new(rt.stdout());
-    let mut err = HostSink::new(rt.stderr());
+    let mut out = WipingSink::new(HostSink::new(rt.stdout()), &progress);
+    let mut err = WipingSink::new(HostSink::new(rt.stderr()), &progress);
     let status = zar(
         &rt,
         rt.alloc(),
@@ -40,7 +66,7 @@ fn main(rt: HostRuntime) -> ExitCode {
         &mut files,
         &mut out,
         &mut err,
-        &Open,
+        &progress,
     );
     ExitCode::from(status)
 }
