@@ -2,5 +2,4 @@ pub mod ViewLemmas
 pub mod Meanings
 pub mod Rows
 pub mod WellFormedTrees
-pub mod PartialSums
 pub mod Places

@@ -1,6 +1,6 @@
 -- The tree of a block with such weights is well formed.
 use Rattle.std.proofs.Common.{Option, Some, None}
-use Rattle.gcl_core.specs.Bounds.{IsWeight, StatementWeights, BlockWeights}
+use Rattle.gcl_core.specs.Bounds.{StatementIsWeighed, BlockIsWeighed}
 use Rattle.gcl_core.specs.Syntax.{Statement, skip, assign, branch, loop, choice, uniform, observe, Statements, done, ◌▸◌}
 use Rattle.choice_tree.specs.Tree.{ChoiceTree, ChoiceTrees}
 use Rattle.choice_tree.specs.TreeOf.{in_front, member_of, members_of}
@@ -15,7 +15,7 @@ well_formed_front None ts a b = b
 well_formed_front (Some t) ts a b = (a, b)
 
 mutual
-  member_well_formed : (s : Statement) → StatementWeights IsWeight s → MemberIsWellFormed (member_of s)
+  member_well_formed : (s : Statement) → StatementIsWeighed s → MemberIsWellFormed (member_of s)
   member_well_formed skip h = tt
   member_well_formed (assign x e) h = tt
   member_well_formed (branch e a c) h = (members_well_formed a h.0, members_well_formed c h.1)
@@ -24,6 +24,6 @@ mutual
   member_well_formed (uniform x e) h = tt
   member_well_formed (observe e) h = (tt, tt)
 
-  pub members_well_formed : (b : Statements) → BlockWeights IsWeight b → AreWellFormed (members_of b)
+  pub members_well_formed : (b : Statements) → BlockIsWeighed b → AreWellFormed (members_of b)
   members_well_formed done h = tt
   members_well_formed (s ▸ b) h = well_formed_front (member_of s) (members_of b) (member_well_formed s h.0) (members_well_formed b h.1)

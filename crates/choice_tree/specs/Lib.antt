@@ -1,4 +1,3 @@
-pub mod Parts
 pub mod Tree
 pub mod WellFormed
 pub mod Views

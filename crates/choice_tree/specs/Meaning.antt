@@ -7,7 +7,7 @@ use Rattle.gcl_core.specs.Value.{State, value_of}
 use Rattle.gcl_core.specs.Reading.{Reading, gives, after}
 use Rattle.gcl_core.specs.Draw.{draw_on}
 use Rattle.gcl_core.specs.Blocks.{End, on, failed, fault, limit, by_value, by_truth, by_class, by_side, by_end, choice_ends, uniform_on, loop_on}
-use Rattle.choice_tree.specs.Parts.{partial_sums}
+use Rattle.gcl_core.specs.Parts.{partial_sums}
 use Rattle.choice_tree.specs.Tree.{ChoiceTree, fails, sets, tests, chooses, chooses_among, draws_below, in_order, repeats, ChoiceTrees, no_tree, ◌▹◌}
 
 -- under limits of n turns for each entry of a repetition and r attempts for each draw

@@ -1,7 +1,7 @@
 -- Well-formed trees: each weight is at most 1 over a number in range, and a choice among several arms has such parts, one for each arm.
 use Rattle.std.specs.Prelude.{◌≡◌, length}
 use Rattle.gcl_core.specs.Bounds.{IsWeight}
-use Rattle.choice_tree.specs.Parts.{AreParts}
+use Rattle.gcl_core.specs.Parts.{AreParts}
 use Rattle.choice_tree.specs.Tree.{ChoiceTree, fails, sets, tests, chooses, chooses_among, draws_below, in_order, repeats, ChoiceTrees, no_tree, ◌▹◌, count}
 
 abbrev mutual

@@ -6,5 +6,5 @@ mod parts;
 mod tree;
 
 pub use building::to_tree;
-pub use parts::{LEAST_ARMS, MOST_ARMS, Parts};
+pub use parts::Parts;
 pub use tree::{Cf, CfRow};

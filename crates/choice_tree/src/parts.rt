@@ -2,15 +2,10 @@
 
 ghost use Rattle.std.specs.Prelude.{◌≡◌, ◌<◌, ◌^◌, IfOk};
 ghost use Rattle.std.specs.List.{sum};
-ghost use Rattle.choice_tree.specs.Parts.{partial_sums};
+ghost use Rattle.gcl_core.specs.Parts.{partial_sums};
 
 use std::alloc::{AllocError, Global};
 use std::marker::Model;
-
-/// The fewest arms of a choice among several.
-pub const LEAST_ARMS: usize = 2;
-/// The most arms of a choice among several.
-pub const MOST_ARMS: usize = 16;
 
 /// The parts of a choice among several arms, in the order of the arms: each is taken with its part over the sum of all.
 #[derive(Drop)]

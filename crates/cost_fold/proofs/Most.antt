@@ -4,7 +4,7 @@ use Rattle.std.proofs.Math.Nat.{mul-le-mul_left, mul-le-mul_right}
 use Rattle.std.proofs.lemmas.Bool.{ltb-true}
 use Rattle.gcl_core.specs.declared.answers.Limit.TheVariants.{Attempts}
 use Rattle.gcl_core.specs.Syntax.{Expression, Statement, skip, assign, branch, loop, choice, uniform, observe, Statements, done, ◌▸◌}
-use Rattle.gcl_core.specs.Bounds.{IsWeight, StatementWeights, BlockWeights, ExpressionFits, StatementFits, BlockFits}
+use Rattle.gcl_core.specs.Bounds.{StatementIsWeighed, BlockIsWeighed, ExpressionFits, StatementFits, BlockFits}
 use Rattle.gcl_core.specs.Draw.{bits_for, last_end}
 use Rattle.gcl_core.specs.Fitting.{state_fits}
 use Rattle.gcl_core.specs.Longest.{longest_statement, longest}
@@ -140,10 +140,10 @@ module _ (n r N L M : ℕ) where
       DrawsMost r N M (block_draws n (Some r) b I) (weight N I) (longest n r b) × AllFit (block_flow n (Some r) b I).next
 
   -- a statement that makes one step of each state
-  fit_step : (st : Statement) → StatementWeights IsWeight st → StatementFits st → (I : Table) → AllFit I → AllFit (going_on (taken_on I (statement_weighted n (Some r) st)))
+  fit_step : (st : Statement) → StatementIsWeighed st → StatementFits st → (I : Table) → AllFit I → AllFit (going_on (taken_on I (statement_weighted n (Some r) st)))
   fit_step st w f I a = fit_going (taken_on I (statement_weighted n (Some r) st)) (each_taken_on state_fits end_fits I (statement_weighted n (Some r) st) a (λ s p. (statement_matches n r st w f s p).entries))
 
-  turns_most : (v : State → Value) (b : Statements) → BlockWeights IsWeight b → BlockMost b → (t : ℕ) (I : Table) → Wholes N I → AllFit I → Within N L (loop_flow v (block_flow n (Some r) b) t I) →
+  turns_most : (v : State → Value) (b : Statements) → BlockIsWeighed b → BlockMost b → (t : ℕ) (I : Table) → Wholes N I → AllFit I → Within N L (loop_flow v (block_flow n (Some r) b) t I) →
       Priced (Some r) M (loop_draws v (block_draws n (Some r) b) (block_flow n (Some r) b) t I) →
       DrawsMost r N M (loop_draws v (block_draws n (Some r) b) (block_flow n (Some r) b) t I) (weight N I) (t * longest n r b) × AllFit (loop_flow v (block_flow n (Some r) b) t I).next
   turns_most v b w h zero I wi a s k = (none_most r N M (weight N I) (0 * longest n r b), fit_only (fails v) I a)
@@ -170,7 +170,7 @@ module _ (n r N L M : ℕ) where
       head_turns (suc t) J s = s.tables.0
 
   mutual
-    statement_most : (st : Statement) → StatementWeights IsWeight st → StatementFits st → StatementMost st
+    statement_most : (st : Statement) → StatementIsWeighed st → StatementFits st → StatementMost st
     statement_most skip w f I wi a x s k = (none_most r N M (weight N I) 0, fit_step skip w f I a)
     statement_most (assign y e) w f I wi a x s k = (none_most r N M (weight N I) 0, fit_step (assign y e) w f I a)
     statement_most (observe e) w f I wi a x s k = (none_most r N M (weight N I) 0, fit_step (observe e) w f I a)
@@ -218,7 +218,7 @@ module _ (n r N L M : ℕ) where
         (most_after r N M B (D ++ E) (weight N I) (bits_for c.den * r) m (most_each r N M (choice_ends c) I wi (priced_first (Some r) M B (D ++ E) k)) both_sides, each-append state_fits F.next G.next y.1 z.1)
     statement_most (loop e p) w f I wi a x s k = turns_most (value_of e) p w (block_most p w f.1) n I wi a s k
 
-    pub block_most : (b : Statements) → BlockWeights IsWeight b → BlockFits b → (I : Table) → Wholes N I → AllFit I → Within N L (block_flow n (Some r) b I) → Priced (Some r) M (block_draws n (Some r) b I) →
+    pub block_most : (b : Statements) → BlockIsWeighed b → BlockFits b → (I : Table) → Wholes N I → AllFit I → Within N L (block_flow n (Some r) b I) → Priced (Some r) M (block_draws n (Some r) b I) →
         DrawsMost r N M (block_draws n (Some r) b I) (weight N I) (longest n r b) × AllFit (block_flow n (Some r) b I).next
     block_most done w f I wi a s k = (none_most r N M (weight N I) 0, a)
     block_most (st ▸ b) w f I wi a s k =

@@ -3,7 +3,7 @@ use Rattle.std.proofs.Common.{◌≡◌, ℕ, zero, suc, ◌+◌, ◌-◌, ◌*�
 use Rattle.gcl_core.specs.Syntax.{Statement, skip, assign, branch, loop, choice, uniform, observe, Statements, done, ◌▸◌}
 use Rattle.gcl_core.specs.Value.{State, Value, value_of, is_zero}
 use Rattle.gcl_core.specs.Blocks.{End, on, failed, fault, limit, by_value, by_truth, by_bound, by_class, by_side, by_end, choice_ends, uniform_ends}
-use Rattle.gcl_core.specs.Bounds.{IsWeight, StatementWeights, BlockWeights}
+use Rattle.gcl_core.specs.Bounds.{StatementIsWeighed, BlockIsWeighed}
 use Rattle.gcl_core.specs.Fractions.{Fraction, nothing, plus, times}
 use Rattle.gcl_core.specs.WeightedEnds.{Weighted, scaled, class_weight, no_class_weight, weighted_classes, statement_weighted, weighted_ends}
 use Rattle.cost_law.specs.ExpectedBits.{draw_bits, on_average, loop_bits, statement_bits, block_bits}
@@ -82,7 +82,7 @@ module _ (n r : ℕ) where
   abbrev c : List ℕ → Fraction
   c = cost_of r
 
-  turns_positive : (v : State → Value) (b : Statements) → BlockWeights IsWeight b → ((s : State) → 0 < (block_bits n r b s).1) → (t : ℕ) (s : State) → 0 < (loop_bits v (block_bits n r b) (weighted_ends n (Some r) b) t s).1
+  turns_positive : (v : State → Value) (b : Statements) → BlockIsWeighed b → ((s : State) → 0 < (block_bits n r b s).1) → (t : ℕ) (s : State) → 0 < (loop_bits v (block_bits n r b) (weighted_ends n (Some r) b) t s).1
   turns_positive v b w h zero s = omega arith
   turns_positive v b w h (suc t) s =
       let more = loop_bits v (block_bits n r b) (weighted_ends n (Some r) b) t in
@@ -91,7 +91,7 @@ module _ (n r : ℕ) where
       by_value_positive (v s) (λ z. by_truth z (plus (block_bits n r b s) X) nothing) (λ z. by_truth_positive z (plus (block_bits n r b s) X) nothing (plus_positive (block_bits n r b s) X (h s) pX) (omega arith))
 
   mutual
-    pub statement_bits_positive : (st : Statement) → StatementWeights IsWeight st → (s : State) → 0 < (statement_bits n r st s).1
+    pub statement_bits_positive : (st : Statement) → StatementIsWeighed st → (s : State) → 0 < (statement_bits n r st s).1
     statement_bits_positive skip w s = omega arith
     statement_bits_positive (assign x e) w s = omega arith
     statement_bits_positive (observe e) w s = omega arith
@@ -110,7 +110,7 @@ module _ (n r : ℕ) where
     statement_bits_positive (uniform x e) w s = by_value_positive (value_of e s) (λ z. by_bound z nothing (λ m. draw_bits (uniform_ends m) r)) (λ z. by_bound_positive z (λ m. draw_bits (uniform_ends m) r) (λ m. draw_bits_pos (uniform_ends m) r))
     statement_bits_positive (loop e a) w s = turns_positive (value_of e) a w (block_bits_positive a w) n s
 
-    pub block_bits_positive : (b : Statements) → BlockWeights IsWeight b → (s : State) → 0 < (block_bits n r b s).1
+    pub block_bits_positive : (b : Statements) → BlockIsWeighed b → (s : State) → 0 < (block_bits n r b s).1
     block_bits_positive done w s = omega arith
     block_bits_positive (st ▸ b) w s =
         let go = λ (e : End). by_end (λ e. nothing) e (block_bits n r b) in
@@ -127,7 +127,7 @@ module _ (n r : ℕ) where
   none_on_average : (I : Table) (f : State → Fraction) → ((s : State) → (f s).0 ≡ 0) → IsEqual nothing (on_average I f)
   none_on_average I f h = zero_equal nothing (on_average I f) refl (average_nothing I f h)
 
-  turns_reached : (v : State → Value) (b : Statements) → BlockWeights IsWeight b → ((I : Table) → Positive I → IsEqual (on_average (block_draws n (Some r) b I) c) (on_average I (block_bits n r b))) → (t : ℕ) (I : Table) → Positive I →
+  turns_reached : (v : State → Value) (b : Statements) → BlockIsWeighed b → ((I : Table) → Positive I → IsEqual (on_average (block_draws n (Some r) b I) c) (on_average I (block_bits n r b))) → (t : ℕ) (I : Table) → Positive I →
       IsEqual (on_average (loop_draws v (block_draws n (Some r) b) (block_flow n (Some r) b) t I) c) (on_average I (loop_bits v (block_bits n r b) (weighted_ends n (Some r) b) t))
   turns_reached v b w h zero I p = none_on_average I (loop_bits v (block_bits n r b) (weighted_ends n (Some r) b) zero) (λ s. refl)
   turns_reached v b w h (suc t) I p =
@@ -160,7 +160,7 @@ module _ (n r : ℕ) where
       add_none F0 F1 N0 N1 e = rw e (omega arith)
 
   -- one side of a choice
-  side_reached : (w : Fraction) (b : Statements) (I : Table) → Positive I → 0 < w.1 → BlockWeights IsWeight b → ((I : Table) → Positive I → IsEqual (on_average (block_draws n (Some r) b I) c) (on_average I (block_bits n r b))) →
+  side_reached : (w : Fraction) (b : Statements) (I : Table) → Positive I → 0 < w.1 → BlockIsWeighed b → ((I : Table) → Positive I → IsEqual (on_average (block_draws n (Some r) b I) c) (on_average I (block_bits n r b))) →
       IsEqual (on_average (block_draws n (Some r) b (scaled w I)) c) (on_average I (λ s. times w (block_bits n r b s)))
   side_reached w b I p wp wb h =
       let S = scaled w I in
@@ -172,7 +172,7 @@ module _ (n r : ℕ) where
       (average_scaled w I (block_bits n r b)) (sym (average_within w I (block_bits n r b))))
 
   mutual
-    pub statement_reached : (st : Statement) → StatementWeights IsWeight st → (I : Table) → Positive I → IsEqual (on_average (statement_draws n (Some r) st I) c) (on_average I (statement_bits n r st))
+    pub statement_reached : (st : Statement) → StatementIsWeighed st → (I : Table) → Positive I → IsEqual (on_average (statement_draws n (Some r) st I) c) (on_average I (statement_bits n r st))
     statement_reached skip w I p = none_on_average I (statement_bits n r skip) (λ s. refl)
     statement_reached (assign x e) w I p = none_on_average I (statement_bits n r (assign x e)) (λ s. refl)
     statement_reached (observe e) w I p = none_on_average I (statement_bits n r (observe e)) (λ s. refl)
@@ -235,7 +235,7 @@ module _ (n r : ℕ) where
             (ring x.0 x.1 u.0 u.1 y.0 y.1 k.0 k.1 z.0 z.1 o.0 o.1)
     statement_reached (loop e a) w I p = turns_reached (value_of e) a w (block_reached a w) n I p
 
-    pub block_reached : (b : Statements) → BlockWeights IsWeight b → (I : Table) → Positive I → IsEqual (on_average (block_draws n (Some r) b I) c) (on_average I (block_bits n r b))
+    pub block_reached : (b : Statements) → BlockIsWeighed b → (I : Table) → Positive I → IsEqual (on_average (block_draws n (Some r) b I) c) (on_average I (block_bits n r b))
     block_reached done w I p = none_on_average I (block_bits n r done) (λ s. refl)
     block_reached (st ▸ b) w I p =
         let f = statement_flow n (Some r) st I in

@@ -4,7 +4,7 @@ use Rattle.std.proofs.lemmas.Nat.{pow_pos}
 use Rattle.std.proofs.Math.Nat.{one-le-pow, pow-suc, pow-zero, mul-le-mul_left, mul-le-mul_right, le_of_mul-le-mul_left}
 use Rattle.gcl_core.specs.declared.answers.Answer.{Answer}
 use Rattle.gcl_core.specs.declared.answers.Limits.{Limits}
-use Rattle.gcl_core.specs.Bounds.{IsWeight, BlockWeights}
+use Rattle.gcl_core.specs.Bounds.{BlockIsWeighed}
 use Rattle.gcl_core.specs.Fractions.{Fraction, nothing, one, plus, times, power_sum}
 use Rattle.gcl_core.specs.Keeping.{IsChecked}
 use Rattle.gcl_core.specs.Longest.{longest}
@@ -118,7 +118,7 @@ module _ (p : Source) (l : Limits) (ok : IsChecked p) where
   abbrev body : Fraction
   body = block_bits n r p.body (zeros (length p.names))
 
-  w : BlockWeights IsWeight p.body
+  w : BlockIsWeighed p.body
   w = checked_weights p ok
 
   Qp : 0 < Q

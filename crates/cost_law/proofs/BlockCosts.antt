@@ -5,7 +5,7 @@ use Rattle.std.proofs.lemmas.Bool.{ltb-true}
 use Rattle.std.proofs.Math.Nat.{mul-le-mul_right}
 use Rattle.gcl_core.specs.declared.answers.Fault.TheVariants.{BadBound}
 use Rattle.gcl_core.specs.declared.answers.Limit.TheVariants.{Turns, Attempts}
-use Rattle.gcl_core.specs.Bounds.{IsWeight, StatementWeights, BlockWeights, StatementFits, BlockFits}
+use Rattle.gcl_core.specs.Bounds.{StatementIsWeighed, BlockIsWeighed, StatementFits, BlockFits}
 use Rattle.gcl_core.specs.Syntax.{Statement, skip, assign, branch, loop, choice, uniform, observe, Statements, done, ◌▸◌}
 use Rattle.gcl_core.specs.Value.{State, Value, value_of, is_zero, fits_64}
 use Rattle.gcl_core.specs.Reading.{Reading, gives, after}
@@ -104,7 +104,7 @@ module _ (n r : ℕ) where
   none_value (Err f) go = costs_none 0 (fault f)
 
   mutual
-    statement_costs : (st : Statement) → StatementWeights IsWeight st → StatementFits st → (s : State) → state_fits s ≡ true → Costs (longest_statement n r st) (statement_on n r st s) (statement_bits n r st s)
+    statement_costs : (st : Statement) → StatementIsWeighed st → StatementFits st → (s : State) → state_fits s ≡ true → Costs (longest_statement n r st) (statement_on n r st s) (statement_bits n r st s)
     statement_costs skip ok f s p = costs_none 0 (on s)
     statement_costs (assign x e) ok f s p = none_value (value_of e s) (λ z. on (slice_set s x z))
     statement_costs (observe e) ok f s p = observed (value_of e s)
@@ -135,7 +135,7 @@ module _ (n r : ℕ) where
     statement_costs (loop e a) ok f s p =
         loop_costs (longest n r a) (value_of e) (block_on n r a) (block_bits n r a) (weighted_ends n (Some r) a) (block_costs a ok f.1) (block_matches n r a ok f.1) n s p
 
-    pub block_costs : (b : Statements) → BlockWeights IsWeight b → BlockFits b → (s : State) → state_fits s ≡ true → Costs (longest n r b) (block_on n r b s) (block_bits n r b s)
+    pub block_costs : (b : Statements) → BlockIsWeighed b → BlockFits b → (s : State) → state_fits s ≡ true → Costs (longest n r b) (block_on n r b s) (block_bits n r b s)
     block_costs done ok f s p = costs_none 0 (on s)
     block_costs (st ▸ b) ok f s p =
         costs_then end_fits failed (longest_statement n r st) (longest n r b) (statement_on n r st s) (statement_bits n r st s) (statement_weighted n (Some r) st s) _ _

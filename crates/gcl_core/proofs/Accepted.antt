@@ -5,14 +5,19 @@ use Rattle.std.proofs.Math.Path.{fun_ext}
 use Rattle.gcl_core.specs.declared.rules.TheConstants.{GREATEST_DENOMINATOR}
 use Rattle.gcl_core.specs.declared.syntax.Weight.{Weight}
 use Rattle.gcl_core.specs.declared.kinds.Kind.TheVariants.{Number}
-use Rattle.gcl_core.specs.Acceptance.{Flaw, zero_denominator, weight_above_one, too_fine, Refusal, too_many_names, expression_flaw, weight_flaw, statement_flaw, first_refusal, flaws_of, IsAccepted}
-use Rattle.gcl_core.specs.Bounds.{BlockBelow, StatementBelow, VariablesBelow, BlockFits, StatementFits, NumbersFit, IsWeight, BlockWeights, StatementWeights}
+use Rattle.gcl_core.specs.Acceptance.{Flaw, zero_denominator, weight_above_one, too_fine, Refusal, too_many_names, expression_flaw, weight_flaw, parts_flaw, statement_flaw, first_refusal, flaws_of, IsAccepted}
+use Rattle.gcl_core.specs.Bounds.{BlockBelow, StatementBelow, ArmsBelow, VariablesBelow, BlockFits, StatementFits, ArmsFit, NumbersFit, IsWeight, BlockWeights, StatementWeights, ArmsWeights, BlockIsWeighed, BlockCounted}
+use Rattle.gcl_core.specs.Arms.{parts_of}
+use Rattle.gcl_core.specs.Parts.{HaveArmCount, AreParts}
+use Rattle.std.specs.List.{sum}
 use Rattle.gcl_core.specs.Keeping.{IsChecked}
-use Rattle.gcl_core.specs.Listing.{statement_listed, listed}
-use Rattle.gcl_core.specs.Lowest.{lowest_terms, statement_in_lowest, block_in_lowest, in_lowest}
-use Rattle.gcl_core.specs.Syntax.{Statement, skip, assign, branch, loop, choice, uniform, observe, Statements, done, ◌▸◌, Source}
-use Rattle.gcl_core.specs.Targets.{statement_sets, sets}
+use Rattle.gcl_core.specs.Listing.{statement_listed, listed, arms_listed}
+use Rattle.gcl_core.specs.Lowest.{lowest_terms, common_divisor, lowest_parts, divided, lowest_arms, statement_in_lowest, block_in_lowest, arms_in_lowest, in_lowest}
+use Rattle.gcl_core.specs.Syntax.{Statement, skip, assign, branch, loop, choice, choice_among, uniform, observe, Statements, done, ◌▸◌, ArmList, no_arm, arm, Source}
+use Rattle.gcl_core.specs.Targets.{statement_sets, sets, arms_set}
 use Rattle.gcl_core.proofs.LowestTerms.{lowest_positive, lowest_at_most_one, lowest_again}
+use Rattle.gcl_core.proofs.LowestParts.{from_all, lowest_sum_positive, one_divides_left, divisor_left, parts_again, lowest_count}
+use Rattle.gcl_core.proofs.ArmsInLowest.{parts_divided, parts_same, parts_lowest, divided_by_one, listed_divided, set_divided, lowest_divided, below_divided, fit_divided, weights_divided}
 
 -- ---- a weight
 by_three : (a b c : Bool) (x y z : Flaw) → (if a then Some x else if b then Some y else if c then Some z else None) ≡ None → (a ≡ false) × (b ≡ false) × (c ≡ false)
@@ -47,6 +52,43 @@ module _ (w : Weight) (flawless : weight_flaw w ≡ None) where
   lowest_flawless : weight_flaw (lowest_terms w) ≡ None
   lowest_flawless =
       flawless_weight (lowest_terms w) (lowest_positive w positive) (lowest_at_most_one w positive at_most_one) (subst (λ v. v.den ≤ GREATEST_DENOMINATOR) (sym (lowest_again w positive)) coarse)
+
+-- ---- the parts of a choice among several
+by_two : (a b : Bool) (x y : Flaw) → (if a then Some x else if b then Some y else None) ≡ None → (a ≡ false) × (b ≡ false)
+by_two true b x y e = absurd (cc)
+by_two false true x y e = absurd (cc)
+by_two false false x y e = (refl, refl)
+
+flawless_parts : (ps : List ℕ) → 1 ≤ sum ps → sum (lowest_parts ps) ≤ GREATEST_DENOMINATOR → parts_flaw ps ≡ None
+flawless_parts ps some coarse =
+    let a : (sum ps == 0) ≡ false = grind (arith, nat_tests) in
+    let b : nat_lt GREATEST_DENOMINATOR (sum (lowest_parts ps)) ≡ false = grind (arith, nat_tests) in
+    rw (a, b) refl
+
+module _ (ps : List ℕ) (flawless : parts_flaw ps ≡ None) where
+  parts_tests : ((sum ps == 0) ≡ false) × (nat_lt GREATEST_DENOMINATOR (sum (lowest_parts ps)) ≡ false)
+  parts_tests = by_two (sum ps == 0) (nat_lt GREATEST_DENOMINATOR (sum (lowest_parts ps))) zero_denominator too_fine flawless
+
+  pub parts_positive : 1 ≤ sum ps
+  parts_positive = let t = parts_tests.0 in grind (arith, nat_tests)
+
+  parts_coarse : sum (lowest_parts ps) ≤ GREATEST_DENOMINATOR
+  parts_coarse = let t = parts_tests.1 in grind (arith, nat_tests)
+
+  lowest_are_parts : HaveArmCount ps → AreParts (lowest_parts ps)
+  lowest_are_parts count =
+      let left = lowest_count ps count in
+      record {
+        enough = left.enough;
+        few = left.few;
+        lowest = λ d all. one_divides_left ps parts_positive d (from_all d (lowest_parts ps) all);
+        positive = lowest_sum_positive ps parts_positive;
+        coarse = parts_coarse;
+      }
+
+  lowest_parts_flawless : parts_flaw (lowest_parts ps) ≡ None
+  lowest_parts_flawless =
+      flawless_parts (lowest_parts ps) (lowest_sum_positive ps parts_positive) (subst (λ qs. sum qs ≤ GREATEST_DENOMINATOR) (sym (parts_again ps parts_positive)) parts_coarse)
 
 -- ---- no flaw in a list
 abbrev AllNone : List (Option Flaw) → Type 0
@@ -91,6 +133,10 @@ module _ (known : ℕ → Bool) where
     statement_lowest (choice w a c) all =
         let both = split_map (statement_flaw known) (listed a) (listed c) all.1 in
         (lowest_flawless w all.0, join_map (statement_flaw known) (listed (block_in_lowest a)) (listed (block_in_lowest c)) (block_lowest a both.0) (block_lowest c both.1))
+    statement_lowest (choice_among arms) all = (
+      ap parts_flaw (parts_lowest arms) ∙ lowest_parts_flawless (parts_of arms) all.0,
+      subst (λ ss. AllNone (map (statement_flaw known) ss)) (sym (listed_divided (common_divisor (parts_of (arms_in_lowest arms))) (arms_in_lowest arms))) (arms_lowest arms all.1),
+    )
     statement_lowest skip all = all
     statement_lowest (assign x e) all = all
     statement_lowest (uniform x e) all = all
@@ -102,21 +148,38 @@ module _ (known : ℕ → Bool) where
         let both = split_map (statement_flaw known) (statement_listed s) (listed b) all in
         join_map (statement_flaw known) (statement_listed (statement_in_lowest s)) (listed (block_in_lowest b)) (statement_lowest s both.0) (block_lowest b both.1)
 
-  module _ (Fact : Weight → Type 0) (fact : (w : Weight) → weight_flaw w ≡ None → Fact w) where
-    mutual
-      statement_weights : (s : Statement) → AllNone (map (statement_flaw known) (statement_listed s)) → StatementWeights Fact s
-      statement_weights (branch e a c) all = let both = split_map (statement_flaw known) (listed a) (listed c) all.1 in (block_weights a both.0, block_weights c both.1)
-      statement_weights (loop e a) all = block_weights a all.1
-      statement_weights (choice w a c) all = let both = split_map (statement_flaw known) (listed a) (listed c) all.1 in (fact w all.0, block_weights a both.0, block_weights c both.1)
-      statement_weights skip all = tt
-      statement_weights (assign x e) all = tt
-      statement_weights (uniform x e) all = tt
-      statement_weights (observe e) all = tt
+    arms_lowest : (arms : ArmList) → AllNone (map (statement_flaw known) (arms_listed arms)) → AllNone (map (statement_flaw known) (arms_listed (arms_in_lowest arms)))
+    arms_lowest no_arm all = tt
+    arms_lowest (arm p b arms) all =
+        let both = split_map (statement_flaw known) (listed b) (arms_listed arms) all in
+        join_map (statement_flaw known) (listed (block_in_lowest b)) (arms_listed (arms_in_lowest arms)) (block_lowest b both.0) (arms_lowest arms both.1)
 
-      block_weights : (b : Statements) → AllNone (map (statement_flaw known) (listed b)) → BlockWeights Fact b
-      block_weights done all = tt
-      block_weights (s ▸ b) all =
-          let both = split_map (statement_flaw known) (statement_listed s) (listed b) all in (statement_weights s both.0, block_weights b both.1)
+  -- the facts of weights and parts that have no flaw, and of as many parts as there may be
+  module _
+      (Fact : Weight → Type 0) (PartsFact : List ℕ → Type 0) (fact : (w : Weight) → weight_flaw w ≡ None → Fact w)
+      (parts_fact : (ps : List ℕ) → parts_flaw ps ≡ None → HaveArmCount ps → PartsFact ps) where
+    mutual
+      statement_weights : (s : Statement) → StatementWeights (λ w. Unit {0}) HaveArmCount s → AllNone (map (statement_flaw known) (statement_listed s)) → StatementWeights Fact PartsFact s
+      statement_weights (branch e a c) n all =
+          let both = split_map (statement_flaw known) (listed a) (listed c) all.1 in (block_weights a n.0 both.0, block_weights c n.1 both.1)
+      statement_weights (loop e a) n all = block_weights a n all.1
+      statement_weights (choice w a c) n all =
+          let both = split_map (statement_flaw known) (listed a) (listed c) all.1 in (fact w all.0, block_weights a n.1 both.0, block_weights c n.2 both.1)
+      statement_weights (choice_among arms) n all = (parts_fact (parts_of arms) all.0 n.0, arms_weights arms n.1 all.1)
+      statement_weights skip n all = tt
+      statement_weights (assign x e) n all = tt
+      statement_weights (uniform x e) n all = tt
+      statement_weights (observe e) n all = tt
+
+      block_weights : (b : Statements) → BlockCounted b → AllNone (map (statement_flaw known) (listed b)) → BlockWeights Fact PartsFact b
+      block_weights done n all = tt
+      block_weights (s ▸ b) n all =
+          let both = split_map (statement_flaw known) (statement_listed s) (listed b) all in (statement_weights s n.0 both.0, block_weights b n.1 both.1)
+
+      arms_weights : (arms : ArmList) → ArmsWeights (λ w. Unit {0}) HaveArmCount arms → AllNone (map (statement_flaw known) (arms_listed arms)) → ArmsWeights Fact PartsFact arms
+      arms_weights no_arm n all = tt
+      arms_weights (arm p b arms) n all =
+          let both = split_map (statement_flaw known) (listed b) (arms_listed arms) all in (block_weights b n.0 both.0, arms_weights arms n.1 both.1)
 
 -- ---- what lowest terms leave
 mutual
@@ -124,6 +187,7 @@ mutual
   statement_sets_same (branch e a c) x = ap (λ t. t || sets (block_in_lowest c) x) (sets_same a x) ∙ ap (λ t. sets a x || t) (sets_same c x)
   statement_sets_same (loop e a) x = sets_same a x
   statement_sets_same (choice w a c) x = ap (λ t. t || sets (block_in_lowest c) x) (sets_same a x) ∙ ap (λ t. sets a x || t) (sets_same c x)
+  statement_sets_same (choice_among arms) x = set_divided (common_divisor (parts_of (arms_in_lowest arms))) (arms_in_lowest arms) x ∙ arms_set_same arms x
   statement_sets_same skip x = refl
   statement_sets_same (assign y e) x = refl
   statement_sets_same (uniform y e) x = refl
@@ -133,12 +197,17 @@ mutual
   sets_same done x = refl
   sets_same (s ▸ b) x = ap (λ t. t || sets (block_in_lowest b) x) (statement_sets_same s x) ∙ ap (λ t. statement_sets s x || t) (sets_same b x)
 
+  arms_set_same : (arms : ArmList) (x : ℕ) → arms_set (arms_in_lowest arms) x ≡ arms_set arms x
+  arms_set_same no_arm x = refl
+  arms_set_same (arm p b arms) x = ap (λ t. t || arms_set (arms_in_lowest arms) x) (sets_same b x) ∙ ap (λ t. sets b x || t) (arms_set_same arms x)
+
 module _ (count : ℕ) where
   mutual
     statement_below : (s : Statement) → StatementBelow count s → StatementBelow count (statement_in_lowest s)
     statement_below (branch e a c) p = (p.0, block_below a p.1, block_below c p.2)
     statement_below (loop e a) p = (p.0, block_below a p.1)
     statement_below (choice w a c) p = (block_below a p.0, block_below c p.1)
+    statement_below (choice_among arms) p = below_divided (common_divisor (parts_of (arms_in_lowest arms))) count (arms_in_lowest arms) (arms_below arms p)
     statement_below skip p = p
     statement_below (assign x e) p = p
     statement_below (uniform x e) p = p
@@ -148,11 +217,16 @@ module _ (count : ℕ) where
     block_below done p = tt
     block_below (s ▸ b) p = (statement_below s p.0, block_below b p.1)
 
+    arms_below : (arms : ArmList) → ArmsBelow count arms → ArmsBelow count (arms_in_lowest arms)
+    arms_below no_arm p = tt
+    arms_below (arm n b arms) p = (block_below b p.0, arms_below arms p.1)
+
 mutual
   statement_fits : (s : Statement) → StatementFits s → StatementFits (statement_in_lowest s)
   statement_fits (branch e a c) p = (p.0, block_fits a p.1, block_fits c p.2)
   statement_fits (loop e a) p = (p.0, block_fits a p.1)
   statement_fits (choice w a c) p = (block_fits a p.0, block_fits c p.1)
+  statement_fits (choice_among arms) p = fit_divided (common_divisor (parts_of (arms_in_lowest arms))) (arms_in_lowest arms) (arms_fit arms p)
   statement_fits skip p = p
   statement_fits (assign x e) p = p
   statement_fits (uniform x e) p = p
@@ -162,37 +236,62 @@ mutual
   block_fits done p = tt
   block_fits (s ▸ b) p = (statement_fits s p.0, block_fits b p.1)
 
+  arms_fit : (arms : ArmList) → ArmsFit arms → ArmsFit (arms_in_lowest arms)
+  arms_fit no_arm p = tt
+  arms_fit (arm n b arms) p = (block_fits b p.0, arms_fit arms p.1)
+
 mutual
-  statement_again : (s : Statement) → StatementWeights (λ w. 1 ≤ w.den) s → statement_in_lowest (statement_in_lowest s) ≡ statement_in_lowest s
+  statement_again : (s : Statement) → StatementWeights (λ w. 1 ≤ w.den) (λ ps. 1 ≤ sum ps) s → statement_in_lowest (statement_in_lowest s) ≡ statement_in_lowest s
   statement_again (branch e a c) p = ap (λ x. branch e x (block_in_lowest (block_in_lowest c))) (block_again a p.0) ∙ ap (branch e (block_in_lowest a)) (block_again c p.1)
   statement_again (loop e a) p = ap (loop e) (block_again a p)
   statement_again (choice w a c) p =
       ap (λ v. choice v (block_in_lowest (block_in_lowest a)) (block_in_lowest (block_in_lowest c))) (lowest_again w p.0)
       ∙ ap (λ x. choice (lowest_terms w) x (block_in_lowest (block_in_lowest c))) (block_again a p.1) ∙ ap (choice (lowest_terms w) (block_in_lowest a)) (block_again c p.2)
+  statement_again (choice_among arms) p =
+      let reduced = arms_in_lowest arms in
+      let g = common_divisor (parts_of reduced) in
+      let some : 1 ≤ sum (parts_of reduced) = subst (λ ps. 1 ≤ sum ps) (sym (parts_same arms)) p.0 in
+      let one : common_divisor (parts_of (divided g reduced)) ≡ 1 = ap common_divisor (parts_divided g reduced) ∙ divisor_left (parts_of reduced) some in
+      ap (λ x. choice_among (lowest_arms x)) (lowest_divided g reduced ∙ ap (divided g) (arms_again arms p.1))
+      ∙ ap (λ d. choice_among (divided d (divided g reduced))) one ∙ ap choice_among (divided_by_one (divided g reduced))
   statement_again skip p = refl
   statement_again (assign x e) p = refl
   statement_again (uniform x e) p = refl
   statement_again (observe e) p = refl
 
-  block_again : (b : Statements) → BlockWeights (λ w. 1 ≤ w.den) b → block_in_lowest (block_in_lowest b) ≡ block_in_lowest b
+  block_again : (b : Statements) → BlockWeights (λ w. 1 ≤ w.den) (λ ps. 1 ≤ sum ps) b → block_in_lowest (block_in_lowest b) ≡ block_in_lowest b
   block_again done p = refl
   block_again (s ▸ b) p = ap (λ x. x ▸ block_in_lowest (block_in_lowest b)) (statement_again s p.0) ∙ ap (λ x. statement_in_lowest s ▸ x) (block_again b p.1)
 
--- the weights of a block whose weights in lowest terms have a fact
-module _ (Fact : Weight → Type 0) where
+  arms_again : (arms : ArmList) → ArmsWeights (λ w. 1 ≤ w.den) (λ ps. 1 ≤ sum ps) arms → arms_in_lowest (arms_in_lowest arms) ≡ arms_in_lowest arms
+  arms_again no_arm p = refl
+  arms_again (arm n b arms) p = ap (λ x. arm n x (arms_in_lowest (arms_in_lowest arms))) (block_again b p.0) ∙ ap (arm n (block_in_lowest b)) (arms_again arms p.1)
+
+-- the facts of weights and parts in lowest terms, by those before
+module _
+    (Before After : Weight → Type 0) (PartsBefore PartsAfter : List ℕ → Type 0) (weight_kept : (w : Weight) → Before w → After (lowest_terms w))
+    (parts_kept : (ps : List ℕ) → PartsBefore ps → PartsAfter (lowest_parts ps)) where
   mutual
-    statement_of_lowest : (s : Statement) → StatementWeights (λ w. Fact (lowest_terms w)) s → StatementWeights Fact (statement_in_lowest s)
+    statement_of_lowest : (s : Statement) → StatementWeights Before PartsBefore s → StatementWeights After PartsAfter (statement_in_lowest s)
     statement_of_lowest (branch e a c) p = (block_of_lowest a p.0, block_of_lowest c p.1)
     statement_of_lowest (loop e a) p = block_of_lowest a p
-    statement_of_lowest (choice w a c) p = (p.0, block_of_lowest a p.1, block_of_lowest c p.2)
+    statement_of_lowest (choice w a c) p = (weight_kept w p.0, block_of_lowest a p.1, block_of_lowest c p.2)
+    statement_of_lowest (choice_among arms) p = (
+      subst PartsAfter (sym (parts_lowest arms)) (parts_kept (parts_of arms) p.0),
+      weights_divided (common_divisor (parts_of (arms_in_lowest arms))) After PartsAfter (arms_in_lowest arms) (arms_of_lowest arms p.1),
+    )
     statement_of_lowest skip p = tt
     statement_of_lowest (assign x e) p = tt
     statement_of_lowest (uniform x e) p = tt
     statement_of_lowest (observe e) p = tt
 
-    block_of_lowest : (b : Statements) → BlockWeights (λ w. Fact (lowest_terms w)) b → BlockWeights Fact (block_in_lowest b)
+    block_of_lowest : (b : Statements) → BlockWeights Before PartsBefore b → BlockWeights After PartsAfter (block_in_lowest b)
     block_of_lowest done p = tt
     block_of_lowest (s ▸ b) p = (statement_of_lowest s p.0, block_of_lowest b p.1)
+
+    arms_of_lowest : (arms : ArmList) → ArmsWeights Before PartsBefore arms → ArmsWeights After PartsAfter (arms_in_lowest arms)
+    arms_of_lowest no_arm p = tt
+    arms_of_lowest (arm n b arms) p = (block_of_lowest b p.0, arms_of_lowest arms p.1)
 
 -- ---- a program
 by_names : (b : Bool) (r : Option Refusal) → (if b then Some too_many_names else r) ≡ None → (b ≡ false) × (r ≡ None)
@@ -208,9 +307,9 @@ module _ (p : Source) (accepted : IsAccepted p) where
       split (map (statement_flaw (sets p.body)) (listed p.body)) (expression_flaw (sets p.body) Number p.result ∷ [])
       (unrefused 0 (flaws_of p) (by_names (nat_lt 256 (length p.names)) (first_refusal 0 (flaws_of p)) accepted).1)
 
-  -- no denominator is 0
-  pub accepted_positive : BlockWeights (λ w. 1 ≤ w.den) p.body
-  accepted_positive = block_weights (sets p.body) (λ w. 1 ≤ w.den) positive p.body flawless.0
+  -- no denominator is 0, and no sum of parts
+  pub accepted_positive : BlockCounted p.body → BlockWeights (λ w. 1 ≤ w.den) (λ ps. 1 ≤ sum ps) p.body
+  accepted_positive counted = block_weights (sets p.body) (λ w. 1 ≤ w.den) (λ ps. 1 ≤ sum ps) positive (λ ps none count. parts_positive ps none) p.body counted flawless.0
 
   lowest_accepted : IsAccepted (in_lowest p)
   lowest_accepted =
@@ -221,16 +320,18 @@ module _ (p : Source) (accepted : IsAccepted p) where
       ∙ ap (λ k. first_refusal 0 (map (statement_flaw k) (listed (block_in_lowest p.body)) ++ expression_flaw k Number p.result ∷ [])) known ∙ none
 
   -- with its weights in lowest terms it is a checked program
-  pub lowest_checked : VariablesBelow p → NumbersFit p → IsChecked (in_lowest p)
-  lowest_checked variables numbers = record {
+  pub lowest_checked : VariablesBelow p → NumbersFit p → BlockCounted p.body → IsChecked (in_lowest p)
+  lowest_checked variables numbers counted = record {
     accepted = lowest_accepted;
-    lowest = ap (λ b. record { names = p.names; body = b; result = p.result }) (block_again p.body accepted_positive);
+    lowest = ap (λ b. record { names = p.names; body = b; result = p.result }) (block_again p.body (accepted_positive counted));
     variables = record { body = block_below (length p.names) p.body variables.body; result = variables.result };
     numbers = record { body = block_fits p.body numbers.body; result = numbers.result };
+    arms = block_of_lowest (λ w. Unit {0}) (λ w. Unit {0}) HaveArmCount HaveArmCount (λ w u. tt) lowest_count p.body counted;
   }
 
--- the weights of a checked program
-pub checked_weights : (p : Source) → IsChecked p → BlockWeights IsWeight p.body
+-- the weights and the parts of a checked program
+pub checked_weights : (p : Source) → IsChecked p → BlockIsWeighed p.body
 checked_weights p c =
-    subst (λ q. BlockWeights IsWeight q.body) c.lowest
-    (block_of_lowest IsWeight p.body (block_weights (sets p.body) (λ w. IsWeight (lowest_terms w)) lowest_is_weight p.body (flawless p c.accepted).0))
+    subst (λ q. BlockIsWeighed q.body) c.lowest
+    (block_of_lowest (λ w. IsWeight (lowest_terms w)) IsWeight (λ ps. AreParts (lowest_parts ps)) AreParts (λ w is. is) (λ ps are. are) p.body
+    (block_weights (sets p.body) (λ w. IsWeight (lowest_terms w)) (λ ps. AreParts (lowest_parts ps)) lowest_is_weight lowest_are_parts p.body c.arms (flawless p c.accepted).0))

@@ -9,12 +9,14 @@ use Rattle.gcl_core.specs.declared.answers.Limit.TheVariants.{Attempts}
 use Rattle.gcl_core.specs.declared.answers.Limits.{Limits}
 use Rattle.gcl_core.specs.declared.answers.Outcome.{Outcome}
 use Rattle.gcl_core.specs.declared.answers.Outcome.TheVariants as outcome
-use Rattle.gcl_core.specs.Bounds.{StatementFits, BlockFits}
-use Rattle.gcl_core.specs.Syntax.{Statement, skip, assign, branch, loop, choice, uniform, observe, Statements, done, ◌▸◌, Source}
+use Rattle.gcl_core.specs.Arms.{parts_of}
+use Rattle.gcl_core.specs.Parts.{partial_sums}
+use Rattle.gcl_core.specs.Bounds.{StatementFits, BlockFits, ArmsFit}
+use Rattle.gcl_core.specs.Syntax.{Statement, skip, assign, branch, loop, choice, choice_among, uniform, observe, Statements, done, ◌▸◌, ArmList, no_arm, arm, Source}
 use Rattle.gcl_core.specs.Value.{State, Value, value_of, is_zero, fits_64}
 use Rattle.gcl_core.specs.Reading.{Reading, gives, more_bits, after}
 use Rattle.gcl_core.specs.Draw.{class_of, first_of, decides, bits_for, last_end, attempt_from, attempt_on, draw_on}
-use Rattle.gcl_core.specs.Blocks.{End, on, failed, fault, limit, by_value, by_truth, by_class, by_side, by_end, choice_ends, uniform_ends, uniform_on, loop_on, statement_on, block_on}
+use Rattle.gcl_core.specs.Blocks.{End, on, failed, fault, limit, by_value, by_truth, by_class, by_side, by_end, choice_ends, uniform_ends, uniform_on, loop_on, statement_on, block_on, arm_on}
 use Rattle.gcl_core.specs.Fitting.{state_fits}
 use Rattle.gcl_core.specs.Keeping.{IsChecked}
 use Rattle.gcl_core.specs.Runs.{zeros, outcome_of, rounds_on, answer_of, run_on}
@@ -109,12 +111,18 @@ module _ (n r : ℕ) where
         by_value_fits (value_of e s) w _ (each_value_fits e s fit.0 h) (λ z f. by_truth_fits z _ _ (block_fits a fit.1 s w h) (block_fits c fit.2 s w h))
     statement_fits (choice p a c) fit s w h =
         drawn_fits (choice_ends p) r w _ (λ i rest lt. side_fits i _ _ (block_fits a fit.0 s rest h) (block_fits c fit.1 s rest h))
+    statement_fits (choice_among arms) fit s w h = drawn_fits (partial_sums (parts_of arms)) r w _ (λ i rest lt. arm_fits arms fit i s rest h)
     statement_fits (uniform x e) fit s w h = by_value_fits (value_of e s) w _ (each_value_fits e s fit h) (λ z f. uniform_fits r x z s w f h)
     statement_fits (loop e a) fit s w h = loop_fits (value_of e) (block_on n r a) (λ s p. each_value_fits e s fit.0 p) (λ s w p. block_fits a fit.1 s w p) n s w h
 
     block_fits : (b : Statements) → BlockFits b → (s : State) (w : List Bool) → state_fits s ≡ true → Fits (block_on n r b s w)
     block_fits done fit s w h = h
     block_fits (st ▸ b) fit s w h = then_fits (statement_on n r st s w) _ (statement_fits st fit.0 s w h) (λ s rest p. block_fits b fit.1 s rest p)
+
+    arm_fits : (arms : ArmList) → ArmsFit arms → (i : ℕ) (s : State) (w : List Bool) → state_fits s ≡ true → Fits (arm_on n r arms i s w)
+    arm_fits no_arm fit i s w h = h
+    arm_fits (arm p b arms) fit zero s w h = block_fits b fit.0 s w h
+    arm_fits (arm p b arms) fit (suc i) s w h = arm_fits arms fit.1 i s w h
 
 pub block_state : (n r : ℕ) (b : Statements) (s end : State) (w rest : List Bool) → BlockFits b → state_fits s ≡ true → block_on n r b s w ≡ gives (on end) rest → state_fits end ≡ true
 block_state n r b s end w rest fit h is = subst Fits is (block_fits n r b fit s w h)

@@ -1,14 +1,16 @@
--- Which programs are accepted, and the first refusal of one that is not. That weights are fractions up to 1, that numbers are no
--- truths, that a name which is read is set somewhere, the two bounds and the order of refusals are this project's own rule.
+-- Which programs are accepted, and the first refusal of one that is not. That weights are fractions up to 1, that parts are not
+-- all 0, that numbers are no truths, that a name which is read is set somewhere, the two bounds and the order of refusals are this project's own rule.
 use Rattle.std.specs.Prelude.{◌≡◌, ℕ, ◌+◌, Bool, true, ◌&&◌, ◌==◌, nat_lt, if◌then◌else◌, List, [], ◌∷◌, ◌++◌, map, length, Option, Some, None}
+use Rattle.std.specs.List.{sum}
 use Rattle.gcl_core.specs.declared.rules.TheConstants.{GREATEST_DENOMINATOR, MOST_NAMES}
 use Rattle.gcl_core.specs.declared.syntax.Weight.{Weight}
 use Rattle.gcl_core.specs.declared.kinds.Kind.{Kind}
 use Rattle.gcl_core.specs.declared.kinds.Kind.TheVariants.{Number, Truth}
-use Rattle.gcl_core.specs.Syntax.{Expression, number, truth, variable, negative, opposite, binary, Statement, skip, assign, branch, loop, choice, uniform, observe, Source}
+use Rattle.gcl_core.specs.Arms.{parts_of}
+use Rattle.gcl_core.specs.Syntax.{Expression, number, truth, variable, negative, opposite, binary, Statement, skip, assign, branch, loop, choice, choice_among, uniform, observe, Source}
 use Rattle.gcl_core.specs.Kinds.{has_kind}
 use Rattle.gcl_core.specs.Listing.{listed}
-use Rattle.gcl_core.specs.Lowest.{lowest_terms}
+use Rattle.gcl_core.specs.Lowest.{lowest_terms, lowest_parts}
 use Rattle.gcl_core.specs.Targets.{sets}
 
 -- why a statement is refused
@@ -48,6 +50,13 @@ weight_flaw w =
     else if nat_lt GREATEST_DENOMINATOR (lowest_terms w).den then Some too_fine
     else None
 
+-- the parts of a choice among several have a sum above 0, and of at most the greatest denominator in lowest terms
+abbrev pub parts_flaw : List ℕ → Option Flaw
+parts_flaw ps =
+    if sum ps == 0 then Some zero_denominator
+    else if nat_lt GREATEST_DENOMINATOR (sum (lowest_parts ps)) then Some too_fine
+    else None
+
 -- the first flaw of a statement itself, not of those in its blocks
 abbrev pub statement_flaw : (ℕ → Bool) → Statement → Option Flaw
 statement_flaw known skip = None
@@ -57,6 +66,7 @@ statement_flaw known (branch e a c) = expression_flaw known Truth e
 statement_flaw known (loop e a) = expression_flaw known Truth e
 statement_flaw known (observe e) = expression_flaw known Truth e
 statement_flaw known (choice w a c) = weight_flaw w
+statement_flaw known (choice_among arms) = parts_flaw (parts_of arms)
 
 -- ---- a program
 

@@ -1,9 +1,12 @@
--- Facts of all that a program names: its variables lie below a count, its numbers have 64 bits, and a fact of each weight.
+-- Facts of all that a program names: its variables lie below a count, its numbers have 64 bits, and a fact of each weight and of the
+-- parts of each choice among several.
 -- Programs of the code have numbers of 64 bits by their type.
-use Rattle.std.specs.Prelude.{ℕ, ◌<◌, ◌≤◌, IsTrue, length}
+use Rattle.std.specs.Prelude.{ℕ, ◌<◌, ◌≤◌, IsTrue, List, length}
 use Rattle.gcl_core.specs.declared.rules.TheConstants.{GREATEST_DENOMINATOR}
 use Rattle.gcl_core.specs.declared.syntax.Weight.{Weight}
-use Rattle.gcl_core.specs.Syntax.{Expression, number, truth, variable, negative, opposite, binary, Statement, skip, assign, branch, loop, choice, uniform, observe, Statements, done, ◌▸◌, Source}
+use Rattle.gcl_core.specs.Arms.{parts_of}
+use Rattle.gcl_core.specs.Parts.{HaveArmCount, AreParts}
+use Rattle.gcl_core.specs.Syntax.{Expression, number, truth, variable, negative, opposite, binary, Statement, skip, assign, branch, loop, choice, choice_among, uniform, observe, Statements, done, ◌▸◌, ArmList, no_arm, arm, Source}
 use Rattle.gcl_core.specs.Value.{fits_64, Reads}
 
 -- each variable that is read or set is below a count
@@ -15,12 +18,17 @@ module _ (count : ℕ) where
     StatementBelow (branch e a c) = Reads e count × BlockBelow a × BlockBelow c
     StatementBelow (loop e a) = Reads e count × BlockBelow a
     StatementBelow (choice w a c) = BlockBelow a × BlockBelow c
+    StatementBelow (choice_among arms) = ArmsBelow arms
     StatementBelow (uniform x e) = (x < count) × Reads e count
     StatementBelow (observe e) = Reads e count
 
     pub BlockBelow : Statements → Type 0
     BlockBelow done = Unit {0}
     BlockBelow (s ▸ b) = StatementBelow s × BlockBelow b
+
+    pub ArmsBelow : ArmList → Type 0
+    ArmsBelow no_arm = Unit {0}
+    ArmsBelow (arm p b arms) = BlockBelow b × ArmsBelow arms
 
 -- below the count of the names
 pub record VariablesBelow (p : Source) : Type 0 where
@@ -43,12 +51,17 @@ abbrev mutual
   StatementFits (branch e a c) = ExpressionFits e × BlockFits a × BlockFits c
   StatementFits (loop e a) = ExpressionFits e × BlockFits a
   StatementFits (choice w a c) = BlockFits a × BlockFits c
+  StatementFits (choice_among arms) = ArmsFit arms
   StatementFits (uniform x e) = ExpressionFits e
   StatementFits (observe e) = ExpressionFits e
 
   pub BlockFits : Statements → Type 0
   BlockFits done = Unit {0}
   BlockFits (s ▸ b) = StatementFits s × BlockFits b
+
+  pub ArmsFit : ArmList → Type 0
+  ArmsFit no_arm = Unit {0}
+  ArmsFit (arm p b arms) = BlockFits b × ArmsFit arms
 
 pub record NumbersFit (p : Source) : Type 0 where
   pub body : BlockFits p.body
@@ -60,8 +73,8 @@ pub record IsWeight (w : Weight) : Type 0 where
   pub positive : 1 ≤ w.den
   pub coarse : w.den ≤ GREATEST_DENOMINATOR
 
--- a fact of each weight
-module _ (Fact : Weight → Type 0) where
+-- a fact of each weight, and one of the parts of each choice among several
+module _ (Fact : Weight → Type 0) (PartsFact : List ℕ → Type 0) where
   abbrev mutual
     pub StatementWeights : Statement → Type 0
     StatementWeights skip = Unit {0}
@@ -69,9 +82,28 @@ module _ (Fact : Weight → Type 0) where
     StatementWeights (branch e a c) = BlockWeights a × BlockWeights c
     StatementWeights (loop e a) = BlockWeights a
     StatementWeights (choice w a c) = Fact w × BlockWeights a × BlockWeights c
+    StatementWeights (choice_among arms) = PartsFact (parts_of arms) × ArmsWeights arms
     StatementWeights (uniform x e) = Unit {0}
     StatementWeights (observe e) = Unit {0}
 
     pub BlockWeights : Statements → Type 0
     BlockWeights done = Unit {0}
     BlockWeights (s ▸ b) = StatementWeights s × BlockWeights b
+
+    pub ArmsWeights : ArmList → Type 0
+    ArmsWeights no_arm = Unit {0}
+    ArmsWeights (arm p b arms) = BlockWeights b × ArmsWeights arms
+
+-- each draw is by a weight, or by parts, as they have to be
+abbrev pub StatementIsWeighed : Statement → Type 0
+StatementIsWeighed = StatementWeights IsWeight AreParts
+
+abbrev pub BlockIsWeighed : Statements → Type 0
+BlockIsWeighed = BlockWeights IsWeight AreParts
+
+abbrev pub ArmsAreWeighed : ArmList → Type 0
+ArmsAreWeighed = ArmsWeights IsWeight AreParts
+
+-- each choice among several has as many arms as it may have
+abbrev pub BlockCounted : Statements → Type 0
+BlockCounted = BlockWeights (λ w. Unit {0}) HaveArmCount

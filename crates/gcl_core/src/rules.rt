@@ -12,5 +12,9 @@ pub const DEEPEST_NESTING: u32 = 64;
 pub const MOST_OPERATORS: u32 = 128;
 /// The greatest denominator of a weight in lowest terms, 2^62.
 pub const GREATEST_DENOMINATOR: u64 = 1 << 62;
+/// The fewest arms of a choice among several.
+pub const LEAST_ARMS: usize = 2;
+/// The most arms of a choice among several.
+pub const MOST_ARMS: usize = 16;
 /// The greatest limit of turns, of attempts and of rounds.
 pub const MOST_LIMIT: u64 = 1_000_000_000;

@@ -3,7 +3,7 @@ use Rattle.std.proofs.Common.{◌≡◌, ℕ, suc, ◌+◌, ◌<◌, List, [], �
 use Rattle.gcl_core.specs.declared.syntax.Stmt.{Stmt}
 use Rattle.gcl_core.specs.Views.{statement_of, list_of}
 use Rattle.gcl_core.specs.Syntax.{Statement, Statements, ◌▸◌}
-use Rattle.gcl_core.specs.Bounds.{IsWeight, StatementWeights, BlockWeights, StatementBelow, BlockBelow}
+use Rattle.gcl_core.specs.Bounds.{StatementIsWeighed, BlockIsWeighed, StatementBelow, BlockBelow}
 use Rattle.mass_tables.specs.Tables.{statement_flow}
 use Rattle.mass_fold.specs.declared.error.MassError.{MassError}
 use Rattle.mass_fold.specs.declared.ended.Ended.{Ended}
@@ -13,8 +13,8 @@ use Rattle.mass_fold.specs.Fold.{FoldsOne, OneBlames}
 pub below_as : (m : ℕ) (st st' : Statement) → st ≡ st' → StatementBelow m st → StatementBelow m st'
 below_as m st st' p h = subst (StatementBelow m) p h
 
-pub weights_as : (st st' : Statement) → st ≡ st' → StatementWeights IsWeight st → StatementWeights IsWeight st'
-weights_as st st' p h = subst (StatementWeights IsWeight) p h
+pub weights_as : (st st' : Statement) → st ≡ st' → StatementIsWeighed st → StatementIsWeighed st'
+weights_as st st' p h = subst StatementIsWeighed p h
 
 pub folds_as : (n : ℕ) (r : Option ℕ) (st st' : Statement) (es fs : Entries) (E F : Ended) → st ≡ st' → FoldsOne (statement_flow n r st') es E fs F → FoldsOne (statement_flow n r st) es E fs F
 folds_as n r st st' es fs E F p h = subst (λ st. FoldsOne (statement_flow n r st) es E fs F) (sym p) h
@@ -31,11 +31,11 @@ list_step xs i d h e =
 pub below_next : (m : ℕ) (b rest : Statements) (st : Statement) → b ≡ st ▸ rest → BlockBelow m b → StatementBelow m st × BlockBelow m rest
 below_next m b rest st p h = let k : BlockBelow m (st ▸ rest) = subst (BlockBelow m) p h in (k.0, k.1)
 
-pub weights_next : (b rest : Statements) (st : Statement) → b ≡ st ▸ rest → BlockWeights IsWeight b → StatementWeights IsWeight st × BlockWeights IsWeight rest
-weights_next b rest st p h = let k : BlockWeights IsWeight (st ▸ rest) = subst (BlockWeights IsWeight) p h in (k.0, k.1)
+pub weights_next : (b rest : Statements) (st : Statement) → b ≡ st ▸ rest → BlockIsWeighed b → StatementIsWeighed st × BlockIsWeighed rest
+weights_next b rest st p h = let k : BlockIsWeighed (st ▸ rest) = subst BlockIsWeighed p h in (k.0, k.1)
 
-pub along_list : (xs ys : List Stmt) → xs ≡ ys → BlockWeights IsWeight (list_of ys) → BlockWeights IsWeight (list_of xs)
-along_list xs ys p h = subst (λ z. BlockWeights IsWeight (list_of z)) (sym p) h
+pub along_list : (xs ys : List Stmt) → xs ≡ ys → BlockIsWeighed (list_of ys) → BlockIsWeighed (list_of xs)
+along_list xs ys p h = subst (λ z. BlockIsWeighed (list_of z)) (sym p) h
 
 pub below_list : (m : ℕ) (xs ys : List Stmt) → xs ≡ ys → BlockBelow m (list_of ys) → BlockBelow m (list_of xs)
 below_list m xs ys p h = subst (λ z. BlockBelow m (list_of z)) (sym p) h

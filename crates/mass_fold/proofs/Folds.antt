@@ -6,7 +6,7 @@ use Rattle.std.proofs.Math.ListN.{drop_of_length-le}
 use Rattle.gcl_core.specs.declared.syntax.Stmt.{Stmt}
 use Rattle.gcl_core.specs.Views.{list_of}
 use Rattle.gcl_core.specs.Syntax.{Expression, Statement, skip, assign, branch, uniform, observe, Statements, done, ◌▸◌}
-use Rattle.gcl_core.specs.Bounds.{IsWeight, StatementWeights, BlockWeights}
+use Rattle.gcl_core.specs.Bounds.{StatementIsWeighed, BlockIsWeighed}
 use Rattle.gcl_core.specs.Value.{State, Value, value_of, is_zero}
 use Rattle.gcl_core.specs.Blocks.{End, on, failed, fault, by_value, by_truth}
 use Rattle.gcl_core.specs.Fractions.{Fraction}
@@ -123,7 +123,7 @@ module _ (n : ℕ) (r : Option ℕ) where
       let v = y N L f.next (J ++ f.ended) Np u.0 u.1 p.1 in
       (v.0, end_along N G _ _ (λ H. regroup H N J f.ended (block_flow n r b f.next).ended) v.1)
 
-  blame_seq : (st : Statement) (b : Statements) (es gs : Entries) (E F : Ended) (e : MassError) → StatementWeights IsWeight st → FoldsOne (statement_flow n r st) es E gs F → FoldBlames (block_flow n r b) gs F e → FoldBlames (block_flow n r (st ▸ b)) es E e
+  blame_seq : (st : Statement) (b : Statements) (es gs : Entries) (E F : Ended) (e : MassError) → StatementIsWeighed st → FoldsOne (statement_flow n r st) es E gs F → FoldBlames (block_flow n r b) gs F e → FoldBlames (block_flow n r (st ▸ b)) es E e
   blame_seq st b es gs E F e ws x y N L I J Np s t w m =
       let p = first_of N L st b I w in
       let f = statement_flow n r st I in
@@ -138,7 +138,7 @@ module _ (n : ℕ) (r : Option ℕ) where
   pub rest_next : (all : Table → Flow) (b rest : Statements) (st : Statement) (es now gs : Entries) (E F G : Ended) → b ≡ st ▸ rest → FoldsOn all b es E now F → FoldsOne (statement_flow n r st) now F gs G → FoldsOn all rest es E gs G
   rest_next all b rest st es now gs E F G p a c hs H d = subst (λ b. FoldsOn all b es E now F) p a hs H (fold_seq st rest now gs hs F G H c d)
 
-  pub blames_next : (all : Table → Flow) (b rest : Statements) (st : Statement) (es now gs : Entries) (E F G : Ended) → b ≡ st ▸ rest → StatementWeights IsWeight st → BlamesOn all b es E now F → FoldsOne (statement_flow n r st) now F gs G → BlamesOn all rest es E gs G
+  pub blames_next : (all : Table → Flow) (b rest : Statements) (st : Statement) (es now gs : Entries) (E F G : Ended) → b ≡ st ▸ rest → StatementIsWeighed st → BlamesOn all b es E now F → FoldsOne (statement_flow n r st) now F gs G → BlamesOn all rest es E gs G
   blames_next all b rest st es now gs E F G p w a c e k = subst (λ b. BlamesOn all b es E now F) p a e (blame_seq st rest now gs F G e w c k)
 
   pub blames_here : (all : Table → Flow) (b rest : Statements) (st : Statement) (es now : Entries) (E F : Ended) (e : MassError) → b ≡ st ▸ rest → BlamesOn all b es E now F → OneBlames (statement_flow n r st) now F e → FoldBlames all es E e
@@ -154,7 +154,7 @@ module _ (n : ℕ) (r : Option ℕ) where
       subst (λ z. FoldsTo (block_flow n r (list_of z)) es E now F) p (b now F (fold_nothing now F))
 
   -- ---- no state at all
-  pub fold_empty : (st : Statement) (es : Entries) (E : Ended) → StatementWeights IsWeight st → es ≡ [] → FoldsOne (statement_flow n r st) es E es E
+  pub fold_empty : (st : Statement) (es : Entries) (E : Ended) → StatementIsWeighed st → es ≡ [] → FoldsOne (statement_flow n r st) es E es E
   fold_empty st es E ws e N L I J Np s t w =
       let k = kept_one n r N L st I ws w.before w.after w.inside in
       let z : weight N I ≡ 0 = sym (s.same (λ s. 1)) ∙ ap (held N (λ s. 1)) e in
@@ -309,7 +309,7 @@ module _ (n : ℕ) (r : Option ℕ) where
         let o = amount_append N (λ x. 1) J (faults v I) in
         x N L (only (holds v) I) (J ++ faults v I) Np p.0 p.1 (both_first N L (faults v I) (block_flow n r a (only (holds v) I)) (block_flow n r c (only (fails v) I)) w.inside) (omega arith)
 
-    module _ (ls : Entries) (G : Ended) (x : FoldsTo (block_flow n r a) first F ls G) (wa : BlockWeights IsWeight a) where
+    module _ (ls : Entries) (G : Ended) (x : FoldsTo (block_flow n r a) first F ls G) (wa : BlockIsWeighed a) where
       pub second_blames : (error : MassError) → FoldBlames (block_flow n r c) second G error → OneBlames (statement_flow n r (branch e a c)) es E error
       second_blames error y N L I J Np s t w m =
           let v = value_of e in
@@ -327,7 +327,7 @@ module _ (n : ℕ) (r : Option ℕ) where
           let z = kept_all n r N L a wa A wf in
           y N L C ((J ++ faults v I) ++ fa.ended) Np q.0 u.1 (both_second N L (faults v I) fa fc w.inside) (omega arith)
 
-      pub both_blame : (cs : Entries) (H : Ended) (error : MassError) → BlockWeights IsWeight c → FoldsTo (block_flow n r c) second G cs H → ((E : Ended) → StepBlames all_kept none_stopped ls cs E error) → OneBlames (statement_flow n r (branch e a c)) es E error
+      pub both_blame : (cs : Entries) (H : Ended) (error : MassError) → BlockIsWeighed c → FoldsTo (block_flow n r c) second G cs H → ((E : Ended) → StepBlames all_kept none_stopped ls cs E error) → OneBlames (statement_flow n r (branch e a c)) es E error
       both_blame cs H error wc y b N L I J Np s t w m =
           let v = value_of e in
           let A = only (holds v) I in

@@ -2,7 +2,7 @@
 use Rattle.std.proofs.Common.{◌≡◌, ℕ, zero, suc, ◌+◌, ◌≤◌, ◌<◌, [], ◌++◌, Option, refl, sym, ap, ◌∙◌, subst, arith}
 use Rattle.gcl_core.specs.declared.answers.Limit.TheVariants as limit_kind
 use Rattle.gcl_core.specs.Syntax.{Expression, Statements}
-use Rattle.gcl_core.specs.Bounds.{IsWeight, BlockWeights}
+use Rattle.gcl_core.specs.Bounds.{BlockIsWeighed}
 use Rattle.gcl_core.specs.Value.{State, Value, value_of}
 use Rattle.gcl_core.specs.Blocks.{End, limit}
 use Rattle.gcl_core.specs.WeightedEnds.{Weighted}
@@ -58,7 +58,7 @@ module _ (n : ℕ) (r : Option ℕ) (e : Expression) (b : Statements) (es : Entr
       )
 
   -- what stands of weight in the midst of a loop
-  weighs : (N L t : ℕ) (I : Table) (J : Weighted End) (now exits : Entries) (F : Ended) → BlockWeights IsWeight b → Within N L (turns n I) → (at : LoopAt turns n t now exits F N L I J) → weight N at.table + (weight N at.out + weight N at.gone) ≡ weight N I + weight N J
+  weighs : (N L t : ℕ) (I : Table) (J : Weighted End) (now exits : Entries) (F : Ended) → BlockIsWeighed b → Within N L (turns n I) → (at : LoopAt turns n t now exits F N L I J) → weight N at.table + (weight N at.out + weight N at.gone) ≡ weight N I + weight N J
   weighs N L t I J now exits F wb w at =
       let k = kept_turns n r N L v b (kept_all n r N L b wb) n I w in
       let m = kept_turns n r N L v b (kept_all n r N L b wb) t at.table at.inside in
@@ -68,14 +68,14 @@ module _ (n : ℕ) (r : Option ℕ) (e : Expression) (b : Statements) (es : Entr
 
   module _ (t : ℕ) (now exits : Entries) (F : Ended) (l : LoopsOn turns n t es E now exits F) where
     -- the guard is refused
-    pub guard_blames : (error : MassError) → BlockWeights IsWeight b → StepBlames all_kept (stopped v) [] now F error → OneBlames (turns n) es E error
+    pub guard_blames : (error : MassError) → BlockIsWeighed b → StepBlames all_kept (stopped v) [] now F error → OneBlames (turns n) es E error
     guard_blames error wb d N L I J Np s u w m =
         let at = l N L I J Np s u w.inside in
         let k = weighs N L t I J now exits F wb w.inside at in
         split_blamed n r v now F error N L at.table at.gone Np d at.stands at.stopped (head_turn N L t at.table at.inside) (omega arith)
 
     -- where nothing stands, what is left of the loop gives nothing
-    pub loop_dry : BlockWeights IsWeight b → now ≡ [] → FoldsOne (turns n) es E exits F
+    pub loop_dry : BlockIsWeighed b → now ≡ [] → FoldsOne (turns n) es E exits F
     loop_dry wb e N L I J Np s u w =
         let at = l N L I J Np s u w.inside in
         let rest = turns t at.table in
@@ -87,7 +87,7 @@ module _ (n : ℕ) (r : Option ℕ) (e : Expression) (b : Statements) (es : Entr
 
     module _ (first second : Entries) (G : Ended) (d : StepsTo (kept_if (holds v)) (stopped v) [] now F first G) (c : StepsTo (kept_if (fails v)) (stopped v) [] now F second G) where
       -- what leaves the loop is refused
-      pub exits_blame : (error : MassError) → BlockWeights IsWeight b → ((E : Ended) → StepBlames all_kept none_stopped exits second E error) → OneBlames (turns n) es E error
+      pub exits_blame : (error : MassError) → BlockIsWeighed b → ((E : Ended) → StepBlames all_kept none_stopped exits second E error) → OneBlames (turns n) es E error
       exits_blame error wb x N L I J Np s u w m =
           let at = l N L I J Np s u w.inside in
           let q = looked_second n r v now first second F G d c N at.table at.gone Np at.stands at.stopped in
@@ -130,7 +130,7 @@ module _ (n : ℕ) (r : Option ℕ) (e : Expression) (b : Statements) (es : Entr
     pub loop_turn : (exits' now' : Entries) (H : Ended) → ((E : Ended) → StepsTo all_kept none_stopped exits second E exits' E) → FoldsTo body first G now' H → LoopsOn turns n t es E now' exits' H
     loop_turn exits' now' H m x N L I J Np s u w = turned t now exits F first second G d c exits' now' H m x N L I J Np (l N L I J Np s u w)
 
-    pub body_blames : (error : MassError) → BlockWeights IsWeight b → FoldBlames body first G error → OneBlames (turns n) es E error
+    pub body_blames : (error : MassError) → BlockIsWeighed b → FoldBlames body first G error → OneBlames (turns n) es E error
     body_blames error wb x N L I J Np s u w m =
         let at = l N L I J Np s u w.inside in
         let K = at.table in
@@ -159,7 +159,7 @@ module _ (n : ℕ) (r : Option ℕ) (e : Expression) (b : Statements) (es : Entr
           },
         )
 
-    pub turns_blame : (error : MassError) → BlockWeights IsWeight b → StepBlames none_kept (all_stopped (end_of gone_kind.Turns)) [] first G error → OneBlames (turns n) es E error
+    pub turns_blame : (error : MassError) → BlockIsWeighed b → StepBlames none_kept (all_stopped (end_of gone_kind.Turns)) [] first G error → OneBlames (turns n) es E error
     turns_blame error wb x N L I J Np s u w m =
         let at = l N L I J Np s u w.inside in
         let K = at.table in

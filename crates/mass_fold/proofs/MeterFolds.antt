@@ -5,7 +5,7 @@ use Rattle.gcl_core.specs.declared.syntax.Stmt.{Stmt}
 use Rattle.gcl_core.specs.declared.syntax.Weight.{Weight}
 use Rattle.gcl_core.specs.Views.{list_of}
 use Rattle.gcl_core.specs.Syntax.{Expression, Statement, branch, choice, uniform, Statements, done, ◌▸◌}
-use Rattle.gcl_core.specs.Bounds.{IsWeight, StatementWeights}
+use Rattle.gcl_core.specs.Bounds.{IsWeight, StatementIsWeighed}
 use Rattle.gcl_core.specs.Value.{State, Value, value_of}
 use Rattle.gcl_core.specs.Blocks.{by_value, by_bound, choice_ends, uniform_ends}
 use Rattle.gcl_core.specs.Draw.{last_end}
@@ -78,7 +78,7 @@ module _ (n : ℕ) (r : Option ℕ) where
   pub meters_none : (st : Statement) (es : Entries) (E : Ended) (m : Meter) → ((I : Table) → statement_draws n r st I ≡ []) → MetersOne r (statement_flow n r st) (statement_draws n r st) es E m m
   meters_none st es E m e N M L I J Np Mp s t w k = counted_as (N * M) 0 _ m m (sym (ap (amount N (price r M)) (e I))) (counted_none (N * M) m)
 
-  pub meters_empty : (st : Statement) (es : Entries) (E : Ended) (m : Meter) → StatementWeights IsWeight st → es ≡ [] → MetersOne r (statement_flow n r st) (statement_draws n r st) es E m m
+  pub meters_empty : (st : Statement) (es : Entries) (E : Ended) (m : Meter) → StatementIsWeighed st → es ≡ [] → MetersOne r (statement_flow n r st) (statement_draws n r st) es E m m
   meters_empty st es E m ws e N M L I J Np Mp s t w k =
       let z : weight N I ≡ 0 = sym (s.same (λ s. 1)) ∙ ap (held N (λ s. 1)) e in
       counted_as (N * M) 0 _ m m (sym (none_one n r N L (price r M) st I ws w.before w.inside z)) (counted_none (N * M) m)

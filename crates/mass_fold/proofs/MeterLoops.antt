@@ -1,7 +1,7 @@
 -- What a meter counts in a loop, turn by turn.
 use Rattle.std.proofs.Common.{◌≡◌, ℕ, zero, suc, ◌+◌, ◌*◌, ◌<◌, [], ◌++◌, Option, refl, sym, ap, ◌∙◌, subst, arith}
 use Rattle.gcl_core.specs.Syntax.{Expression, Statements}
-use Rattle.gcl_core.specs.Bounds.{IsWeight, BlockWeights}
+use Rattle.gcl_core.specs.Bounds.{BlockIsWeighed}
 use Rattle.gcl_core.specs.Value.{value_of}
 use Rattle.gcl_core.specs.Blocks.{End}
 use Rattle.gcl_core.specs.WeightedEnds.{Weighted}
@@ -83,7 +83,7 @@ module _ (n : ℕ) (r : Option ℕ) (e : Expression) (b : Statements) (es : Entr
         }
 
   -- where nothing stands, nothing is left to count
-  pub meter_dry : (t : ℕ) (now exits : Entries) (F : Ended) (mid : Meter) → BlockWeights IsWeight b → now ≡ [] → MetersLoop r turns draws n t es E now exits F m mid → MetersOne r (turns n) (draws n) es E m mid
+  pub meter_dry : (t : ℕ) (now exits : Entries) (F : Ended) (mid : Meter) → BlockIsWeighed b → now ≡ [] → MetersLoop r turns draws n t es E now exits F m mid → MetersOne r (turns n) (draws n) es E m mid
   meter_dry t now exits F mid wb q l N M L I J Np Mp s u w pr =
       let a = l N M L I J Np Mp s u w.inside pr in
       let z : weight N a.at.table ≡ 0 = sym (a.at.stands.same (λ s. 1)) ∙ ap (held N (λ s. 1)) q in

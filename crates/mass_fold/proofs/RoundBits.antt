@@ -2,7 +2,7 @@
 use Rattle.std.proofs.Common.{◌≡◌, ℕ, ◌*◌, ◌<◌, Option, sym, subst, arith}
 use Rattle.gcl_core.specs.Fractions.{Fraction}
 use Rattle.gcl_core.specs.Mass.{is_failed, failed_mass}
-use Rattle.gcl_core.specs.Bounds.{IsWeight, BlockWeights}
+use Rattle.gcl_core.specs.Bounds.{BlockIsWeighed}
 use Rattle.gcl_core.specs.Syntax.{Source}
 use Rattle.frac128.specs.Fraction.{InLowest, IsEqual, lowest}
 use Rattle.mass_tables.specs.Width.{round_width}
@@ -24,5 +24,5 @@ module _ (p : Source) (n : ℕ) (r : Option ℕ) where
   pub bits_are : (f : Fraction) (m : Meter) (o : Option Fraction) → f.0 * 1 ≡ 0 * f.1 → 0 < f.1 → o ≡ bits_of m → BodyMeters p n r (Bits f) m → RoundBits p n r o
   bits_are f m o e pos q d = subst (RoundBits p n r) (sym q) (read_of f m (let z : f.0 ≡ 0 = omega arith in z, pos) d)
 
-  pub failed_lowest : (f : Fraction) → BlockWeights IsWeight p.body → InLowest f → IsEqual f (failed_mass p n r) → f ≡ lowest (failed_mass p n r)
+  pub failed_lowest : (f : Fraction) → BlockIsWeighed p.body → InLowest f → IsEqual f (failed_mass p n r) → f ≡ lowest (failed_mass p n r)
   failed_lowest f w l e = lowest_is f (failed_mass p n r) l (round_positive p n r w is_failed) e

@@ -3,7 +3,7 @@ use Rattle.std.proofs.Common.{◌≡◌, ℕ, ◌+◌, ◌-◌, ◌*◌, ◌≤�
 use Rattle.std.proofs.Math.Nat.{one-le-pow, mul-le-mul_left}
 use Rattle.gcl_core.specs.declared.answers.Outcome.{Outcome}
 use Rattle.gcl_core.specs.Blocks.{End, on}
-use Rattle.gcl_core.specs.Bounds.{IsWeight, BlockWeights}
+use Rattle.gcl_core.specs.Bounds.{BlockIsWeighed}
 use Rattle.gcl_core.specs.Mass.{sum_of, ends_in, is_failed, round_mass, failed_mass}
 use Rattle.gcl_core.specs.Runs.{zeros}
 use Rattle.gcl_core.specs.Syntax.{Source}
@@ -32,7 +32,7 @@ refused_by p n r TooManyStates h = h
 refused_by p n r AllFailed h = h
 refused_by p n r OutOfMemory h = h
 
-module _ (p : Source) (n : ℕ) (r : Option ℕ) (w : BlockWeights IsWeight p.body) where
+module _ (p : Source) (n : ℕ) (r : Option ℕ) (w : BlockIsWeighed p.body) where
   abbrev Q : ℕ
   Q = round_width p n r
 

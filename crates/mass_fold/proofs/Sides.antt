@@ -6,7 +6,7 @@ use Rattle.std.specs.List.Sorted.{IsStrictlySortedBy}
 use Rattle.gcl_core.specs.declared.answers.Limit.TheVariants as limit_kind
 use Rattle.gcl_core.specs.declared.syntax.Weight.{Weight}
 use Rattle.gcl_core.specs.Syntax.{choice, Statements}
-use Rattle.gcl_core.specs.Bounds.{IsWeight, BlockWeights}
+use Rattle.gcl_core.specs.Bounds.{IsWeight, BlockIsWeighed}
 use Rattle.gcl_core.specs.Blocks.{End, limit}
 use Rattle.gcl_core.specs.Fractions.{Fraction, times}
 use Rattle.gcl_core.specs.WeightedEnds.{Weighted, scaled, class_weight, no_class_weight}
@@ -235,7 +235,7 @@ module _ (n : ℕ) (r : Option ℕ) (p : Weight) (a c : Statements) (w : IsWeigh
         let o = amount_append N (λ x. 1) J (Z I) in
         x N L (A I) (J ++ Z I) Np q.0 q.2 (both_first N L (Z I) (block_flow n r a (A I)) (block_flow n r c (C I)) i) (omega arith)
 
-    module _ (ls : Entries) (G : Ended) (x : FoldsTo (block_flow n r a) first F ls G) (wa : BlockWeights IsWeight a) where
+    module _ (ls : Entries) (G : Ended) (x : FoldsTo (block_flow n r a) first F ls G) (wa : BlockIsWeighed a) where
       pub second_blames : (error : MassError) → FoldBlames (block_flow n r c) second G error → OneBlames (statement_flow n r (choice p a c)) es E error
       second_blames error y N L I J Np s t h m =
           let fa = block_flow n r a (A I) in
@@ -250,7 +250,7 @@ module _ (n : ℕ) (r : Option ℕ) (p : Weight) (a c : Statements) (w : IsWeigh
           let z = kept_all n r N L a wa (A I) wf in
           y N L (C I) ((J ++ Z I) ++ fa.ended) Np q.1 u.1 (both_second N L (Z I) fa fc i) (omega arith)
 
-      pub both_blame : (cs : Entries) (H : Ended) (error : MassError) → BlockWeights IsWeight c → FoldsTo (block_flow n r c) second G cs H → ((E : Ended) → StepBlames all_kept none_stopped ls cs E error) → OneBlames (statement_flow n r (choice p a c)) es E error
+      pub both_blame : (cs : Entries) (H : Ended) (error : MassError) → BlockIsWeighed c → FoldsTo (block_flow n r c) second G cs H → ((E : Ended) → StepBlames all_kept none_stopped ls cs E error) → OneBlames (statement_flow n r (choice p a c)) es E error
       both_blame cs H error wc y b N L I J Np s t h m =
           let fa = block_flow n r a (A I) in
           let fc = block_flow n r c (C I) in

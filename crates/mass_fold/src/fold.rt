@@ -1,7 +1,7 @@
 // A table through a block.
 
 ghost use Rattle.std.specs.Prelude.{◌≡◌, ◌<◌, ◌≤◌, IfOk, IfErr, IfSome};
-ghost use Rattle.gcl_core.specs.Bounds.{IsWeight, StatementWeights, BlockWeights, StatementBelow, BlockBelow};
+ghost use Rattle.gcl_core.specs.Bounds.{StatementIsWeighed, BlockIsWeighed, StatementBelow, BlockBelow};
 ghost use Rattle.gcl_core.specs.Views.{expression_of, statement_of, statements_of};
 ghost use Rattle.gcl_core.specs.Value.{value_of, Reads};
 ghost use Rattle.mass_tables.specs.Tables.{statement_flow, block_flow, loop_flow};
@@ -31,7 +31,7 @@ pub fn fold_block(
     meter: &mut Meter,
 ) -> Result<Table, MassError>
     requires below { BlockBelow table.vars (statements_of b.now) }
-    requires weights { BlockWeights IsWeight (statements_of b.now) }
+    requires weights { BlockIsWeighed (statements_of b.now) }
     requires some { IfSome attempts (λ r. 1 ≤ r) }
     ensures ok { IfOk result (λ t. FoldsTo (block_flow turns attempts (statements_of b.now)) table.states.entries ended.old t.states.entries ended.new) }
     ensures bits { IfOk result (λ t. Meters attempts (block_flow turns attempts (statements_of b.now)) (block_draws turns attempts (statements_of b.now)) table.states.entries ended.old meter.old meter.new) }
@@ -60,7 +60,7 @@ fn fold_stmt(
     meter: &mut Meter,
 ) -> Result<Table, MassError>
     requires below { StatementBelow table.vars (statement_of s.now) }
-    requires weights { StatementWeights IsWeight (statement_of s.now) }
+    requires weights { StatementIsWeighed (statement_of s.now) }
     requires some { IfSome attempts (λ r. 1 ≤ r) }
     ensures ok { IfOk result (λ t. FoldsOne (statement_flow turns attempts (statement_of s.now)) table.states.entries ended.old t.states.entries ended.new) }
     ensures bits { IfOk result (λ t. MetersOne attempts (statement_flow turns attempts (statement_of s.now)) (statement_draws turns attempts (statement_of s.now)) table.states.entries ended.old meter.old meter.new) }
@@ -147,7 +147,7 @@ fn fold_loop(
 ) -> Result<Table, MassError>
     requires reads { Reads (expression_of e.now) table.vars }
     requires below { BlockBelow table.vars (statements_of body.now) }
-    requires weights { BlockWeights IsWeight (statements_of body.now) }
+    requires weights { BlockIsWeighed (statements_of body.now) }
     requires some { IfSome attempts (λ r. 1 ≤ r) }
     ensures ok { IfOk result (λ t. FoldsOne (loop_flow (value_of (expression_of e.now)) (block_flow turns attempts (statements_of body.now)) turns) table.states.entries ended.old t.states.entries ended.new) }
     ensures bits { IfOk result (λ t. MetersOne attempts (loop_flow (value_of (expression_of e.now)) (block_flow turns attempts (statements_of body.now)) turns) (loop_draws (value_of (expression_of e.now)) (block_draws turns attempts (statements_of body.now)) (block_flow turns attempts (statements_of body.now)) turns) table.states.entries ended.old meter.old meter.new) }

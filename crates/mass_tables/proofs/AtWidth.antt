@@ -2,7 +2,7 @@
 use Rattle.std.proofs.Common.{ℕ, length, Option, arith}
 use Rattle.std.proofs.lemmas.Nat.Gcd.{dvd_refl}
 use Rattle.gcl_core.specs.Syntax.{Source}
-use Rattle.gcl_core.specs.Bounds.{IsWeight, BlockWeights}
+use Rattle.gcl_core.specs.Bounds.{BlockIsWeighed}
 use Rattle.gcl_core.specs.Runs.{zeros}
 use Rattle.gcl_core.specs.WeightedEnds.{sure}
 use Rattle.mass_tables.specs.Tables.{tables_of, peak_of}
@@ -11,7 +11,7 @@ use Rattle.mass_tables.specs.Scale.{WholeAtWidth}
 use Rattle.mass_tables.proofs.Denominators.{common_positive, flow_within}
 use Rattle.mass_tables.proofs.Positive.{fractions_positive, p_all}
 
-pub at_width : (p : Source) (n : ℕ) (r : Option ℕ) → BlockWeights IsWeight p.body → WholeAtWidth p n r
+pub at_width : (p : Source) (n : ℕ) (r : Option ℕ) → BlockIsWeighed p.body → WholeAtWidth p n r
 at_width p n r w =
     let f = tables_of p n r in
     let h = fractions_positive f (p_all n r p.body (sure (zeros (length p.names))) w (omega arith, tt)) in

@@ -2,7 +2,7 @@
 use Rattle.std.proofs.Common.{◌≡◌, ℕ, zero, suc, ◌+◌, ◌*◌, ◌-◌, ◌≤◌, ◌<◌, ℤ, pos, negsuc, Bool, true, false, not, cond, [], ◌∷◌, ◌++◌, Ok, Err, Option, refl, ap, ◌∙◌, subst, arith, slice_set}
 use Rattle.gcl_core.specs.declared.answers.Limit.TheVariants.{Turns, Attempts}
 use Rattle.gcl_core.specs.Syntax.{Statement, skip, assign, branch, loop, choice, uniform, observe, Statements, done, ◌▸◌}
-use Rattle.gcl_core.specs.Bounds.{IsWeight, StatementWeights, BlockWeights}
+use Rattle.gcl_core.specs.Bounds.{StatementIsWeighed, BlockIsWeighed}
 use Rattle.gcl_core.specs.Value.{State, Value, value_of, is_zero}
 use Rattle.gcl_core.specs.Blocks.{End, on, failed, fault, limit, by_value, by_bound}
 use Rattle.gcl_core.specs.Fractions.{Fraction, times, one}
@@ -167,7 +167,7 @@ module _ (n : ℕ) (r : Option ℕ) (N L : ℕ) where
       omega arith
 
   mutual
-    pub kept_one : (st : Statement) (I : Table) → StatementWeights IsWeight st → Wholes N I → Wholes N (statement_flow n r st I).next → Within N L (statement_flow n r st I) →
+    pub kept_one : (st : Statement) (I : Table) → StatementIsWeighed st → Wholes N I → Wholes N (statement_flow n r st I).next → Within N L (statement_flow n r st I) →
         weight N (statement_flow n r st I).next + weight N (statement_flow n r st I).ended ≡ weight N I
     kept_one skip I p w x s = split_weight N (taken_on I (statement_weighted n r skip)) ∙ amount_each N (λ x. 1) (statement_weighted n r skip) (λ s. on s) I (λ s. refl)
     kept_one (assign x e) I p w y s = split_weight N (taken_on I (statement_weighted n r (assign x e))) ∙ amount_each N (λ x. 1) (statement_weighted n r (assign x e)) (λ s. set_end x (value_of e s) s) I (λ s. set_sure x (value_of e s) s)
@@ -210,7 +210,7 @@ module _ (n : ℕ) (r : Option ℕ) (N L : ℕ) where
         joined l l' f f' g g' W p q r e = rw (p, q, r) e
     kept_one (loop e a) I p w x s = kept_turns (value_of e) a (kept_all a p) n I s
 
-    pub kept_all : (b : Statements) → BlockWeights IsWeight b → KeepsAll b
+    pub kept_all : (b : Statements) → BlockIsWeighed b → KeepsAll b
     kept_all done p I s = omega arith
     kept_all (st ▸ b) p I s =
         let f = statement_flow n r st I in

@@ -2,7 +2,7 @@
 use Rattle.std.proofs.Common.{◌≡◌, ℕ, zero, suc, ◌+◌, ◌*◌, ◌-◌, ◌≤◌, ◌<◌, List, [], ◌∷◌, ◌++◌, Ok, Err, ℤ, pos, negsuc, Option, refl, ap, ◌∙◌, arith}
 use Rattle.gcl_core.specs.declared.answers.Limit.TheVariants.{Attempts}
 use Rattle.gcl_core.specs.Syntax.{Statement, skip, assign, branch, loop, choice, uniform, observe, Statements, done, ◌▸◌}
-use Rattle.gcl_core.specs.Bounds.{IsWeight, StatementWeights, BlockWeights}
+use Rattle.gcl_core.specs.Bounds.{StatementIsWeighed, BlockIsWeighed}
 use Rattle.gcl_core.specs.Value.{State, Value, value_of}
 use Rattle.gcl_core.specs.Blocks.{limit, by_value, by_bound, choice_ends, uniform_ends}
 use Rattle.gcl_core.specs.WeightedEnds.{Weighted, scaled, class_weight, no_class_weight}
@@ -47,7 +47,7 @@ none_counts N G (e ∷ m) h =
     omega arith
 
 module _ (n : ℕ) (r : Option ℕ) (N L : ℕ) (H : List ℕ → ℕ) where
-  pub none_turns : (v : State → Value) (b : Statements) → BlockWeights IsWeight b → ((I : Table) → Within N L (block_flow n r b I) → weight N I ≡ 0 → amount N H (block_draws n r b I) ≡ 0) → (t : ℕ) (J : Table) →
+  pub none_turns : (v : State → Value) (b : Statements) → BlockIsWeighed b → ((I : Table) → Within N L (block_flow n r b I) → weight N I ≡ 0 → amount N H (block_draws n r b I) ≡ 0) → (t : ℕ) (J : Table) →
       Within N L (loop_flow v (block_flow n r b) t J) → weight N J ≡ 0 → amount N H (loop_draws v (block_draws n r b) (block_flow n r b) t J) ≡ 0
   none_turns v b w h zero J s z = refl
   none_turns v b w h (suc t) J s z =
@@ -64,7 +64,7 @@ module _ (n : ℕ) (r : Option ℕ) (N L : ℕ) (H : List ℕ → ℕ) where
       omega arith
 
   mutual
-    pub none_one : (st : Statement) (I : Table) → StatementWeights IsWeight st → Wholes N I → Within N L (statement_flow n r st I) → weight N I ≡ 0 → amount N H (statement_draws n r st I) ≡ 0
+    pub none_one : (st : Statement) (I : Table) → StatementIsWeighed st → Wholes N I → Within N L (statement_flow n r st I) → weight N I ≡ 0 → amount N H (statement_draws n r st I) ≡ 0
     none_one skip I p w s z = refl
     none_one (assign x e) I p w s z = refl
     none_one (observe e) I p w s z = refl
@@ -98,7 +98,7 @@ module _ (n : ℕ) (r : Option ℕ) (N L : ℕ) (H : List ℕ → ℕ) where
         omega arith
     none_one (loop e a) I p w s z = none_turns (value_of e) a p (none_all a p) n I s z
 
-    pub none_all : (b : Statements) → BlockWeights IsWeight b → (I : Table) → Within N L (block_flow n r b I) → weight N I ≡ 0 → amount N H (block_draws n r b I) ≡ 0
+    pub none_all : (b : Statements) → BlockIsWeighed b → (I : Table) → Within N L (block_flow n r b I) → weight N I ≡ 0 → amount N H (block_draws n r b I) ≡ 0
     none_all done p I s z = refl
     none_all (st ▸ b) p I s z =
         let f = statement_flow n r st I in

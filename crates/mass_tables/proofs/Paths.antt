@@ -2,7 +2,7 @@
 use Rattle.std.proofs.Common.{ℕ, zero, suc, ◌<◌, Bool, true, false, cond, [], ◌∷◌, Ok, Err, Option, None, Some, arith}
 use Rattle.gcl_core.specs.declared.answers.Limit.TheVariants.{Turns, Attempts}
 use Rattle.gcl_core.specs.Syntax.{Statement, skip, assign, branch, loop, choice, uniform, observe, Statements, done, ◌▸◌}
-use Rattle.gcl_core.specs.Bounds.{IsWeight, StatementWeights, BlockWeights}
+use Rattle.gcl_core.specs.Bounds.{StatementIsWeighed, BlockIsWeighed}
 use Rattle.gcl_core.specs.Value.{State, Value, value_of, is_zero}
 use Rattle.gcl_core.specs.Blocks.{End, on, failed, fault, limit, by_value, by_truth, by_class, by_side, by_end, choice_ends}
 use Rattle.gcl_core.specs.Fractions.{plus}
@@ -41,7 +41,7 @@ module _ (n : ℕ) (r : Option ℕ) where
       by_guard (v s) _ _ (p_taken (body s) _ (h s) (λ e. go_on e (loop_weighted v body t) (turns_positive v body h t))) (p_sure (on s))
 
   mutual
-    pub statement_positive : (st : Statement) (s : State) → StatementWeights IsWeight st → Positive (statement_weighted n r st s)
+    pub statement_positive : (st : Statement) (s : State) → StatementIsWeighed st → Positive (statement_weighted n r st s)
     statement_positive skip s w = p_sure (on s)
     statement_positive (assign x e) s w = p_set n r x (value_of e s) s
     statement_positive (observe e) s w = p_seen n r (value_of e s) s
@@ -54,7 +54,7 @@ module _ (n : ℕ) (r : Option ℕ) where
         (λ class. by_classes class (weighted_ends n r a s) (weighted_ends n r c s) (ends_positive a s w.1) (ends_positive c s w.2))
     statement_positive (loop e a) s w = turns_positive (value_of e) (weighted_ends n r a) (λ s. ends_positive a s w) n s
 
-    pub ends_positive : (b : Statements) (s : State) → BlockWeights IsWeight b → Positive (weighted_ends n r b s)
+    pub ends_positive : (b : Statements) (s : State) → BlockIsWeighed b → Positive (weighted_ends n r b s)
     ends_positive done s w = p_sure (on s)
     ends_positive (st ▸ b) s w = p_taken (statement_weighted n r st s) _ (statement_positive st s w.0) (λ e. go_on e (weighted_ends n r b) (λ s. ends_positive b s w.1))
 

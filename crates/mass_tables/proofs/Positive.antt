@@ -2,7 +2,7 @@
 use Rattle.std.proofs.Common.{ℕ, zero, suc, ◌+◌, ◌-◌, ◌<◌, ℤ, pos, negsuc, Bool, true, false, cond, List, [], ◌∷◌, ◌++◌, Ok, Err, Option, None, Some, sym, subst, arith, slice_set}
 use Rattle.gcl_core.specs.declared.answers.Limit.TheVariants.{Turns, Attempts}
 use Rattle.gcl_core.specs.Syntax.{Statement, skip, assign, branch, loop, choice, uniform, observe, Statements, done, ◌▸◌}
-use Rattle.gcl_core.specs.Bounds.{IsWeight, StatementWeights, BlockWeights}
+use Rattle.gcl_core.specs.Bounds.{StatementIsWeighed, BlockIsWeighed}
 use Rattle.gcl_core.specs.Value.{State, Value, value_of, is_zero}
 use Rattle.gcl_core.specs.Draw.{last_end}
 use Rattle.gcl_core.specs.Blocks.{End, on, failed, fault, limit, by_value, by_bound, by_truth, by_class, uniform_ends}
@@ -175,7 +175,7 @@ module _ (n : ℕ) (r : Option ℕ) where
       }
 
   mutual
-    pub p_one : (st : Statement) (I : Table) → StatementWeights IsWeight st → Positive I → FlowPositive (statement_flow n r st I)
+    pub p_one : (st : Statement) (I : Table) → StatementIsWeighed st → Positive I → FlowPositive (statement_flow n r st I)
     p_one skip I w p = p_each (statement_weighted n r skip) [] I (λ s. p_sure (on s)) tt p
     p_one (assign x e) I w p = p_each (statement_weighted n r (assign x e)) [] I (λ s. p_set x (value_of e s) s) tt p
     p_one (observe e) I w p = p_each (statement_weighted n r (observe e)) [] I (λ s. p_seen (value_of e s) s) tt p
@@ -192,7 +192,7 @@ module _ (n : ℕ) (r : Option ℕ) where
         record { next = b.next; ended = b.ended; tables = b.tables; draws = a_append (draws_each (draw_weights q.den r) I) _ (each_positive (draw_weights q.den r) I (draws_positive q.den r h)) b.draws }
     p_one (loop e a) I w p = p_turns (value_of e) (block_flow n r a) (λ I p. p_all a I w p) n I p
 
-    pub p_all : (b : Statements) (I : Table) → BlockWeights IsWeight b → Positive I → FlowPositive (block_flow n r b I)
+    pub p_all : (b : Statements) (I : Table) → BlockIsWeighed b → Positive I → FlowPositive (block_flow n r b I)
     p_all done I w p = record { next = p; ended = tt; tables = (p, tt); draws = tt }
     p_all (st ▸ b) I w p =
         let f = statement_flow n r st I in

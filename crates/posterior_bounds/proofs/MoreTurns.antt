@@ -2,7 +2,7 @@
 use Rattle.std.proofs.Common.{◌≡◌, ℕ, ◌^◌, ◌≤◌, true, None, List, length}
 use Rattle.gcl_core.specs.declared.answers.Limit.{Limit}
 use Rattle.gcl_core.specs.declared.answers.Limit.TheVariants.{Turns, Attempts, Rounds}
-use Rattle.gcl_core.specs.Bounds.{IsWeight, BlockWeights, BlockFits}
+use Rattle.gcl_core.specs.Bounds.{BlockIsWeighed, BlockFits}
 use Rattle.gcl_core.specs.Blocks.{End}
 use Rattle.gcl_core.specs.Draw.{last_end}
 use Rattle.gcl_core.specs.OneDraw.{Ascends}
@@ -31,5 +31,5 @@ module _ (n n' r K : ℕ) (more : n ≤ n') (scale : Scale r K) where
       Compared (class_below (length ends)) K (BadClass OfTurns) (weighted_classes ends None) (weighted_classes ends None)
   same_draws ends up some le = let c = scale (last_end ends) some le in cmp_same_draw (BadClass OfTurns) ends K c.1 c.3
 
-  pub grows_block : (b : Statements) → BlockWeights IsWeight b → BlockFits b → (s : State) → state_fits s ≡ true → Grows (block_scale n' K b) (weighted_ends n None b s) (weighted_ends n' None b s)
+  pub grows_block : (b : Statements) → BlockIsWeighed b → BlockFits b → (s : State) → state_fits s ≡ true → Grows (block_scale n' K b) (weighted_ends n None b s) (weighted_ends n' None b s)
   grows_block = compare_block OfTurns n n' K None None more (λ lt. tt) same_draws

@@ -6,7 +6,7 @@ use Rattle.std.proofs.lemmas.Bool.{ltb-true, lt-ltb}
 use Rattle.gcl_core.specs.declared.answers.Fault.TheVariants.{BadBound}
 use Rattle.gcl_core.specs.declared.answers.Limit.{Limit}
 use Rattle.gcl_core.specs.declared.answers.Limit.TheVariants.{Turns, Attempts}
-use Rattle.gcl_core.specs.Bounds.{IsWeight, StatementWeights, BlockWeights, StatementFits, BlockFits}
+use Rattle.gcl_core.specs.Bounds.{StatementIsWeighed, BlockIsWeighed, StatementFits, BlockFits}
 use Rattle.gcl_core.specs.Syntax.{Statement, skip, assign, branch, loop, choice, uniform, observe, Statements, done, ◌▸◌}
 use Rattle.gcl_core.specs.Value.{State, Value, value_of, is_zero, fits_64}
 use Rattle.gcl_core.specs.Draw.{last_end}
@@ -131,7 +131,7 @@ module _ (bad : Limit → Type 0) where
         (draws ends (range_ascends 0 (suc m)) (omega arith) (omega arith)) (λ o q. pair_class 1 l o _ _ stays q) (λ o q b. dead_class 1 l o _ _ stays q b)
 
     mutual
-      pub compare_statement : (st : Statement) → StatementWeights IsWeight st → StatementFits st → (s : State) → state_fits s ≡ true →
+      pub compare_statement : (st : Statement) → StatementIsWeighed st → StatementFits st → (s : State) → state_fits s ≡ true →
           Pair (statement_scale n' K st) (statement_weighted n r st s) (statement_weighted n' r' st s)
       compare_statement skip ok f s p = pair_sure 1 (on s) p
       compare_statement (assign x e) ok f s p = pair_value 1 (value_of e s) _ _ (λ z q. pair_sure 1 (on (slice_set s x z)) (set_fits s x z p (value_fits e s z f p q)))
@@ -157,7 +157,7 @@ module _ (bad : Limit → Type 0) where
       compare_statement (uniform x e) ok f s p = pair_value (K * 1) (value_of e s) _ _ (λ z q. pair_uniform x z s (value_fits e s z f p q) p)
       compare_statement (loop e a) ok f s p = pair_loop (block_scale n' K a) (value_of e) (weighted_ends n r a) (weighted_ends n' r' a) (compare_block a ok f.1) n' n more lost s p
 
-      pub compare_block : (b : Statements) → BlockWeights IsWeight b → BlockFits b → (s : State) → state_fits s ≡ true → Pair (block_scale n' K b) (weighted_ends n r b s) (weighted_ends n' r' b s)
+      pub compare_block : (b : Statements) → BlockIsWeighed b → BlockFits b → (s : State) → state_fits s ≡ true → Pair (block_scale n' K b) (weighted_ends n r b s) (weighted_ends n' r' b s)
       compare_block done ok f s p = pair_sure 1 (on s) p
       compare_block (st ▸ b) ok f s p =
           pair_then (statement_scale n' K st) (block_scale n' K b) (statement_weighted n r st s) (statement_weighted n' r' st s) (weighted_ends n r b) (weighted_ends n' r' b)

@@ -2,7 +2,7 @@
 use Rattle.std.proofs.Common.{◌≡◌, ℕ, ◌^◌, ◌≤◌, ◌<◌, true, Some, None, List, length, arith}
 use Rattle.gcl_core.specs.declared.answers.Limit.{Limit}
 use Rattle.gcl_core.specs.declared.answers.Limit.TheVariants.{Turns, Attempts, Rounds}
-use Rattle.gcl_core.specs.Bounds.{IsWeight, StatementWeights, BlockWeights, StatementFits, BlockFits}
+use Rattle.gcl_core.specs.Bounds.{StatementIsWeighed, BlockIsWeighed, StatementFits, BlockFits}
 use Rattle.gcl_core.specs.Blocks.{End}
 use Rattle.gcl_core.specs.Draw.{last_end}
 use Rattle.gcl_core.specs.OneDraw.{Ascends}
@@ -31,10 +31,10 @@ module _ (n r K : ℕ) (scale : Scale r K) where
   same_turns : n < n → OfAttempts Turns
   same_turns lt = absurd (omega arith)
 
-  pub limited_statement : (st : Statement) → StatementWeights IsWeight st → StatementFits st → (s : State) → state_fits s ≡ true →
+  pub limited_statement : (st : Statement) → StatementIsWeighed st → StatementFits st → (s : State) → state_fits s ≡ true →
       Pair OfAttempts (statement_scale n K st) (statement_weighted n (Some r) st s) (statement_weighted n None st s)
   limited_statement = compare_statement OfAttempts n n K (Some r) None (omega arith) same_turns limited_draws
 
-  pub limited_block : (b : Statements) → BlockWeights IsWeight b → BlockFits b → (s : State) → state_fits s ≡ true →
+  pub limited_block : (b : Statements) → BlockIsWeighed b → BlockFits b → (s : State) → state_fits s ≡ true →
       Pair OfAttempts (block_scale n K b) (weighted_ends n (Some r) b s) (weighted_ends n None b s)
   limited_block = compare_block OfAttempts n n K (Some r) None (omega arith) same_turns limited_draws

@@ -5,7 +5,7 @@ use Rattle.std.proofs.lemmas.Bool.{ltb-true}
 use Rattle.std.proofs.Math.Nat.{mul-le-mul_left}
 use Rattle.gcl_core.specs.declared.answers.Fault.TheVariants.{BadBound}
 use Rattle.gcl_core.specs.declared.answers.Limit.TheVariants.{Turns, Attempts}
-use Rattle.gcl_core.specs.Bounds.{IsWeight, StatementWeights, BlockWeights, StatementFits, BlockFits}
+use Rattle.gcl_core.specs.Bounds.{StatementIsWeighed, BlockIsWeighed, StatementFits, BlockFits}
 use Rattle.gcl_core.specs.Syntax.{Statement, skip, assign, branch, loop, choice, uniform, observe, Statements, done, ◌▸◌}
 use Rattle.gcl_core.specs.Value.{State, Value, value_of, is_zero, fits_64}
 use Rattle.gcl_core.specs.Draw.{last_from, last_end}
@@ -102,7 +102,7 @@ module _ (n r K : ℕ) (scale : Scale r K) where
       (whole_draw (uniform_ends (suc m)) K c.1 (range_ascends 0 (suc m)) c.3) (λ o q. whole_class 1 o stored (λ i. whole_sure 1 (on (slice_set s x (pos i)))))
 
   mutual
-    whole_statement : (st : Statement) → StatementWeights IsWeight st → StatementFits st → (s : State) → state_fits s ≡ true → Whole (statement_scale n K st) (statement_weighted n None st s)
+    whole_statement : (st : Statement) → StatementIsWeighed st → StatementFits st → (s : State) → state_fits s ≡ true → Whole (statement_scale n K st) (statement_weighted n None st s)
     whole_statement skip ok f s p = whole_sure 1 (on s)
     whole_statement (assign x e) ok f s p = whole_value 1 (value_of e s) _ (λ z q. whole_sure 1 (on (slice_set s x z)))
     whole_statement (observe e) ok f s p = whole_value 1 (value_of e s) _ (λ z q. whole_truth 1 z _ _ (whole_sure 1 (on s)) (whole_sure 1 failed))
@@ -126,7 +126,7 @@ module _ (n r K : ℕ) (scale : Scale r K) where
     whole_statement (loop e a) ok f s p =
         whole_loop (block_scale n K a) (value_of e) (weighted_ends n None a) (λ s' p'. (limited_block n r K scale a ok f.1 s' p').high_entries) (whole_block a ok f.1) n s p
 
-    pub whole_block : (b : Statements) → BlockWeights IsWeight b → BlockFits b → (s : State) → state_fits s ≡ true → Whole (block_scale n K b) (weighted_ends n None b s)
+    pub whole_block : (b : Statements) → BlockIsWeighed b → BlockFits b → (s : State) → state_fits s ≡ true → Whole (block_scale n K b) (weighted_ends n None b s)
     whole_block done ok f s p = whole_sure 1 (on s)
     whole_block (st ▸ b) ok f s p =
         whole_then end_fits (statement_scale n K st) (block_scale n K b) (statement_weighted n None st s) _ (limited_statement n r K scale st ok.0 f.0 s p).high_entries

@@ -1,6 +1,6 @@
 use Rattle.std.proofs.Common.{◌≡◌, [], ◌∷◌, length, ap, ◌∙◌, sym, subst, arith}
 use Rattle.std.proofs.lemmas.Nat.Gcd.{le_of_dvd}
-use Rattle.choice_tree.specs.Parts.{AreParts}
+use Rattle.gcl_core.specs.Parts.{AreParts}
 use Rattle.choice_tree.specs.WellFormed.{IsWellFormed}
 use Rattle.choice_tree.proofs.ViewLemmas.{choose_view}
 use Rattle.bit_tree.proofs.among_tests.choice.Goals as goal

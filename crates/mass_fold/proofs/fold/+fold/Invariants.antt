@@ -1,5 +1,5 @@
 use Rattle.std.proofs.Common.{◌≡◌, ◌-◌, ℕ, drop}
-use Rattle.gcl_core.specs.Bounds.{IsWeight, BlockWeights, BlockBelow}
+use Rattle.gcl_core.specs.Bounds.{BlockIsWeighed, BlockBelow}
 use Rattle.gcl_core.specs.Views.{list_of, expression_of, statements_of}
 use Rattle.gcl_core.specs.Value.{value_of}
 use Rattle.mass_tables.specs.Tables.{block_flow, loop_flow}
@@ -13,7 +13,7 @@ use Rattle.mass_fold.proofs.fold.+fold.Given as goal
 abbrev pub invariant-fold_block-loop-s : goal.invariant-fold_block-loop-s
 invariant-fold_block-loop-s l = record {
   below : (m : ℕ) → BlockBelow m (list_of l.s-items) → BlockBelow m (list_of (drop l.s-index l.s-items));
-  weights : BlockWeights IsWeight (list_of l.s-items) → BlockWeights IsWeight (list_of (drop l.s-index l.s-items));
+  weights : BlockIsWeighed (list_of l.s-items) → BlockIsWeighed (list_of (drop l.s-index l.s-items));
   vars : l.now.vars ≡ l.fn.table.vars;
   so_far : FoldsOn l.turns l.attempts (block_flow l.turns l.attempts (list_of l.s-items)) (list_of (drop l.s-index l.s-items)) l.fn.table.states.entries l.fn.ended l.now.states.entries l.ended;
   bits : MetersOn l.turns l.attempts (block_flow l.turns l.attempts (list_of l.s-items)) (block_draws l.turns l.attempts (list_of l.s-items)) (list_of (drop l.s-index l.s-items)) l.fn.table.states.entries l.fn.ended l.fn.meter l.now.states.entries l.ended l.meter;

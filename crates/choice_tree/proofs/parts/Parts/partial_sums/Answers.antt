@@ -1,7 +1,7 @@
 use Rattle.std.proofs.Common.{◌≡◌, ◌∙◌, ℕ, List, get_or, ap, arith}
 use Rattle.std.proofs.lemmas.List.{get_or_default}
 use Rattle.std.specs.List.{sum}
-use Rattle.choice_tree.proofs.PartialSums.{end_within}
+use Rattle.gcl_core.proofs.PartialSums.{end_within}
 use Rattle.choice_tree.proofs.parts.Parts.partial_sums.Goals as goal
 
 pub overflow_add-end : goal.overflow_add-end

@@ -1,4 +1,4 @@
-use Rattle.choice_tree.proofs.PartialSums.{Summed}
+use Rattle.gcl_core.proofs.PartialSums.{Summed}
 use Rattle.choice_tree.proofs.parts.Parts.partial_sums.Given as goal
 
 abbrev pub invariant-loop-part : goal.invariant-loop-part

@@ -2,8 +2,9 @@
 use Rattle.std.proofs.Common.{◌≡◌, ◌∙◌, ℕ, ◌+◌, ◌<◌, ◌≤◌, List, [], ◌∷◌, ◌++◌, length, get_or, drop, refl, sym, ap, arith}
 use Rattle.std.proofs.lemmas.List.{at_drop_more}
 use Rattle.std.specs.List.{fold, sum}
+use Rattle.gcl_core.specs.OneDraw.{Ascends}
 use Rattle.gcl_core.specs.Draw.{last_from, last_end}
-use Rattle.choice_tree.specs.Parts.{sums_from, partial_sums}
+use Rattle.gcl_core.specs.Parts.{sums_from, partial_sums}
 
 -- ---- how many and the last
 
@@ -24,6 +25,10 @@ last_is_from c (p ∷ ps) = last_is_from (c + p) ps
 
 pub last_is : (ps : List ℕ) → last_end (partial_sums ps) ≡ sum ps
 last_is ps = last_is_from 0 ps
+
+pub sums_ascend : (c : ℕ) (ps : List ℕ) → Ascends c (sums_from c ps)
+sums_ascend c [] = tt
+sums_ascend c (p ∷ ps) = (omega arith, sums_ascend (c + p) ps)
 
 -- ---- while the parts are read
 
