@@ -6,18 +6,21 @@ use Rattle.std.proofs.lemmas.Bool.{ltb-true, lt-ltb}
 use Rattle.gcl_core.specs.declared.answers.Fault.TheVariants.{BadBound}
 use Rattle.gcl_core.specs.declared.answers.Limit.{Limit}
 use Rattle.gcl_core.specs.declared.answers.Limit.TheVariants.{Turns, Attempts}
-use Rattle.gcl_core.specs.Bounds.{StatementIsWeighed, BlockIsWeighed, StatementFits, BlockFits}
-use Rattle.gcl_core.specs.Syntax.{Statement, skip, assign, branch, loop, choice, uniform, observe, Statements, done, ◌▸◌}
+use Rattle.gcl_core.specs.Bounds.{StatementIsWeighed, BlockIsWeighed, ArmsAreWeighed, StatementFits, BlockFits, ArmsFit}
+use Rattle.gcl_core.specs.Arms.{parts_of}
+use Rattle.gcl_core.specs.Parts.{partial_sums}
+use Rattle.gcl_core.specs.Syntax.{Statement, skip, assign, branch, loop, choice, choice_among, uniform, observe, Statements, done, ◌▸◌, ArmList, no_arm, arm}
 use Rattle.gcl_core.specs.Value.{State, Value, value_of, is_zero, fits_64}
 use Rattle.gcl_core.specs.Draw.{last_end}
 use Rattle.gcl_core.specs.OneDraw.{Ascends}
 use Rattle.gcl_core.specs.Blocks.{End, on, failed, fault, limit, by_value, by_truth, by_class, by_side, by_end, choice_ends, uniform_ends}
-use Rattle.gcl_core.specs.WeightedEnds.{Weighted, sure, taken_on, weighted_classes, uniform_weighted, loop_weighted, statement_weighted, weighted_ends}
+use Rattle.gcl_core.specs.WeightedEnds.{Weighted, sure, taken_on, weighted_classes, uniform_weighted, loop_weighted, statement_weighted, weighted_ends, arm_weighted}
 use Rattle.gcl_core.specs.Fitting.{state_fits}
 use Rattle.gcl_core.proofs.FittingValues.{end_fits, value_fits, set_fits}
+use Rattle.gcl_core.proofs.PartialSums.{last_is, sums_ascend}
 use Rattle.weighing_law.proofs.Comparing.{Compared, cmp_sure, cmp_more, cmp_then}
 use Rattle.weighing_law.proofs.DrawMatching.{class_below}
-use Rattle.weighing_law.proofs.Scales.{loop_scale, statement_scale, block_scale}
+use Rattle.weighing_law.proofs.Scales.{loop_scale, statement_scale, block_scale, arms_scale}
 use Rattle.weighing_law.proofs.Uniform.{range_ascends, uniform_last, uniform_length}
 
 module _ (bad : Limit → Type 0) where
@@ -154,6 +157,18 @@ module _ (bad : Limit → Type 0) where
           cmp_then (class_below 2) end_fits K (A * C) BadClass BadEnd (weighted_classes (choice_ends w) r) (weighted_classes (choice_ends w) r') _ _
           (draws (choice_ends w) (omega arith, (ok.0.at_most_one, tt)) positive (omega arith))
           (λ o q. pair_class (A * C) 2 o _ _ side q) (λ o q b. dead_class (A * C) 2 o _ _ side q b)
+      compare_statement (choice_among arms) ok f s p =
+          let ps = parts_of arms in
+          let ends = partial_sums ps in
+          let l = length ends in
+          let A = arms_scale n' K arms in
+          let last = last_is ps in
+          let positive = ok.0.positive in
+          let coarse = ok.0.coarse in
+          let one = λ (i : ℕ) (lt : i < l). compare_arm arms ok.1 f i s p in
+          cmp_then (class_below l) end_fits K A BadClass BadEnd (weighted_classes ends r) (weighted_classes ends r') _ _
+          (draws ends (sums_ascend 0 ps) (omega (arith, last, positive)) (omega (arith, last, coarse)))
+          (λ o q. pair_class A l o _ _ one q) (λ o q b. dead_class A l o _ _ one q b)
       compare_statement (uniform x e) ok f s p = pair_value (K * 1) (value_of e s) _ _ (λ z q. pair_uniform x z s (value_fits e s z f p q) p)
       compare_statement (loop e a) ok f s p = pair_loop (block_scale n' K a) (value_of e) (weighted_ends n r a) (weighted_ends n' r' a) (compare_block a ok f.1) n' n more lost s p
 
@@ -162,3 +177,11 @@ module _ (bad : Limit → Type 0) where
       compare_block (st ▸ b) ok f s p =
           pair_then (statement_scale n' K st) (block_scale n' K b) (statement_weighted n r st s) (statement_weighted n' r' st s) (weighted_ends n r b) (weighted_ends n' r' b)
           (compare_statement st ok.0 f.0 s p) (compare_block b ok.1 f.1)
+
+      compare_arm : (arms : ArmList) → ArmsAreWeighed arms → ArmsFit arms → (i : ℕ) (s : State) → state_fits s ≡ true → Pair (arms_scale n' K arms) (arm_weighted n r arms i s) (arm_weighted n' r' arms i s)
+      compare_arm no_arm ok f i s p = pair_sure 1 (on s) p
+      compare_arm (arm q b arms) ok f zero s p = cmp_more end_fits (block_scale n' K b) (arms_scale n' K arms) BadEnd _ _ (compare_block b ok.0 f.0 s p)
+      compare_arm (arm q b arms) ok f (suc i) s p =
+          let B = block_scale n' K b in
+          let A = arms_scale n' K arms in
+          pair_at (A * B) (B * A) _ _ (omega arith) (cmp_more end_fits A B BadEnd _ _ (compare_arm arms ok.1 f.1 i s p))

@@ -4,11 +4,13 @@ use Rattle.std.specs.Prelude.{if◌then◌else◌, slice_set}
 use Rattle.gcl_core.specs.declared.answers.Fault.TheVariants.{BadBound}
 use Rattle.gcl_core.specs.declared.answers.Limit.TheVariants.{Turns, Attempts, Rounds}
 use Rattle.gcl_core.specs.declared.answers.Outcome.TheVariants as outcome
-use Rattle.gcl_core.specs.Syntax.{Statement, skip, assign, branch, loop, choice, uniform, observe, Statements, done, ◌▸◌, Source}
+use Rattle.gcl_core.specs.Arms.{parts_of}
+use Rattle.gcl_core.specs.Parts.{partial_sums}
+use Rattle.gcl_core.specs.Syntax.{Statement, skip, assign, branch, loop, choice, choice_among, uniform, observe, Statements, done, ◌▸◌, ArmList, no_arm, arm, Source}
 use Rattle.gcl_core.specs.Value.{State, Value, value_of, is_zero}
 use Rattle.gcl_core.specs.Reading.{Reading, gives, after}
 use Rattle.gcl_core.specs.Draw.{draw_on}
-use Rattle.gcl_core.specs.Blocks.{End, on, failed, fault, limit, by_value, by_truth, by_class, by_side, by_end, choice_ends, uniform_ends, uniform_on, loop_on, statement_on, block_on}
+use Rattle.gcl_core.specs.Blocks.{End, on, failed, fault, limit, by_value, by_truth, by_class, by_side, by_end, choice_ends, uniform_ends, uniform_on, loop_on, statement_on, block_on, arm_on}
 use Rattle.gcl_core.specs.Runs.{zeros, outcome_of, by_round, rounds_on}
 use Rattle.gcl_core.proofs.DrawTrees.{draw_tree, draw_runs}
 use Rattle.gcl_core.proofs.Trees.{Tree, leaf, run, grow, run-grow, after-ext}
@@ -84,12 +86,18 @@ module _ (n r : ℕ) where
     statement_tree (choice p a c) s =
         class_tree (choice_ends p) r (λ i rest. by_side i (block_on n r a s rest) (block_on n r c s rest))
         (λ i. side_tree i _ _ (block_tree a s) (block_tree c s))
+    statement_tree (choice_among arms) s = class_tree (partial_sums (parts_of arms)) r (λ i rest. arm_on n r arms i s rest) (λ i. arm_tree arms i s)
     statement_tree (uniform x e) s = value_tree (value_of e s) _ (λ z. uniform_tree r x z s)
     statement_tree (loop e a) s = loop_tree (value_of e) (block_on n r a) (block_tree a) n s
 
     block_tree : (b : Statements) (s : State) → HasTree (block_on n r b s)
     block_tree done s = answer_tree (on s)
     block_tree (st ▸ b) s = end_tree (statement_on n r st s) (block_on n r b) (statement_tree st s) (block_tree b)
+
+    arm_tree : (arms : ArmList) (i : ℕ) (s : State) → HasTree (arm_on n r arms i s)
+    arm_tree no_arm i s = answer_tree (on s)
+    arm_tree (arm p b arms) zero s = block_tree b s
+    arm_tree (arm p b arms) (suc i) s = arm_tree arms i s
 
 -- ---- all rounds
 pub tree_of_rounds : (p : Source) (n r R : ℕ) → HasTree (rounds_on p n r R)

@@ -5,21 +5,24 @@ use Rattle.std.proofs.lemmas.Bool.{ltb-true}
 use Rattle.std.proofs.Math.Nat.{mul-le-mul_left}
 use Rattle.gcl_core.specs.declared.answers.Fault.TheVariants.{BadBound}
 use Rattle.gcl_core.specs.declared.answers.Limit.TheVariants.{Turns, Attempts}
-use Rattle.gcl_core.specs.Bounds.{StatementIsWeighed, BlockIsWeighed, StatementFits, BlockFits}
-use Rattle.gcl_core.specs.Syntax.{Statement, skip, assign, branch, loop, choice, uniform, observe, Statements, done, ◌▸◌}
+use Rattle.gcl_core.specs.Bounds.{StatementIsWeighed, BlockIsWeighed, ArmsAreWeighed, StatementFits, BlockFits, ArmsFit}
+use Rattle.gcl_core.specs.Arms.{parts_of}
+use Rattle.gcl_core.specs.Parts.{partial_sums}
+use Rattle.gcl_core.specs.Syntax.{Statement, skip, assign, branch, loop, choice, choice_among, uniform, observe, Statements, done, ◌▸◌, ArmList, no_arm, arm}
 use Rattle.gcl_core.specs.Value.{State, Value, value_of, is_zero, fits_64}
 use Rattle.gcl_core.specs.Draw.{last_from, last_end}
 use Rattle.gcl_core.specs.Blocks.{End, on, failed, fault, limit, by_value, by_truth, by_class, by_side, by_end, choice_ends, uniform_ends}
 use Rattle.gcl_core.specs.OneDraw.{Ascends}
-use Rattle.gcl_core.specs.WeightedEnds.{Weighted, sure, taken_on, weighted_classes, uniform_weighted, loop_weighted, statement_weighted, weighted_ends}
+use Rattle.gcl_core.specs.WeightedEnds.{Weighted, sure, taken_on, weighted_classes, uniform_weighted, loop_weighted, statement_weighted, weighted_ends, arm_weighted}
 use Rattle.gcl_core.specs.Fitting.{state_fits}
 use Rattle.gcl_core.proofs.DrawTrees.{class_sum}
 use Rattle.gcl_core.proofs.TreeWeights.{chi}
 use Rattle.gcl_core.proofs.FittingValues.{end_fits, value_fits}
+use Rattle.gcl_core.proofs.PartialSums.{last_is, sums_ascend}
 use Rattle.weighing_law.proofs.Comparing.{counts_unlimited}
 use Rattle.weighing_law.proofs.DrawMatching.{class_below, draw_entries}
 use Rattle.weighing_law.proofs.LimitedBlocks.{limited_statement, limited_block}
-use Rattle.weighing_law.proofs.Scales.{Scale, loop_scale, statement_scale, block_scale}
+use Rattle.weighing_law.proofs.Scales.{Scale, loop_scale, statement_scale, block_scale, arms_scale}
 use Rattle.weighing_law.proofs.Uniform.{range_ascends, uniform_last}
 use Rattle.weighing_law.proofs.WeightedLists.{EachEntry, Counts, counts-more, counts_taken_on}
 
@@ -122,6 +125,16 @@ module _ (n r K : ℕ) (scale : Scale r K) where
         whole_then (class_below 2) K (A * C) (weighted_classes (choice_ends w) None) _ (draw_entries (choice_ends w) None)
         (whole_draw (choice_ends w) K d.1 (omega arith, (ok.0.at_most_one, tt)) d.3)
         (λ o q. whole_class (A * C) o _ (λ i. whole_side (A * C) i _ _ (whole_more A C _ (whole_block a ok.1 f.0 s p)) (subst (λ x. Whole x (weighted_ends n None c s)) turned (whole_more C A _ (whole_block c ok.2 f.1 s p)))))
+    whole_statement (choice_among arms) ok f s p =
+        let ps = parts_of arms in
+        let ends = partial_sums ps in
+        let A = arms_scale n K arms in
+        let last = last_is ps in
+        let positive = ok.0.positive in
+        let coarse = ok.0.coarse in
+        let d = scale (last_end ends) (omega (arith, last, positive)) (omega (arith, last, coarse)) in
+        whole_then (class_below (length ends)) K A (weighted_classes ends None) _ (draw_entries ends None) (whole_draw ends K d.1 (sums_ascend 0 ps) d.3)
+        (λ o q. whole_class A o _ (λ i. whole_arm arms ok.1 f i s p))
     whole_statement (uniform x e) ok f s p = whole_value (K * 1) (value_of e s) _ (λ z q. whole_uniform x z s (value_fits e s z f p q))
     whole_statement (loop e a) ok f s p =
         whole_loop (block_scale n K a) (value_of e) (weighted_ends n None a) (λ s' p'. (limited_block n r K scale a ok f.1 s' p').high_entries) (whole_block a ok f.1) n s p
@@ -131,6 +144,15 @@ module _ (n r K : ℕ) (scale : Scale r K) where
     whole_block (st ▸ b) ok f s p =
         whole_then end_fits (statement_scale n K st) (block_scale n K b) (statement_weighted n None st s) _ (limited_statement n r K scale st ok.0 f.0 s p).high_entries
         (whole_statement st ok.0 f.0 s p) (λ e q. whole_end (block_scale n K b) e _ (whole_block b ok.1 f.1) q)
+
+    whole_arm : (arms : ArmList) → ArmsAreWeighed arms → ArmsFit arms → (i : ℕ) (s : State) → state_fits s ≡ true → Whole (arms_scale n K arms) (arm_weighted n None arms i s)
+    whole_arm no_arm ok f i s p = whole_sure 1 (on s)
+    whole_arm (arm q b arms) ok f zero s p = whole_more (block_scale n K b) (arms_scale n K arms) _ (whole_block b ok.0 f.0 s p)
+    whole_arm (arm q b arms) ok f (suc i) s p =
+        let B = block_scale n K b in
+        let A = arms_scale n K arms in
+        let turned : A * B ≡ B * A = omega arith in
+        subst (λ x. Whole x (arm_weighted n None arms i s)) turned (whole_more A B _ (whole_arm arms ok.1 f.1 i s p))
 
 -- ---- three tests of which no two hold at once
 pub three_parts : {A : Type 0} (N : ℕ) (t1 t2 t3 : A → Bool) (m : Weighted A) (v : ℕ) → ((a : A) → chi t1 a + chi t2 a + chi t3 a ≤ 1) → Counts N (λ a. 1) m v →

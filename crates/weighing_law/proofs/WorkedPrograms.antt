@@ -1,4 +1,4 @@
--- The law at four programs, worked: what the strings weigh, and the masses.
+-- The law at five programs, worked: what the strings weigh, and the masses.
 use Rattle.std.proofs.Common.{◌≡◌, ℕ, ◌*◌, ◌^◌, pos, true, false, [], ◌∷◌, refl}
 use Rattle.gcl_core.specs.declared.answers.Limit.TheVariants.{Turns, Attempts, Rounds}
 use Rattle.gcl_core.specs.declared.answers.Limits.{Limits}
@@ -10,7 +10,7 @@ use Rattle.gcl_core.specs.Fractions.{IsShare}
 use Rattle.gcl_core.specs.Longest.{longest}
 use Rattle.gcl_core.specs.Runs.{run_on}
 use Rattle.gcl_core.specs.StringWeight.{outcome_weight}
-use Rattle.gcl_core.specs.Syntax.{number, variable, binary, assign, loop, choice, uniform, observe, done, ◌▸◌, Source}
+use Rattle.gcl_core.specs.Syntax.{number, variable, binary, assign, loop, choice, choice_among, uniform, observe, done, ◌▸◌, no_arm, arm, Source}
 use Rattle.weighing_law.specs.Weighing.{limited_mass}
 use Rattle.weighing_law.specs.LimitsCost.{stated_mass, cut_off}
 use Rattle.weighing_law.specs.Prefixes.{is_just_read}
@@ -70,6 +70,42 @@ two_thirds_stated = refl
 
 two_thirds_cut : let m = cut_off two_thirds (limits 0 2 1) in m.0 * 16 ≡ m.1
 two_thirds_cut = refl
+
+-- ---- choose { 2: { x := 1; } | 0: { x := 2; } | 3: { x := 3; } } return x;
+abbrev pub two_none_three : Source
+two_none_three = record {
+  names = [] ∷ [];
+  body = choice_among (arm 2 (assign 0 (number (pos 1)) ▸ done) (arm 0 (assign 0 (number (pos 2)) ▸ done) (arm 3 (assign 0 (number (pos 3)) ▸ done) no_arm))) ▸ done;
+  result = variable 0;
+}
+
+-- of the eight numbers 0 and 1 go to the first arm, 2 to 4 to the third, and 5 to 7 are called again
+two_none_three_1 : Weighs two_none_three (limits 0 1 1) 3 (outcome.Value (pos 1)) 2
+two_none_three_1 = (refl, refl)
+
+two_none_three_2 : Weighs two_none_three (limits 0 1 1) 3 (outcome.Value (pos 2)) 0
+two_none_three_2 = (refl, refl)
+
+two_none_three_3 : Weighs two_none_three (limits 0 1 1) 3 (outcome.Value (pos 3)) 3
+two_none_three_3 = (refl, refl)
+
+two_none_three_limit : Weighs two_none_three (limits 0 1 1) 3 (outcome.Limit Attempts) 3
+two_none_three_limit = (refl, refl)
+
+arms_twice_1 : Weighs two_none_three (limits 0 2 1) 6 (outcome.Value (pos 1)) 22
+arms_twice_1 = (refl, refl)
+
+arms_twice_3 : Weighs two_none_three (limits 0 2 1) 6 (outcome.Value (pos 3)) 33
+arms_twice_3 = (refl, refl)
+
+arms_twice_limit : Weighs two_none_three (limits 0 2 1) 6 (outcome.Limit Attempts) 9
+arms_twice_limit = (refl, refl)
+
+arms_twice_longest : longest 0 2 two_none_three.body ≡ 6
+arms_twice_longest = refl
+
+three_fifths_stated : let m = stated_mass two_none_three (limits 0 2 1) (outcome.Value (pos 3)) in m.0 * 5 ≡ 3 * m.1
+three_fifths_stated = refl
 
 -- ---- x ~ uniform(2); y ~ uniform(2); observe x = 1 or y = 1; return x + y;
 abbrev pub one_of_two_coins : Source
