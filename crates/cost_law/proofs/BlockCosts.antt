@@ -1,29 +1,33 @@
 -- What a block costs on bits is what its statements say.
-use Rattle.std.proofs.Common.{◌≡◌, ℕ, zero, suc, ◌+◌, ◌*◌, ◌^◌, ◌≤◌, ◌<◌, max, ℤ, pos, negsuc, Bool, true, false, cond, Option, Some, None, Ok, Err, List, refl, arith}
+use Rattle.std.proofs.Common.{◌≡◌, ℕ, zero, suc, ◌+◌, ◌*◌, ◌^◌, ◌≤◌, ◌<◌, max, ℤ, pos, negsuc, Bool, true, false, cond, Option, Some, None, Ok, Err, List, length, refl, ap, arith}
 use Rattle.std.specs.Prelude.{slice_set}
+use Rattle.std.specs.List.{sum}
 use Rattle.std.proofs.lemmas.Bool.{ltb-true}
 use Rattle.std.proofs.Math.Nat.{mul-le-mul_right}
 use Rattle.gcl_core.specs.declared.answers.Fault.TheVariants.{BadBound}
 use Rattle.gcl_core.specs.declared.answers.Limit.TheVariants.{Turns, Attempts}
-use Rattle.gcl_core.specs.Bounds.{StatementIsWeighed, BlockIsWeighed, StatementFits, BlockFits}
-use Rattle.gcl_core.specs.Syntax.{Statement, skip, assign, branch, loop, choice, uniform, observe, Statements, done, ◌▸◌}
+use Rattle.gcl_core.specs.Bounds.{StatementIsWeighed, BlockIsWeighed, ArmsAreWeighed, StatementFits, BlockFits, ArmsFit}
+use Rattle.gcl_core.specs.Arms.{parts_of}
+use Rattle.gcl_core.specs.Parts.{partial_sums}
+use Rattle.gcl_core.specs.Syntax.{Statement, skip, assign, branch, loop, choice, choice_among, uniform, observe, Statements, done, ◌▸◌, ArmList, no_arm, arm}
 use Rattle.gcl_core.specs.Value.{State, Value, value_of, is_zero, fits_64}
 use Rattle.gcl_core.specs.Reading.{Reading, gives, after}
 use Rattle.gcl_core.specs.Draw.{bits_for, last_end, draw_on}
-use Rattle.gcl_core.specs.Blocks.{End, on, failed, fault, limit, by_value, by_truth, by_bound, by_class, by_side, by_end, choice_ends, uniform_ends, uniform_on, loop_on, statement_on, block_on}
+use Rattle.gcl_core.specs.Blocks.{End, on, failed, fault, limit, by_value, by_truth, by_bound, by_class, by_side, by_end, choice_ends, uniform_ends, uniform_on, loop_on, statement_on, block_on, arm_on}
 use Rattle.gcl_core.specs.Fractions.{Fraction, nothing}
-use Rattle.gcl_core.specs.Longest.{longest_statement, longest}
+use Rattle.gcl_core.specs.Longest.{longest_statement, longest, longest_arm}
 use Rattle.gcl_core.specs.OneDraw.{Ascends}
 use Rattle.gcl_core.specs.WeightedEnds.{Weighted, weighted_classes, statement_weighted, weighted_ends}
 use Rattle.gcl_core.proofs.Classes.{bits_le}
 use Rattle.gcl_core.proofs.DrawTrees.{draw_tree, draw_runs, draw_within}
+use Rattle.gcl_core.proofs.PartialSums.{last_is, sums_ascend}
 use Rattle.weighing_law.proofs.BlockMatching.{statement_matches, block_matches}
 use Rattle.weighing_law.proofs.DrawMatching.{class_below, draw_matches}
 use Rattle.gcl_core.specs.Fitting.{state_fits}
 use Rattle.gcl_core.proofs.FittingValues.{end_fits, value_fits}
 use Rattle.weighing_law.proofs.Matching.{Matches}
 use Rattle.weighing_law.proofs.Uniform.{range_ascends, uniform_last}
-use Rattle.cost_law.specs.ExpectedBits.{draw_bits, loop_bits, statement_bits, block_bits}
+use Rattle.cost_law.specs.ExpectedBits.{draw_bits, loop_bits, statement_bits, block_bits, arm_bits}
 use Rattle.cost_law.proofs.CostedReaders.{Costs, costs_none, costs_at, costs_up, costs_same, costs_then}
 use Rattle.cost_law.proofs.DrawBits.{draw_share, draw_bits_pos}
 
@@ -130,6 +134,14 @@ module _ (n r : ℕ) where
         (λ o q. class_costs d o _ _ (λ i. side_costs d i _ _ _ _
         (costs_up (longest n r a) d _ _ (omega arith) (block_costs a ok.1 f.0 s p))
         (costs_up (longest n r c) d _ _ (omega arith) (block_costs c ok.2 f.1 s p))))
+    statement_costs (choice_among arms) ok f s p =
+        let ps = parts_of arms in
+        let ends = partial_sums ps in
+        let d = longest_arm n r arms in
+        let up = sums_ascend 0 ps in
+        costs_at (bits_for (last_end ends) * r + d) (bits_for (sum ps) * r + d) _ _ (ap (λ b. bits_for b * r + d) (last_is ps))
+        (costs_then (class_below (length ends)) failed (bits_for (last_end ends) * r) d (draw_on ends r) (draw_bits ends r) (weighted_classes ends (Some r)) _ _
+        (draw_costs ends r up) (draw_matches ends r up) (λ o q. class_costs d o _ _ (λ i. arm_costs arms ok.1 f i s p)))
     statement_costs (uniform x e) ok f s p =
         value_costs (63 * r) (value_of e s) _ _ (λ z q. uniform_costs r x z s (value_fits e s z f p q))
     statement_costs (loop e a) ok f s p =
@@ -140,3 +152,8 @@ module _ (n r : ℕ) where
     block_costs (st ▸ b) ok f s p =
         costs_then end_fits failed (longest_statement n r st) (longest n r b) (statement_on n r st s) (statement_bits n r st s) (statement_weighted n (Some r) st s) _ _
         (statement_costs st ok.0 f.0 s p) (statement_matches n r st ok.0 f.0 s p) (λ e q. end_costs (longest n r b) e _ _ q (block_costs b ok.1 f.1))
+
+    arm_costs : (arms : ArmList) → ArmsAreWeighed arms → ArmsFit arms → (i : ℕ) (s : State) → state_fits s ≡ true → Costs (longest_arm n r arms) (arm_on n r arms i s) (arm_bits n r arms i s)
+    arm_costs no_arm ok f i s p = costs_none 0 (on s)
+    arm_costs (arm q b arms) ok f zero s p = costs_up (longest n r b) (max (longest n r b) (longest_arm n r arms)) _ _ (omega arith) (block_costs b ok.0 f.0 s p)
+    arm_costs (arm q b arms) ok f (suc i) s p = costs_up (longest_arm n r arms) (max (longest n r b) (longest_arm n r arms)) _ _ (omega arith) (arm_costs arms ok.1 f.1 i s p)
