@@ -1,9 +1,10 @@
-// The bits of one attempt of a choice.
+// The bits of one attempt of a choice, between two arms or among several.
 
 ghost use Rattle.std.specs.Prelude.{◌≡◌, ◌≤◌, ◌+◌, ◌*◌, ◌^◌, length};
+ghost use Rattle.gcl_core.specs.declared.rules.TheConstants.{GREATEST_DENOMINATOR};
 ghost use Rattle.gcl_core.specs.Blocks.{choice_ends};
 ghost use Rattle.gcl_core.specs.Bounds.{IsWeight};
-ghost use Rattle.gcl_core.specs.Draw.{bits_for};
+ghost use Rattle.gcl_core.specs.Draw.{last_end, bits_for};
 ghost use Rattle.cost_law.specs.ExpectedBits.{attempt_bits};
 ghost use Rattle.draw_cost.specs.Undecided.{undecided_at};
 
@@ -39,5 +40,16 @@ pub fn choice_bits(p: Weight) -> u128
     ensures most { result ≤ bits_for p.den * 2 ^ bits_for p.den }
 {
     let ends = [p.num, p.den];
-    undecided(bits_for(p.den), &ends, 0)
+    arms_bits(&ends)
+}
+
+/// The bits that one attempt of a draw with these ends reads on average, times 2^k for numbers of k bits: the first number of
+/// `attempt_bits`, whose second number is 2^k. It is at most k * 2^k. A choice among several arms draws with the partial sums of its
+/// parts as ends. It takes no memory.
+pub fn arms_bits(ends: &[u64]) -> u128
+    requires { last_end ends.now ≤ GREATEST_DENOMINATOR }
+    ensures value { result ≡ (attempt_bits ends.now).0 }
+    ensures most { result ≤ bits_for (last_end ends.now) * 2 ^ bits_for (last_end ends.now) }
+{
+    undecided(bits_for(draws::last_end(ends)), ends, 0)
 }

@@ -6,5 +6,5 @@ mod choices;
 mod tests;
 mod uniforms;
 
-pub use choices::choice_bits;
+pub use choices::{arms_bits, choice_bits};
 pub use uniforms::uniform_bits;
