@@ -1,13 +1,17 @@
 -- What goes on and what ended weigh what came in.
-use Rattle.std.proofs.Common.{◌≡◌, ℕ, zero, suc, ◌+◌, ◌*◌, ◌-◌, ◌≤◌, ◌<◌, ℤ, pos, negsuc, Bool, true, false, not, cond, [], ◌∷◌, ◌++◌, Ok, Err, Option, refl, ap, ◌∙◌, subst, arith, slice_set}
+use Rattle.std.proofs.Common.{◌≡◌, ℕ, zero, suc, ◌+◌, ◌*◌, ◌-◌, ◌≤◌, ◌<◌, ℤ, pos, negsuc, Bool, true, false, not, cond, List, [], ◌∷◌, ◌++◌, Ok, Err, Option, refl, ap, ◌∙◌, subst, arith, slice_set}
+use Rattle.std.specs.List.{sum}
+use Rattle.std.proofs.lemmas.List.Sums.{sum_by-cons}
 use Rattle.gcl_core.specs.declared.answers.Limit.TheVariants.{Turns, Attempts}
-use Rattle.gcl_core.specs.Syntax.{Statement, skip, assign, branch, loop, choice, uniform, observe, Statements, done, ◌▸◌}
-use Rattle.gcl_core.specs.Bounds.{StatementIsWeighed, BlockIsWeighed}
+use Rattle.gcl_core.specs.Arms.{parts_of}
+use Rattle.gcl_core.specs.Syntax.{Statement, skip, assign, branch, loop, choice, choice_among, uniform, observe, Statements, done, ◌▸◌, ArmList, no_arm, arm}
+use Rattle.gcl_core.specs.Bounds.{StatementIsWeighed, BlockIsWeighed, ArmsAreWeighed}
+use Rattle.gcl_core.specs.Parts.{AreParts}
 use Rattle.gcl_core.specs.Value.{State, Value, value_of, is_zero}
 use Rattle.gcl_core.specs.Blocks.{End, on, failed, fault, limit, by_value, by_bound}
 use Rattle.gcl_core.specs.Fractions.{Fraction, times, one}
 use Rattle.gcl_core.specs.WeightedEnds.{Weighted, sure, scaled, taken_on, class_weight, no_class_weight, statement_weighted}
-use Rattle.mass_tables.specs.Tables.{Table, Flow, going_on, gone, holds, fails, only, faults, all_end, both, loop_flow, statement_flow, block_flow, draws_each, draw_weights}
+use Rattle.mass_tables.specs.Tables.{Table, Flow, going_on, gone, holds, fails, only, faults, all_end, both, loop_flow, statement_flow, block_flow, arms_flow, draws_each, draw_weights}
 use Rattle.mass_tables.specs.Scale.{amount, weight, whole, Whole, Wholes, Within, TablesWithin}
 use Rattle.mass_tables.specs.Counts.{sum_below, part_at, rest_at, drawn, undrawn, multiplied}
 use Rattle.mass_tables.proofs.Amounts.{amount_each, amount_append, both_first, both_second, draws_second, tables_first, tables_second, ends_first, ends_second, draws_first}
@@ -108,6 +112,37 @@ choice_kept N a b r I h b0 w x y z =
     (amount_scaled N (λ s. 1) (class_weight b r (b - a)) ((b - a) * each_part b r) (all_parts b r) I (class_pos b r (b - a) b0) (class_share b r (b - a)) w y)
     (amount_scaled N (λ s. 1) (no_class_weight b r) (no_part b r) (all_parts b r) I (no_class_pos b r) (no_class_share b r) w z)
 
+-- ---- choices among several
+
+-- a table by each of these parts of a draw with b
+abbrev pub PartsWhole : ℕ → ℕ → Option ℕ → List ℕ → Table → Type 0
+PartsWhole N b r [] I = Unit {0}
+PartsWhole N b r (p ∷ ps) I = Wholes N (scaled (class_weight b r p) I) × PartsWhole N b r ps I
+
+abbrev pub parts_weight : ℕ → ℕ → Option ℕ → List ℕ → Table → ℕ
+parts_weight N b r [] I = 0
+parts_weight N b r (p ∷ ps) I = weight N (scaled (class_weight b r p) I) + parts_weight N b r ps I
+
+parts_weigh : (N b : ℕ) (r : Option ℕ) (ps : List ℕ) (I : Table) → 0 < b → Wholes N I → PartsWhole N b r ps I → all_parts b r * parts_weight N b r ps I ≡ sum ps * each_part b r * weight N I
+parts_weigh N b r [] I b0 w x = omega arith
+parts_weigh N b r (p ∷ ps) I b0 w x =
+    let a = amount_scaled N (λ s. 1) (class_weight b r p) (p * each_part b r) (all_parts b r) I (class_pos b r p b0) (class_share b r p) w x.0 in
+    more (all_parts b r) (each_part b r) (weight N I) p (sum ps) (sum (p ∷ ps)) _ _ (sum_by-cons (λ x. x) p ps) a (parts_weigh N b r ps I b0 w x.1)
+  where
+    more : (D S W p q t A B : ℕ) → t ≡ p + q → D * A ≡ p * S * W → D * B ≡ q * S * W → D * (A + B) ≡ t * S * W
+    more D S W p q t A B e x y = rw e (omega arith)
+
+pub choose_kept : (N : ℕ) (r : Option ℕ) (ps : List ℕ) (I : Table) → 1 ≤ sum ps → Wholes N I → PartsWhole N (sum ps) r ps I → Wholes N (scaled (no_class_weight (sum ps) r) I) →
+    weight N (scaled (no_class_weight (sum ps) r) I) + parts_weight N (sum ps) r ps I ≡ weight N I
+choose_kept N r ps I least w x z =
+    let b = sum ps in
+    let b0 : 0 < b = omega arith in
+    added b (each_part b r) (no_part b r) (all_parts b r) _ _ (weight N I) (all_parts_pos b r b0) (parts_add_up b r) (parts_weigh N b r ps I b0 w x)
+    (amount_scaled N (λ s. 1) (no_class_weight b r) (no_part b r) (all_parts b r) I (no_class_pos b r) (no_class_share b r) w z)
+  where
+    added : (b S Q D A L W : ℕ) → 0 < D → b * S + Q ≡ D → D * A ≡ b * S * W → D * L ≡ Q * W → L + A ≡ W
+    added b S Q D A L W d0 e x y = cancel D _ _ d0 (let z = ap (λ t. t * W) e in omega arith)
+
 -- ---- uniform draws
 sum_ones : (m : ℕ) → sum_below m (λ i. 1) ≡ m
 sum_ones zero = refl
@@ -141,6 +176,32 @@ module _ (n : ℕ) (r : Option ℕ) (N L : ℕ) where
   pub head_whole : (b : Statements) (I : Table) → TablesWithin N L (block_flow n r b I).tables → Wholes N I
   head_whole done I w = w.0
   head_whole (st ▸ b) I w = w.0
+
+  -- what is inside a choice among several
+  pub choose_inside : (arms : ArmList) (I : Table) → Within N L (statement_flow n r (choice_among arms) I) → Within N L (arms_flow n r (sum (parts_of arms)) arms I)
+  choose_inside arms I s =
+      let b = sum (parts_of arms) in
+      let f = arms_flow n r b arms I in
+      record { tables = s.tables; ended = ends_second N (all_end (limit Attempts) (scaled (no_class_weight b r) I)) f.ended s.ended; draws = draws_second N (draws_each (draw_weights b r) I) f.draws s.draws }
+
+  pub first_arm : (b p : ℕ) (a : Statements) (arms : ArmList) (I : Table) → Within N L (arms_flow n r b (arm p a arms) I) → Within N L (block_flow n r a (scaled (class_weight b r p) I))
+  first_arm b p a arms I s = both_first N L [] (block_flow n r a (scaled (class_weight b r p) I)) (arms_flow n r b arms I) s
+
+  pub other_arms : (b p : ℕ) (a : Statements) (arms : ArmList) (I : Table) → Within N L (arms_flow n r b (arm p a arms) I) → Within N L (arms_flow n r b arms I)
+  other_arms b p a arms I s = both_second N L [] (block_flow n r a (scaled (class_weight b r p) I)) (arms_flow n r b arms I) s
+
+  pub parts_whole : (b : ℕ) (arms : ArmList) (I : Table) → Within N L (arms_flow n r b arms I) → PartsWhole N b r (parts_of arms) I
+  parts_whole b no_arm I s = tt
+  parts_whole b (arm p a arms) I s = (head_whole a (scaled (class_weight b r p) I) (first_arm b p a arms I s).tables, parts_whole b arms I (other_arms b p a arms I s))
+
+  pub arms_kept : (arms : ArmList) (I : Table) → AreParts (parts_of arms) → Wholes N I → Within N L (statement_flow n r (choice_among arms) I) →
+      weight N (all_end (limit Attempts) (scaled (no_class_weight (sum (parts_of arms)) r) I)) + parts_weight N (sum (parts_of arms)) r (parts_of arms) I ≡ weight N I
+  arms_kept arms I p w s =
+      let b = sum (parts_of arms) in
+      let Z = scaled (no_class_weight b r) I in
+      let z = all_end_weight N (limit Attempts) Z in
+      let k = choose_kept N r (parts_of arms) I p.positive w (parts_whole b arms I (choose_inside arms I s)) (ends_whole N (limit Attempts) Z (ends_first N (all_end (limit Attempts) Z) (arms_flow n r b arms I).ended s.ended)) in
+      omega arith
 
   abbrev pub KeepsAll : Statements → Type 0
   KeepsAll b = (I : Table) → Within N L (block_flow n r b I) → weight N (block_flow n r b I).next + weight N (block_flow n r b I).ended ≡ weight N I
@@ -208,6 +269,14 @@ module _ (n : ℕ) (r : Option ℕ) (N L : ℕ) where
       where
         joined : (l l' f f' g g' W : ℕ) → l ≡ l' → f ≡ f' → g ≡ g' → l' + (f' + g') ≡ W → l + (f + g) ≡ W
         joined l l' f f' g g' W p q r e = rw (p, q, r) e
+    kept_one (choice_among arms) I p w x s =
+        let b = sum (parts_of arms) in
+        let f = arms_flow n r b arms I in
+        let Z = all_end (limit Attempts) (scaled (no_class_weight b r) I) in
+        let a = amount_append N (λ s. 1) Z f.ended in
+        let y = kept_arms b arms p.1 I (choose_inside arms I s) in
+        let k = arms_kept arms I p.0 w s in
+        omega arith
     kept_one (loop e a) I p w x s = kept_turns (value_of e) a (kept_all a p) n I s
 
     pub kept_all : (b : Statements) → BlockIsWeighed b → KeepsAll b
@@ -220,4 +289,15 @@ module _ (n : ℕ) (r : Option ℕ) (N L : ℕ) where
         let x = kept_one st I p.0 s.tables.0 (head_whole b f.next sg.tables) sf in
         let y = kept_all b p.1 f.next sg in
         let c = amount_append N (λ s. 1) f.ended g.ended in
+        omega arith
+
+    -- each arm weighs what its part of the table does
+    pub kept_arms : (b : ℕ) (arms : ArmList) → ArmsAreWeighed arms → (I : Table) → Within N L (arms_flow n r b arms I) →
+        weight N (arms_flow n r b arms I).next + weight N (arms_flow n r b arms I).ended ≡ parts_weight N b r (parts_of arms) I
+    kept_arms b no_arm p I s = refl
+    kept_arms b (arm q a arms) p I s =
+        let A = scaled (class_weight b r q) I in
+        let o = both_weight N [] (block_flow n r a A) (arms_flow n r b arms I) in
+        let x = kept_all a p.0 A (first_arm b q a arms I s) in
+        let y = kept_arms b arms p.1 I (other_arms b q a arms I s) in
         omega arith

@@ -9,3 +9,4 @@ pub mod Positive
 pub mod Paths
 pub mod AtWidth
 pub mod NoneReached
+pub mod ArmEnds

@@ -1,14 +1,17 @@
 -- The tables of a block hold what the paths from each state give: a flow is linear in its table.
 use Rattle.std.proofs.Common.{◌≡◌, ℕ, zero, suc, ◌+◌, ◌*◌, ◌-◌, Bool, true, false, not, cond, List, [], ◌∷◌, ◌++◌, map, Ok, Err, Option, refl, sym, ap, ◌∙◌, arith}
+use Rattle.std.specs.List.{sum}
 use Rattle.gcl_core.specs.declared.answers.Limit.TheVariants.{Turns, Attempts}
-use Rattle.gcl_core.specs.Syntax.{Statement, skip, assign, branch, loop, choice, uniform, observe, Statements, done, ◌▸◌}
+use Rattle.gcl_core.specs.Arms.{parts_of}
+use Rattle.gcl_core.specs.Syntax.{Statement, skip, assign, branch, loop, choice, choice_among, uniform, observe, Statements, done, ◌▸◌, ArmList, no_arm, arm}
 use Rattle.gcl_core.specs.Value.{State, Value, value_of, is_zero}
 use Rattle.gcl_core.specs.Blocks.{End, on, failed, fault, limit, by_value, by_truth, by_end}
 use Rattle.mass_tables.specs.Scale.{Wholes, whole, amount}
 use Rattle.gcl_core.specs.Fractions.{Fraction, plus, one, times}
 use Rattle.gcl_core.specs.WeightedEnds.{Weighted, sure, scaled, taken_on, class_weight, no_class_weight, statement_weighted, weighted_ends, loop_weighted}
 use Rattle.gcl_core.specs.Mass.{sum_of}
-use Rattle.mass_tables.specs.Tables.{Table, Flow, going_on, gone, holds, fails, only, faults, all_end, each, both, loop_flow, statement_flow, block_flow}
+use Rattle.mass_tables.specs.Tables.{Table, Flow, going_on, gone, holds, fails, only, faults, all_end, each, both, loop_flow, statement_flow, block_flow, arms_flow}
+use Rattle.mass_tables.proofs.ArmEnds.{arm_ends, choose_weighted}
 
 -- what F gives the entries, added
 abbrev pub sum_of_all : {A : Type 0} → (Fraction → A → ℕ) → Weighted A → ℕ
@@ -210,11 +213,18 @@ module _ (n : ℕ) (r : Option ℕ) where
     no_one (choice p a c) I =
         no_append (all_end (limit Attempts) (scaled (no_class_weight p.den r) I)) _ (no_limits Attempts (scaled (no_class_weight p.den r) I))
         (no_append (block_flow n r a (scaled (class_weight p.den r p.num) I)).ended _ (no_all a (scaled (class_weight p.den r p.num) I)) (no_all c (scaled (class_weight p.den r (p.den - p.num)) I)))
+    no_one (choice_among arms) I =
+        let b = sum (parts_of arms) in
+        no_append (all_end (limit Attempts) (scaled (no_class_weight b r) I)) _ (no_limits Attempts (scaled (no_class_weight b r) I)) (no_arms b arms I)
     no_one (loop e a) I = no_turns (value_of e) a (no_all a) n I
 
     pub no_all : (b : Statements) (I : Table) → NoOn (block_flow n r b I).ended
     no_all done I = tt
     no_all (st ▸ b) I = no_append (statement_flow n r st I).ended _ (no_one st I) (no_all b (statement_flow n r st I).next)
+
+    no_arms : (b : ℕ) (arms : ArmList) (I : Table) → NoOn (arms_flow n r b arms I).ended
+    no_arms b no_arm I = tt
+    no_arms b (arm p a arms) I = no_append (block_flow n r a (scaled (class_weight b r p) I)).ended _ (no_all a (scaled (class_weight b r p) I)) (no_arms b arms I)
 
 -- ---- a flow holds the paths
 spread_sure : (F : Fraction → End → ℕ) (x : State → End) (I : Table) → sum_of_all (λ w s. F w (x s)) I ≡ spread F I (λ s. sure (x s))
@@ -235,34 +245,52 @@ sum_all_end F x (e ∷ I) = ap (λ y. F e.0 x + y) (sum_all_end F x I)
 turned : (p q w : Fraction) → times p (times q w) ≡ times q (times p w)
 turned p q w = let b : p.0 * (q.0 * w.0) ≡ q.0 * (p.0 * w.0) = omega arith in let d : p.1 * (q.1 * w.1) ≡ q.1 * (p.1 * w.1) = omega arith in ap (λ x. (x, p.1 * (q.1 * w.1))) b ∙ ap (λ y. (q.0 * (p.0 * w.0), y)) d
 
--- a list of three drawn sides
-spread_drawn : (F : Fraction → End → ℕ) (u v l : Fraction) (a c : State → Weighted End) (x : End) (I : Table) → Zero F →
-    sum_of_all (λ w s. F w x) (scaled l I) + (spread F (scaled u I) a + spread F (scaled v I) c)
-    ≡ spread F I (λ s. scaled u (a s) ++ (scaled v (c s) ++ (scaled l (sure x) ++ [])))
-spread_drawn F u v l a c x I z =
-    let p = spread_scaled F u I a z in
-    let q = spread_scaled F v I c z in
-    let o = spread_scaled F l I (λ s. sure x) z in
-    let e = spread_sure F (λ s. x) (scaled l I) in
-    let m = by_entry I in
-    omega arith
+-- what each entry gives, by other words of the same
+spread_ext : {A B : Type 0} (F : Fraction → B → ℕ) (I : Weighted A) (k l : A → Weighted B) → ((x : A) → k x ≡ l x) → spread F I k ≡ spread F I l
+spread_ext F [] k l h = refl
+spread_ext F (e ∷ I) k l h = let i = spread_ext F I k l h in let a = ap (sum_of_all (after_weight e.0 F)) (h e.1) in omega arith
+
+spread_none : {A B : Type 0} (F : Fraction → B → ℕ) (I : Weighted A) → spread F I (λ x. []) ≡ 0
+spread_none F [] = refl
+spread_none {B = B} F (e ∷ I) = let i = spread_none {B = B} F I in omega arith
+
+-- two lists from each entry
+spread_beside : {A B : Type 0} (F : Fraction → B → ℕ) (I : Weighted A) (k l : A → Weighted B) → spread F I (λ x. k x ++ l x) ≡ spread F I k + spread F I l
+spread_beside F [] k l = refl
+spread_beside F (e ∷ I) k l = let i = spread_beside F I k l in let a = sum_append (after_weight e.0 F) (k e.1) (l e.1) in omega arith
+
+-- what a scaled table gives is what each entry gives, scaled
+spread_weighed : {A B : Type 0} (F : Fraction → B → ℕ) (u : Fraction) (I : Weighted A) (k : A → Weighted B) → Zero F → spread F (scaled u I) k ≡ spread F I (λ x. scaled u (k x))
+spread_weighed {A = A} F u I k z = spread_scaled F u I k z ∙ by_entry I
   where
-    by_entry : (I : Table) → spread (after_weight l F) I (λ s. sure x) + (spread (after_weight u F) I a + spread (after_weight v F) I c) ≡ spread F I (λ s. scaled u (a s) ++ (scaled v (c s) ++ (scaled l (sure x) ++ [])))
+    by_entry : (I : Weighted A) → spread (after_weight u F) I k ≡ spread F I (λ x. scaled u (k x))
     by_entry [] = refl
     by_entry (e ∷ I) =
         let i = by_entry I in
-        let G = after_weight e.0 F in
-        let zg = zero_after F e.0 z in
-        let j = sum_append G (scaled u (a e.1)) (scaled v (c e.1) ++ (scaled l (sure x) ++ [])) in
-        let k = sum_append G (scaled v (c e.1)) (scaled l (sure x) ++ []) in
-        let h = sum_append G (scaled l (sure x)) [] in
-        let p = sum_scaled G u (a e.1) zg ∙ sum_ext _ (after_weight e.0 (after_weight u F)) (a e.1) (λ w y. ap (λ t. F t y) (turned e.0 u w)) in
-        let q = sum_scaled G v (c e.1) zg ∙ sum_ext _ (after_weight e.0 (after_weight v F)) (c e.1) (λ w y. ap (λ t. F t y) (turned e.0 v w)) in
-        let o = sum_scaled G l (sure x) zg ∙ sum_ext _ (after_weight e.0 (after_weight l F)) (sure x) (λ w y. ap (λ t. F t y) (turned e.0 l w)) in
+        let p = sum_scaled (after_weight e.0 F) u (k e.1) (zero_after F e.0 z) ∙ sum_ext _ (after_weight e.0 (after_weight u F)) (k e.1) (λ w y. ap (λ t. F t y) (turned e.0 u w)) in
         omega arith
 
-total_of : (a b c d e f : ℕ) → a ≡ d → b ≡ e → c ≡ f → a + (b + c) ≡ d + (e + f)
-total_of a b c d e f p q r = omega arith
+-- all of a table end in one way, by a weight
+spread_ended : (F : Fraction → End → ℕ) (l : Fraction) (x : End) (I : Table) → Zero F → sum_of_all F (all_end x (scaled l I)) ≡ spread F I (λ s. scaled l (sure x) ++ [])
+spread_ended F l x I z =
+    let a = sum_all_end F x (scaled l I) in
+    let b = spread_sure F (λ s. x) (scaled l I) in
+    let c = spread_weighed F l I (λ s. sure x) z in
+    let d = spread_beside F I (λ s. scaled l (sure x)) (λ s. []) in
+    let e = spread_none F I in
+    omega arith
+
+-- a list of three drawn sides
+spread_drawn : (F : Fraction → End → ℕ) (u v l : Fraction) (a c : State → Weighted End) (x : End) (I : Table) → Zero F →
+    sum_of_all F (all_end x (scaled l I)) + (spread F (scaled u I) a + spread F (scaled v I) c)
+    ≡ spread F I (λ s. scaled u (a s) ++ (scaled v (c s) ++ (scaled l (sure x) ++ [])))
+spread_drawn F u v l a c x I z =
+    let p = spread_weighed F u I a z in
+    let q = spread_weighed F v I c z in
+    let o = spread_ended F l x I z in
+    let i = spread_beside F I (λ s. scaled u (a s)) (λ s. scaled v (c s) ++ (scaled l (sure x) ++ [])) in
+    let j = spread_beside F I (λ s. scaled v (c s)) (λ s. scaled l (sure x) ++ []) in
+    omega arith
 
 module _ (n : ℕ) (r : Option ℕ) where
   abbrev pub Linear : Statements → Type 0
@@ -311,10 +339,19 @@ module _ (n : ℕ) (r : Option ℕ) where
         let k : spread F I (λ s. scaled u (weighted_ends n r a s) ++ (scaled v (weighted_ends n r c s) ++ (scaled l (sure (limit Attempts)) ++ []))) ≡ spread F I (statement_weighted n r (choice p a c))
         = ap (λ m. spread F I (λ s. scaled (class_weight p.den r m) (weighted_ends n r a s) ++ (scaled v (weighted_ends n r c s) ++ (scaled l (sure (limit Attempts)) ++ [])))) q in
         let b = flowed_both F (all_end (limit Attempts) (scaled l I)) (block_flow n r a (scaled u I)) (block_flow n r c (scaled v I)) in
-        let d = sum_all_end F (limit Attempts) (scaled l I) in
         let x = flow_paths a F (scaled u I) z in
         let y = flow_paths c F (scaled v I) z in
-        b ∙ total_of _ _ _ _ _ _ d x y ∙ g ∙ k
+        omega arith
+    flow_statement (choice_among arms) F I z =
+        let b = sum (parts_of arms) in
+        let l = no_class_weight b r in
+        let f = arms_flow n r b arms I in
+        let a = sum_append F (all_end (limit Attempts) (scaled l I)) f.ended in
+        let x = arms_paths b arms F I z in
+        let o = spread_ended F l (limit Attempts) I z in
+        let i = spread_beside F I (arm_ends n r b arms) (λ s. scaled l (sure (limit Attempts)) ++ []) in
+        let k = spread_ext F I (statement_weighted n r (choice_among arms)) (λ s. arm_ends n r b arms s ++ (scaled l (sure (limit Attempts)) ++ [])) (choose_weighted n r arms) in
+        omega arith
     flow_statement (loop e a) F I z = flow_loop (value_of e) a (flow_paths a) n F I z
 
     -- the tables of a block on I hold what MassS gives from each state of I
@@ -326,6 +363,17 @@ module _ (n : ℕ) (r : Option ℕ) where
         let a = flow_joined F (weighted_ends n r b) (statement_weighted n r st) I f.next f.ended z (no_one n r st I) (λ G zg. flow_statement st G I zg) in
         let c = flow_paths b F f.next z in
         let d = sum_append F f.ended g.ended in
+        omega arith
+
+    arms_paths : (b : ℕ) (arms : ArmList) (F : Fraction → End → ℕ) (I : Table) → Zero F → flowed F (arms_flow n r b arms I) ≡ spread F I (arm_ends n r b arms)
+    arms_paths b no_arm F I z = let e = spread_none {B = End} F I in omega arith
+    arms_paths b (arm p a arms) F I z =
+        let u = class_weight b r p in
+        let o = flowed_both F [] (block_flow n r a (scaled u I)) (arms_flow n r b arms I) in
+        let x = flow_paths a F (scaled u I) z in
+        let y = spread_weighed F u I (weighted_ends n r a) z in
+        let i = arms_paths b arms F I z in
+        let j = spread_beside F I (λ s. scaled u (weighted_ends n r a s)) (arm_ends n r b arms) in
         omega arith
 
 -- the same at a scale

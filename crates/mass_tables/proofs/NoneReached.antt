@@ -1,16 +1,19 @@
 -- A table of no weight reaches draws of no weight.
 use Rattle.std.proofs.Common.{◌≡◌, ℕ, zero, suc, ◌+◌, ◌*◌, ◌-◌, ◌≤◌, ◌<◌, List, [], ◌∷◌, ◌++◌, Ok, Err, ℤ, pos, negsuc, Option, refl, ap, ◌∙◌, arith}
+use Rattle.std.specs.List.{sum}
 use Rattle.gcl_core.specs.declared.answers.Limit.TheVariants.{Attempts}
-use Rattle.gcl_core.specs.Syntax.{Statement, skip, assign, branch, loop, choice, uniform, observe, Statements, done, ◌▸◌}
-use Rattle.gcl_core.specs.Bounds.{StatementIsWeighed, BlockIsWeighed}
+use Rattle.gcl_core.specs.Arms.{parts_of}
+use Rattle.gcl_core.specs.Parts.{partial_sums}
+use Rattle.gcl_core.specs.Syntax.{Statement, skip, assign, branch, loop, choice, choice_among, uniform, observe, Statements, done, ◌▸◌, ArmList, no_arm, arm}
+use Rattle.gcl_core.specs.Bounds.{StatementIsWeighed, BlockIsWeighed, ArmsAreWeighed}
 use Rattle.gcl_core.specs.Value.{State, Value, value_of}
 use Rattle.gcl_core.specs.Blocks.{limit, by_value, by_bound, choice_ends, uniform_ends}
 use Rattle.gcl_core.specs.WeightedEnds.{Weighted, scaled, class_weight, no_class_weight}
-use Rattle.mass_tables.specs.Tables.{Table, holds, fails, only, faults, all_end, both, loop_flow, statement_flow, block_flow, draws_each, draw_weights}
-use Rattle.mass_tables.specs.Reached.{drawn_each, drawn_bound, loop_draws, statement_draws, block_draws}
+use Rattle.mass_tables.specs.Tables.{Table, holds, fails, only, faults, all_end, both, loop_flow, statement_flow, block_flow, arms_flow, draws_each, draw_weights}
+use Rattle.mass_tables.specs.Reached.{drawn_each, drawn_bound, loop_draws, statement_draws, block_draws, arms_draws}
 use Rattle.mass_tables.specs.Scale.{whole, amount, weight, Wholes, Within}
 use Rattle.mass_tables.proofs.Amounts.{amount_append, both_first, both_second, draws_second, tables_first, tables_second, ends_first, ends_second, draws_first}
-use Rattle.mass_tables.proofs.Kept.{guard_weight, ends_whole, choice_kept, head_whole, kept_one, kept_all}
+use Rattle.mass_tables.proofs.Kept.{guard_weight, ends_whole, choice_kept, head_whole, parts_weight, choose_inside, first_arm, other_arms, arms_kept, kept_one, kept_all}
 
 -- ---- what draws count, by the states that they are made from
 pub amount_drawn_each : (N : ℕ) (H : List ℕ → ℕ) (ends : List ℕ) (I : Table) → amount N H (drawn_each ends I) ≡ amount N (λ s. H ends) I
@@ -96,6 +99,14 @@ module _ (n : ℕ) (r : Option ℕ) (N L : ℕ) (H : List ℕ → ℕ) where
         let o = amount_append N H (drawn_each (choice_ends q) I) (block_draws n r a A ++ block_draws n r c C) in
         let u = amount_append N H (block_draws n r a A) (block_draws n r c C) in
         omega arith
+    none_one (choice_among arms) I p w s z =
+        let b = sum (parts_of arms) in
+        let ends = partial_sums (parts_of arms) in
+        let k = arms_kept n r N L arms I p.0 w s in
+        let x = none_arms b arms p.1 I (choose_inside n r N L arms I s) (omega arith) in
+        let d = amount_drawn_each N H ends I ∙ none_counts N (λ s. H ends) I z in
+        let o = amount_append N H (drawn_each ends I) (arms_draws n r b arms I) in
+        omega arith
     none_one (loop e a) I p w s z = none_turns (value_of e) a p (none_all a p) n I s z
 
     pub none_all : (b : Statements) → BlockIsWeighed b → (I : Table) → Within N L (block_flow n r b I) → weight N I ≡ 0 → amount N H (block_draws n r b I) ≡ 0
@@ -109,4 +120,13 @@ module _ (n : ℕ) (r : Option ℕ) (N L : ℕ) (H : List ℕ → ℕ) where
         let x = none_one st I p.0 s.tables.0 sf z in
         let y = none_all b p.1 f.next sg (omega arith) in
         let o = amount_append N H (statement_draws n r st I) (block_draws n r b f.next) in
+        omega arith
+
+    none_arms : (b : ℕ) (arms : ArmList) → ArmsAreWeighed arms → (I : Table) → Within N L (arms_flow n r b arms I) → parts_weight N b r (parts_of arms) I ≡ 0 → amount N H (arms_draws n r b arms I) ≡ 0
+    none_arms b no_arm p I s z = refl
+    none_arms b (arm q a arms) p I s z =
+        let A = scaled (class_weight b r q) I in
+        let x = none_all a p.0 A (first_arm n r N L b q a arms I s) (omega arith) in
+        let y = none_arms b arms p.1 I (other_arms n r N L b q a arms I s) (omega arith) in
+        let o = amount_append N H (block_draws n r a A) (arms_draws n r b arms I) in
         omega arith

@@ -1,16 +1,19 @@
 -- The weighted ends of a block have denominators of at least 1, and so has each sum of them.
 use Rattle.std.proofs.Common.{ℕ, zero, suc, ◌<◌, Bool, true, false, cond, [], ◌∷◌, Ok, Err, Option, None, Some, arith}
 use Rattle.gcl_core.specs.declared.answers.Limit.TheVariants.{Turns, Attempts}
-use Rattle.gcl_core.specs.Syntax.{Statement, skip, assign, branch, loop, choice, uniform, observe, Statements, done, ◌▸◌}
-use Rattle.gcl_core.specs.Bounds.{StatementIsWeighed, BlockIsWeighed}
+use Rattle.gcl_core.specs.Syntax.{Statement, skip, assign, branch, loop, choice, choice_among, uniform, observe, Statements, done, ◌▸◌, ArmList, no_arm, arm}
+use Rattle.gcl_core.specs.Bounds.{StatementIsWeighed, BlockIsWeighed, ArmsAreWeighed}
+use Rattle.gcl_core.specs.Arms.{parts_of}
+use Rattle.gcl_core.specs.Draw.{last_end}
+use Rattle.gcl_core.specs.Parts.{partial_sums}
 use Rattle.gcl_core.specs.Value.{State, Value, value_of, is_zero}
 use Rattle.gcl_core.specs.Blocks.{End, on, failed, fault, limit, by_value, by_truth, by_class, by_side, by_end, choice_ends}
 use Rattle.gcl_core.specs.Fractions.{plus}
 use Rattle.gcl_core.specs.Mass.{sum_of}
-use Rattle.gcl_core.specs.WeightedEnds.{Weighted, sure, class_weight, no_class_weight, classes_from, weighted_classes, loop_weighted, statement_weighted, weighted_ends}
+use Rattle.gcl_core.specs.WeightedEnds.{Weighted, sure, weighted_classes, loop_weighted, statement_weighted, weighted_ends, arm_weighted}
 use Rattle.frac128.proofs.Divisors.{product_pos}
-use Rattle.mass_tables.proofs.Draws.{class_pos, no_class_pos}
-use Rattle.mass_tables.proofs.Positive.{Positive, p_append, p_taken, p_sure, p_classes, p_set, p_seen, p_drawn, alone}
+use Rattle.gcl_core.proofs.PartialSums.{last_is}
+use Rattle.mass_tables.proofs.Positive.{Positive, p_taken, p_sure, p_draw, p_set, p_seen, p_drawn, alone}
 
 go_on : (e : End) (k : State → Weighted End) → ((s : State) → Positive (k s)) → Positive (by_end sure e k)
 go_on (on s) k h = h s
@@ -30,9 +33,9 @@ by_number : (i : ℕ) (m o : Weighted End) → Positive m → Positive o → Pos
 by_number zero m o h k = h
 by_number (suc i) m o h k = k
 
-by_classes : (class : Option ℕ) (m o : Weighted End) → Positive m → Positive o → Positive (by_class (sure (limit Attempts)) class (λ i. by_side i m o))
-by_classes None m o h k = alone
-by_classes (Some i) m o h k = by_number i m o h k
+by_classes : (class : Option ℕ) (k : ℕ → Weighted End) → ((i : ℕ) → Positive (k i)) → Positive (by_class (sure (limit Attempts)) class k)
+by_classes None k h = alone
+by_classes (Some i) k h = h i
 
 module _ (n : ℕ) (r : Option ℕ) where
   turns_positive : (v : State → Value) (body : State → Weighted End) → ((s : State) → Positive (body s)) → (t : ℕ) (s : State) → Positive (loop_weighted v body t s)
@@ -49,14 +52,22 @@ module _ (n : ℕ) (r : Option ℕ) where
     statement_positive (branch e a c) s w = by_guard (value_of e s) _ _ (ends_positive a s w.0) (ends_positive c s w.1)
     statement_positive (choice q a c) s w =
         let h : 0 < q.den = let o = w.0.positive in omega arith in
-        let none : Weighted (Option ℕ) = (no_class_weight q.den r, None) ∷ [] in
-        p_taken (weighted_classes (choice_ends q) r) _ (p_append (classes_from (class_weight q.den r) 0 0 (choice_ends q)) none (p_classes (class_weight q.den r) 0 0 (choice_ends q) (λ a. class_pos q.den r a h)) (no_class_pos q.den r, tt))
-        (λ class. by_classes class (weighted_ends n r a s) (weighted_ends n r c s) (ends_positive a s w.1) (ends_positive c s w.2))
+        p_taken (weighted_classes (choice_ends q) r) _ (p_draw (choice_ends q) r h)
+        (λ class. by_classes class _ (λ i. by_number i (weighted_ends n r a s) (weighted_ends n r c s) (ends_positive a s w.1) (ends_positive c s w.2)))
+    statement_positive (choice_among arms) s w =
+        let ends = partial_sums (parts_of arms) in
+        let h : 0 < last_end ends = let o = w.0.positive in let e = last_is (parts_of arms) in omega arith in
+        p_taken (weighted_classes ends r) _ (p_draw ends r h) (λ class. by_classes class (λ i. arm_weighted n r arms i s) (λ i. arm_positive arms i s w.1))
     statement_positive (loop e a) s w = turns_positive (value_of e) (weighted_ends n r a) (λ s. ends_positive a s w) n s
 
     pub ends_positive : (b : Statements) (s : State) → BlockIsWeighed b → Positive (weighted_ends n r b s)
     ends_positive done s w = p_sure (on s)
     ends_positive (st ▸ b) s w = p_taken (statement_weighted n r st s) _ (statement_positive st s w.0) (λ e. go_on e (weighted_ends n r b) (λ s. ends_positive b s w.1))
+
+    arm_positive : (arms : ArmList) (i : ℕ) (s : State) → ArmsAreWeighed arms → Positive (arm_weighted n r arms i s)
+    arm_positive no_arm i s w = p_sure (on s)
+    arm_positive (arm p b arms) zero s w = ends_positive b s w.0
+    arm_positive (arm p b arms) (suc i) s w = arm_positive arms i s w.1
 
 pub sum_positive : {A : Type 0} (is : A → Bool) (m : Weighted A) → Positive m → 0 < (sum_of is m).1
 sum_positive is [] h = omega arith

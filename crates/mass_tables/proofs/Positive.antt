@@ -1,15 +1,17 @@
 -- The fractions of a flow have denominators of at least 1.
 use Rattle.std.proofs.Common.{ℕ, zero, suc, ◌+◌, ◌-◌, ◌<◌, ℤ, pos, negsuc, Bool, true, false, cond, List, [], ◌∷◌, ◌++◌, Ok, Err, Option, None, Some, sym, subst, arith, slice_set}
+use Rattle.std.specs.List.{sum}
 use Rattle.gcl_core.specs.declared.answers.Limit.TheVariants.{Turns, Attempts}
-use Rattle.gcl_core.specs.Syntax.{Statement, skip, assign, branch, loop, choice, uniform, observe, Statements, done, ◌▸◌}
-use Rattle.gcl_core.specs.Bounds.{StatementIsWeighed, BlockIsWeighed}
+use Rattle.gcl_core.specs.Arms.{parts_of}
+use Rattle.gcl_core.specs.Syntax.{Statement, skip, assign, branch, loop, choice, choice_among, uniform, observe, Statements, done, ◌▸◌, ArmList, no_arm, arm}
+use Rattle.gcl_core.specs.Bounds.{StatementIsWeighed, BlockIsWeighed, ArmsAreWeighed}
 use Rattle.gcl_core.specs.Value.{State, Value, value_of, is_zero}
 use Rattle.gcl_core.specs.Draw.{last_end}
 use Rattle.gcl_core.specs.Blocks.{End, on, failed, fault, limit, by_value, by_bound, by_truth, by_class, uniform_ends}
 use Rattle.gcl_core.specs.Fractions.{Fraction}
 use Rattle.gcl_core.specs.WeightedEnds.{Weighted, sure, scaled, taken_on, class_weight, no_class_weight, classes_from, weighted_classes, statement_weighted, uniform_weighted}
 use Rattle.frac128.proofs.Divisors.{product_pos}
-use Rattle.mass_tables.specs.Tables.{Table, Flow, going_on, gone, holds, fails, only, faults, all_end, each, both, loop_flow, statement_flow, block_flow, draws_each, draw_weights, bound_draws}
+use Rattle.mass_tables.specs.Tables.{Table, Flow, going_on, gone, holds, fails, only, faults, all_end, each, both, loop_flow, statement_flow, block_flow, arms_flow, draws_each, draw_weights, bound_draws}
 use Rattle.mass_tables.specs.Width.{weights, table_weights, fractions}
 use Rattle.mass_tables.proofs.Denominators.{AllPositive}
 use Rattle.mass_tables.proofs.Draws.{class_pos, no_class_pos, uniform_last}
@@ -99,9 +101,12 @@ p_both x f g h k l = record {
   draws = a_append f.draws g.draws k.draws l.draws;
 }
 
-pub p_classes : (weight : ℕ → Fraction) (i c : ℕ) (ends : List ℕ) → ((a : ℕ) → 0 < (weight a).1) → Positive (classes_from weight i c ends)
+p_classes : (weight : ℕ → Fraction) (i c : ℕ) (ends : List ℕ) → ((a : ℕ) → 0 < (weight a).1) → Positive (classes_from weight i c ends)
 p_classes weight i c [] h = tt
 p_classes weight i c (d ∷ ends) h = (h (d - c), p_classes weight (i + 1) d ends h)
+
+pub p_draw : (ends : List ℕ) (r : Option ℕ) → 0 < last_end ends → Positive (weighted_classes ends r)
+p_draw ends r h = p_append (classes_from (class_weight (last_end ends) r) 0 0 ends) _ (p_classes (class_weight (last_end ends) r) 0 0 ends (λ a. class_pos (last_end ends) r a h)) (no_class_pos (last_end ends) r, tt)
 
 draws_positive : (b : ℕ) (r : Option ℕ) → 0 < b → AllPositive (draw_weights b r)
 draws_positive b r h = (class_pos b r 1 h, (no_class_pos b r, tt))
@@ -146,9 +151,7 @@ module _ (n : ℕ) (r : Option ℕ) where
   p_uniform : (x : ℕ) (z : ℤ) (s : State) → Positive (uniform_weighted r x z s)
   p_uniform x (pos zero) s = alone
   p_uniform x (pos (suc m)) s =
-      let b = last_end (uniform_ends (suc m)) in
-      let h : 0 < b = subst (λ k. 0 < k) (sym (uniform_last (suc m))) (omega arith) in
-      p_taken (weighted_classes (uniform_ends (suc m)) r) _ (p_append (classes_from (class_weight b r) 0 0 (uniform_ends (suc m))) _ (p_classes (class_weight b r) 0 0 (uniform_ends (suc m)) (λ a. class_pos b r a h)) (no_class_pos b r, tt)) (p_class x s)
+      p_taken (weighted_classes (uniform_ends (suc m)) r) _ (p_draw (uniform_ends (suc m)) r (subst (λ k. 0 < k) (sym (uniform_last (suc m))) (omega arith))) (p_class x s)
   p_uniform x (negsuc m) s = alone
 
   pub p_drawn : (x : ℕ) (v : Value) (s : State) → Positive (by_value (λ f. sure (fault f)) v (λ z. uniform_weighted r x z s))
@@ -190,6 +193,18 @@ module _ (n : ℕ) (r : Option ℕ) where
         let b = p_both (all_end (limit Attempts) Z) _ _ (p_all_end (limit Attempts) Z (p_scaled (no_class_weight q.den r) I (no_class_pos q.den r) p))
         (p_all a A w.1 (p_scaled (class_weight q.den r q.num) I (class_pos q.den r q.num h) p)) (p_all c C w.2 (p_scaled (class_weight q.den r (q.den - q.num)) I (class_pos q.den r (q.den - q.num) h) p)) in
         record { next = b.next; ended = b.ended; tables = b.tables; draws = a_append (draws_each (draw_weights q.den r) I) _ (each_positive (draw_weights q.den r) I (draws_positive q.den r h)) b.draws }
+    p_one (choice_among arms) I w p =
+        let b = sum (parts_of arms) in
+        let h : 0 < b = let o = w.0.positive in omega arith in
+        let Z = scaled (no_class_weight b r) I in
+        let f = arms_flow n r b arms I in
+        let a = p_arms b h arms I w.1 p in
+        record {
+          next = a.next;
+          ended = p_append (all_end (limit Attempts) Z) f.ended (p_all_end (limit Attempts) Z (p_scaled (no_class_weight b r) I (no_class_pos b r) p)) a.ended;
+          tables = a.tables;
+          draws = a_append (draws_each (draw_weights b r) I) f.draws (each_positive (draw_weights b r) I (draws_positive b r h)) a.draws;
+        }
     p_one (loop e a) I w p = p_turns (value_of e) (block_flow n r a) (λ I p. p_all a I w p) n I p
 
     pub p_all : (b : Statements) (I : Table) → BlockIsWeighed b → Positive I → FlowPositive (block_flow n r b I)
@@ -200,6 +215,11 @@ module _ (n : ℕ) (r : Option ℕ) where
         let c = p_all b f.next w.1 a.next in
         let g = block_flow n r b f.next in
         record { next = c.next; ended = p_append f.ended g.ended a.ended c.ended; tables = (p, t_append f.tables g.tables a.tables c.tables); draws = a_append f.draws g.draws a.draws c.draws }
+
+    p_arms : (b : ℕ) → 0 < b → (arms : ArmList) (I : Table) → ArmsAreWeighed arms → Positive I → FlowPositive (arms_flow n r b arms I)
+    p_arms b h no_arm I w p = record { next = tt; ended = tt; tables = tt; draws = tt }
+    p_arms b h (arm q a arms) I w p =
+        p_both [] _ _ tt (p_all a (scaled (class_weight b r q) I) w.0 (p_scaled (class_weight b r q) I (class_pos b r q h) p)) (p_arms b h arms I w.1 p)
 
 weights_positive : {A : Type 0} (m : Weighted A) → Positive m → AllPositive (weights m)
 weights_positive [] h = tt

@@ -15,6 +15,7 @@ use Rattle.mass_tables.proofs.Wholes.{whole_from}
 use Rattle.mass_tables.proofs.Amounts.{at_on, at_gone, amount_append, amount_going, amount_gone, whole_zero}
 use Rattle.mass_tables.proofs.Linear.{sum_of_all, after_weight, Zero, spread, sum_taken, sum_scaled, amount_is, times_one, zero_after, spread_append}
 use Rattle.mass_tables.proofs.Draws.{uniform_last, class_pos, no_class_pos}
+use Rattle.mass_tables.proofs.ArmEnds.{taken_append}
 
 -- what counts an end, at a scale
 abbrev pub counted : ℕ → (End → ℕ) → Fraction → End → ℕ
@@ -228,14 +229,6 @@ module _ (x : ℕ) (v : State → Value) (r : Option ℕ) where
         sure_whole N w (class_weight (suc m) r 1) (on (slice_set s x (pos 0))) pw (class_pos (suc m) r 1 (omega arith)) h3.0,
         sure_whole N w (no_class_weight (suc m) r) (limit Attempts) pw (no_class_pos (suc m) r) h6.0,
       )
-    where
-      append_assoc : (a b c : Weighted End) → a ++ (b ++ c) ≡ (a ++ b) ++ c
-      append_assoc [] b c = refl
-      append_assoc (e ∷ a) b c = ap (λ k. e ∷ k) (append_assoc a b c)
-
-      taken_append : (m n : Weighted (Option ℕ)) (k : Option ℕ → Weighted End) → taken_on (m ++ n) k ≡ taken_on m k ++ taken_on n k
-      taken_append [] n k = refl
-      taken_append (e ∷ m) n k = ap (λ z. scaled e.0 (k e.1) ++ z) (taken_append m n k) ∙ append_assoc (scaled e.0 (k e.1)) (taken_on m k) (taken_on n k)
 
   state_whole : (N : ℕ) (w : Fraction) (s : State) → Whole N w → Both N (scaled w (drawing s)) → Whole N (times w (part_at v r s)) × Whole N (times w (rest_at v r s))
   state_whole N w s h = by_state (v s)

@@ -1,6 +1,9 @@
 -- The draws that a table meets on its way through a block, each with the weight with which it is reached, in step with the tables.
 use Rattle.std.specs.Prelude.{ℕ, zero, suc, ◌-◌, List, [], ◌∷◌, ◌++◌, map, Option, length}
-use Rattle.gcl_core.specs.Syntax.{Statement, skip, assign, branch, loop, choice, uniform, observe, Statements, done, ◌▸◌, Source}
+use Rattle.std.specs.List.{sum}
+use Rattle.gcl_core.specs.Arms.{parts_of}
+use Rattle.gcl_core.specs.Parts.{partial_sums}
+use Rattle.gcl_core.specs.Syntax.{Statement, skip, assign, branch, loop, choice, choice_among, uniform, observe, Statements, done, ◌▸◌, ArmList, no_arm, arm, Source}
 use Rattle.gcl_core.specs.Value.{State, Value, value_of}
 use Rattle.gcl_core.specs.Blocks.{by_value, by_bound, choice_ends, uniform_ends}
 use Rattle.gcl_core.specs.Runs.{zeros}
@@ -36,11 +39,17 @@ module _ (n : ℕ) (r : Option ℕ) where
     statement_draws (branch e a c) I = block_draws a (only (holds (value_of e)) I) ++ block_draws c (only (fails (value_of e)) I)
     statement_draws (choice p a c) I =
         drawn_each (choice_ends p) I ++ (block_draws a (scaled (class_weight p.den r p.num) I) ++ block_draws c (scaled (class_weight p.den r (p.den - p.num)) I))
+    statement_draws (choice_among arms) I = drawn_each (partial_sums (parts_of arms)) I ++ arms_draws (sum (parts_of arms)) arms I
     statement_draws (loop e a) I = loop_draws (value_of e) (block_draws a) (block_flow n r a) n I
 
     pub block_draws : Statements → Table → Reached
     block_draws done I = []
     block_draws (st ▸ b) I = statement_draws st I ++ block_draws b (statement_flow n r st I).next
+
+    -- those of the arms of a draw with b parts
+    pub arms_draws : ℕ → ArmList → Table → Reached
+    arms_draws b no_arm I = []
+    arms_draws b (arm p a arms) I = block_draws a (scaled (class_weight b r p) I) ++ arms_draws b arms I
 
 -- the draws of a program's body, begun with the state of zeros at weight 1
 abbrev pub draws_of : Source → ℕ → Option ℕ → Reached

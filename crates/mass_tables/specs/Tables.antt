@@ -1,12 +1,13 @@
 -- The tables that a program goes through, and how many states stand in one of them. It is what the weighted ends of a block are,
 -- statement by statement: a table of states at each point, in place of the ends from one state.
 use Rattle.std.specs.Prelude.{ℕ, zero, suc, ◌-◌, max, Bool, false, not, List, [], ◌∷◌, ◌++◌, map, Option, length}
-use Rattle.std.specs.List.{filter}
+use Rattle.std.specs.List.{filter, sum}
 use Rattle.std.specs.Ordering.{int_eq}
 use Rattle.std.specs.Set.{distinct_count}
 use Rattle.std.specs.Cmp.Lexicographic.{pointwise}
 use Rattle.gcl_core.specs.declared.answers.Limit.TheVariants.{Turns, Attempts}
-use Rattle.gcl_core.specs.Syntax.{Statement, skip, assign, branch, loop, choice, uniform, observe, Statements, done, ◌▸◌, Source}
+use Rattle.gcl_core.specs.Arms.{parts_of}
+use Rattle.gcl_core.specs.Syntax.{Statement, skip, assign, branch, loop, choice, choice_among, uniform, observe, Statements, done, ◌▸◌, ArmList, no_arm, arm, Source}
 use Rattle.gcl_core.specs.Value.{State, Value, value_of, is_zero}
 use Rattle.gcl_core.specs.Blocks.{End, on, failed, fault, limit, by_value, by_bound}
 use Rattle.gcl_core.specs.Runs.{zeros}
@@ -87,6 +88,10 @@ each step draws I = record { next = going_on (taken_on I step); ended = gone (ta
 abbrev pub both : Weighted End → Flow → Flow → Flow
 both ended f g = record { next = f.next ++ g.next; ended = ended ++ (f.ended ++ g.ended); tables = f.tables ++ g.tables; draws = f.draws ++ g.draws }
 
+-- no table, and nothing that ended
+abbrev pub no_flow : Flow
+no_flow = record { next = []; ended = []; tables = []; draws = [] }
+
 -- at most t turns of a loop, from the table J on
 abbrev pub loop_flow : (State → Value) → (Table → Flow) → ℕ → Table → Flow
 loop_flow guard body zero J = record {
@@ -117,6 +122,10 @@ module _ (n : ℕ) (r : Option ℕ) where
     statement_flow (choice p a c) I =
         let f = both (all_end (limit Attempts) (scaled (no_class_weight p.den r) I)) (block_flow a (scaled (class_weight p.den r p.num) I)) (block_flow c (scaled (class_weight p.den r (p.den - p.num)) I)) in
         record { next = f.next; ended = f.ended; tables = f.tables; draws = draws_each (draw_weights p.den r) I ++ f.draws }
+    statement_flow (choice_among arms) I =
+        let b = sum (parts_of arms) in
+        let f = arms_flow b arms I in
+        record { next = f.next; ended = all_end (limit Attempts) (scaled (no_class_weight b r) I) ++ f.ended; tables = f.tables; draws = draws_each (draw_weights b r) I ++ f.draws }
     statement_flow (loop e a) I = loop_flow (value_of e) (block_flow a) n I
 
     pub block_flow : Statements → Table → Flow
@@ -125,6 +134,11 @@ module _ (n : ℕ) (r : Option ℕ) where
         let f = statement_flow st I in
         let g = block_flow b f.next in
         record { next = g.next; ended = f.ended ++ g.ended; tables = I ∷ (f.tables ++ g.tables); draws = f.draws ++ g.draws }
+
+    -- the arms of a draw with b parts, one after the other
+    pub arms_flow : ℕ → ArmList → Table → Flow
+    arms_flow b no_arm I = no_flow
+    arms_flow b (arm p a arms) I = both [] (block_flow a (scaled (class_weight b r p) I)) (arms_flow b arms I)
 
 -- ---- the peak
 
