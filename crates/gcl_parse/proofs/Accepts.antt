@@ -1,5 +1,5 @@
 -- What the pushdown accepts, the grammar reads.
-use Rattle.std.proofs.Common.{◌≡◌, ◌≢◌, ℕ, refl, ap, Bool, true, false, cond, ◌==◌, List, [], ◌∷◌, ◌++◌, Option, Some, None, ◌⊎◌, inl, inr}
+use Rattle.std.proofs.Common.{◌≡◌, ◌≢◌, ℕ, zero, suc, refl, ap, Bool, true, false, cond, ◌==◌, List, [], ◌∷◌, ◌++◌, Option, Some, None, ◌⊎◌, inl, inr}
 use Rattle.gcl_core.specs.declared.words.Word.{Word}
 use Rattle.gcl_core.specs.declared.words.Word.TheVariants as w
 use Rattle.gcl_core.specs.declared.tokens.Key.{Key}
@@ -12,14 +12,14 @@ use Rattle.gcl_core.specs.declared.syntax.BinOp.{BinOp}
 use Rattle.gcl_core.specs.declared.syntax.BinOp.TheVariants as o
 use Rattle.gcl_core.specs.declared.levels.Level.{Level}
 use Rattle.gcl_core.specs.declared.levels.Level.TheVariants as l
-use Rattle.gcl_core.specs.Syntax.{Expression, binary, negative, opposite, Statement, Statements, skip, assign, uniform, observe, branch, loop, choice, done, ◌▸◌}
+use Rattle.gcl_core.specs.Syntax.{Expression, binary, negative, opposite, Statement, Statements, skip, assign, uniform, observe, branch, loop, choice, choice_among, done, ◌▸◌, ArmList, no_arm, arm}
 use Rattle.gcl_core.specs.Grammar as g
-use Rattle.gcl_core.specs.Grammar.{operator, leaf, IsRow, or_row, and_row, sum_row, product_row, ReadsPhrase, ReadsMore, ReadsStatement, ReadsStatements, ReadsBlock, ReadsElse, ReadsProgram, weight}
+use Rattle.gcl_core.specs.Grammar.{operator, leaf, IsRow, or_row, and_row, sum_row, product_row, ReadsPhrase, ReadsMore, ReadsStatement, ReadsStatements, ReadsBlock, ReadsElse, ReadsArms, ReadsProgram, weight}
 use Rattle.gcl_core.specs.Levels.{level_of, above}
 use Rattle.gcl_parse.specs.Starts.{start, begun}
 use Rattle.gcl_parse.specs.Fronts.{is_sym, is_key, sym_code, key_code}
 use Rattle.gcl_parse.specs.Pushdown as m
-use Rattle.gcl_parse.specs.Pushdown.{Symbol, phrase, more, take_word, run, stops, accepts, goes_on, at_atom, at_sign, at_not, at_phrase, after_start, after_operand, may_end, whole}
+use Rattle.gcl_parse.specs.Pushdown.{Symbol, phrase, more, take_word, run, stops, accepts, goes_on, at_atom, at_sign, at_not, at_phrase, after_start, after_operand, arm_and_more, may_end, whole}
 use Rattle.gcl_core.proofs.Ranks.{same_rank}
 use Rattle.gcl_parse.proofs.Steps as step
 
@@ -27,6 +27,12 @@ use Rattle.gcl_parse.proofs.Steps as step
 data Compared (a : Expression) : List Word → Expression → List Word → Type 0 where
   alone : {ts : List Word} → Compared a ts a ts
   against : {ts rest : List Word} {v : Word} {o : BinOp} {z : Expression} → operator v ≡ Some o → level_of o ≡ l.Compare → ReadsPhrase l.Sum ts z rest → Compared a (v ∷ ts) (binary o a z) rest
+
+-- the words behind the block of an arm, up to the brace behind the last
+data Others : ℕ → List Word → ArmList → List Word → Type 0 where
+  no_other : {n : ℕ} {rest : List Word} → Others n (w.Sym y.RightBrace ∷ rest) no_arm rest
+  another : {n i : ℕ} {ts mid rest : List Word} {b : Statements} {arms : ArmList} → ReadsBlock ts b mid → Others n mid arms rest
+      → Others (suc n) (w.Sym y.Bar ∷ w.Number i ∷ w.Sym y.Colon ∷ ts) (arm i b arms) rest
 
 abbrev One : Symbol → List Word → List Word → Type 0
 One (phrase l) ts rest = (e : Expression) × ReadsPhrase l ts e rest
@@ -39,6 +45,7 @@ One m.stmts ts rest = (xs : Statements) × ReadsStatements ts xs rest
 One m.target ts rest = (i : ℕ) → (x : Statement) × ReadsStatement (w.Name i ∷ ts) x rest
 One m.block ts rest = (xs : Statements) × ReadsBlock ts xs rest
 One m.otherwise ts rest = (xs : Statements) × ReadsElse ts xs rest
+One (m.arms n) ts rest = (arms : ArmList) × Others n ts arms rest
 
 data All : List Symbol → List Word → Type 0 where
   nil : All [] []
@@ -215,6 +222,15 @@ unfolding take_word
 more_took l v s ts ih h =
     elim (if_took (goes_on l (operator v)) _ _ ts h) [ inl t ↦ (let q = goes_to l v t.0 in goes_all l v q.0 s ts q.1 q.2 t.1) | inr f ↦ ends_all l (ih f.1) ]
 
+arms_read : {n i : ℕ} {ts mid rest : List Word} {b : Statements} {arms : ArmList} → ReadsBlock ts b mid → Others n mid arms rest
+    → ReadsArms (suc n) (w.Number i ∷ w.Sym y.Colon ∷ ts) (arm i b arms) (w.Sym y.RightBrace ∷ rest)
+arms_read r no_other = g.last_arm r
+arms_read r (another q others) = g.one_more_arm r (arms_read q others)
+
+arms_behind : {n i : ℕ} {old then ts mid rest : List Word} {b : Statements} {arms : ArmList} → old ≡ w.Number i ∷ then → then ≡ w.Sym y.Colon ∷ ts → ReadsBlock ts b mid → Others n mid arms rest
+    → ReadsArms (suc n) old (arm i b arms) (w.Sym y.RightBrace ∷ rest)
+arms_behind h h2 r others = rw (h, h2) (arms_read r others)
+
 begun_all : (b : Start) {s : List Symbol} {ts : List Word} → All (after_start b ++ (m.stmts ∷ s)) ts → All (m.stmts ∷ s) (begun b ∷ ts)
 begun_all b.Skip (cons h (cons (xs, q) p)) = cons (skip ▸ xs, g.a_statement (rw h g.a_skip) q) p
 begun_all b.Observe (cons (e, r) (cons h (cons (xs, q) p))) = cons (observe e ▸ xs, g.a_statement (g.an_observation (rw h at r)) q) p
@@ -222,6 +238,8 @@ begun_all b.If (cons (e, r) (cons (x, a) (cons (z, c) (cons (xs, q) p)))) = cons
 begun_all b.While (cons (e, r) (cons (x, a) (cons (xs, q) p))) = cons (loop e x ▸ xs, g.a_statement (g.a_while r a) q) p
 begun_all b.Choice (cons (n, h) (cons h2 (cons (d, h3) (cons (x, a) (cons h4 (cons (z, c) (cons (xs, q) p))))))) =
     cons (choice (weight n d) x z ▸ xs, g.a_statement (rw (h, h2, h3) (g.a_choice (rw h4 at a) c)) q) p
+begun_all b.Choose (cons h (cons (n, h2) (cons h3 (cons (x, a) (cons h4 (cons (i, h5) (cons h6 (cons (z, c) (cons (arms, others) (cons (xs, q) p)))))))))) =
+    cons (choice_among (arm n x (arm i z arms)) ▸ xs, g.a_statement (rw (h, h2, h3) (g.a_choose (rw h4 at a) (arms_behind h5 h6 c others))) q) p
 begun_all (b.Name i) (cons f (cons (xs, q) p)) = cons ((f i).0 ▸ xs, g.a_statement (f i).1 q) p
 
 stmts_took : (v : Word) (s : List Symbol) (ts : List Word) → (Took (take_word v s) ts → All s (v ∷ ts)) → Took (take_word v (m.stmts ∷ s)) ts → All (m.stmts ∷ s) (v ∷ ts)
@@ -258,6 +276,19 @@ number_took (w.Name n) s ts h = absurd h
 number_took (w.Key n) s ts h = absurd h
 number_took (w.Sym n) s ts h = absurd h
 
+another_all : {n : ℕ} {s : List Symbol} {ts : List Word} → All (arm_and_more n ++ s) ts → All (m.arms (suc n) ∷ s) (w.Sym y.Bar ∷ ts)
+another_all (cons (i, h) (cons h2 (cons (x, a) (cons (arms, others) p)))) = cons (arm i x arms, rw (h, h2) (another a others)) p
+
+brace_all : {n : ℕ} {s : List Symbol} {ts : List Word} → All s ts → All (m.arms n ∷ s) (w.Sym y.RightBrace ∷ ts)
+brace_all p = cons (no_arm, no_other) p
+
+no_other_all : {n : ℕ} (v : Word) (s : List Symbol) (ts : List Word) → Took (cond (is_sym y.RightBrace v) (Some s) None) ts → All (m.arms n ∷ s) (v ∷ ts)
+no_other_all v s ts h = elim (if_took (is_sym y.RightBrace v) _ _ ts h) [ inl t ↦ (rw (is_this_sym y.RightBrace v t.0) (brace_all t.1)) | inr f ↦ absurd f.1 ]
+
+arms_took : (n : ℕ) (v : Word) (s : List Symbol) (ts : List Word) → Took (m.at_arms n v s) ts → All (m.arms n ∷ s) (v ∷ ts)
+arms_took zero v s ts h = no_other_all v s ts h
+arms_took (suc n) v s ts h = elim (if_took (is_sym y.Bar v) _ _ ts h) [ inl t ↦ (rw (is_this_sym y.Bar v t.0) (another_all t.1)) | inr f ↦ no_other_all v s ts f.1 ]
+
 -- what one token leaves, behind that token
 took : (s : List Symbol) (v : Word) (ts : List Word) → Took (take_word v s) ts → All s (v ∷ ts)
 unfolding take_word
@@ -272,6 +303,7 @@ took (m.target ∷ s) v ts h = target_took v s ts h
 took (m.block ∷ s) v ts h = elim (if_took (is_sym y.LeftBrace v) _ _ ts h) [ inl t ↦ (rw (is_this_sym y.LeftBrace v t.0) (block_all t.1)) | inr f ↦ absurd f.1 ]
 took (m.otherwise ∷ s) v ts h =
     elim (if_took (is_key k.Else v) _ _ ts h) [ inl t ↦ (rw (is_this_key k.Else v t.0) (else_all t.1)) | inr f ↦ cons (done, g.no_else) (took s v ts f.1) ]
+took (m.arms n ∷ s) v ts h = arms_took n v s ts h
 
 nothing_more : (s : List Symbol) → may_end s ≡ true → All s []
 nothing_more [] h = nil
@@ -284,6 +316,7 @@ nothing_more (m.stmts ∷ s) h = cons (done, g.no_statement) (nothing_more s h)
 nothing_more (m.target ∷ s) h = cc
 nothing_more (m.block ∷ s) h = cc
 nothing_more (m.otherwise ∷ s) h = cons (done, g.no_else) (nothing_more s h)
+nothing_more (m.arms n ∷ s) h = cc
 
 ended_well : (b : Bool) → m.ended b ≡ accepts → b ≡ true
 ended_well true h = refl

@@ -1,5 +1,5 @@
 -- What may be expected can be met, so what was passed begins a program.
-use Rattle.std.proofs.Common.{◌≡◌, ◌≢◌, ◌∙◌, refl, lit<, lit≤, Bool, true, false, cond, List, [], ◌∷◌, ◌++◌, Option, Some, None, pos}
+use Rattle.std.proofs.Common.{◌≡◌, ◌≢◌, ◌∙◌, ℕ, zero, suc, refl, lit<, lit≤, Bool, true, false, cond, List, [], ◌∷◌, ◌++◌, Option, Some, None, pos}
 use Rattle.gcl_core.specs.declared.words.Word.{Word}
 use Rattle.gcl_core.specs.declared.words.Word.TheVariants as w
 use Rattle.gcl_core.specs.declared.tokens.Key.TheVariants as k
@@ -31,6 +31,7 @@ fill_one m.stmts ts = ts
 fill_one m.target ts = w.Sym y.Assign ∷ w.Number 0 ∷ w.Sym y.Semicolon ∷ ts
 fill_one m.block ts = w.Sym y.LeftBrace ∷ w.Sym y.RightBrace ∷ ts
 fill_one m.otherwise ts = ts
+fill_one (m.arms n) ts = w.Sym y.RightBrace ∷ ts
 
 abbrev pub fill : List Symbol → List Word
 fill [] = []
@@ -79,6 +80,7 @@ fill_runs m.stmts s ts h = all_runs g.no_statement h s
 fill_runs m.target s ts h = step.assign_on refl s ∙ reads_runs (zero_reads l.Or _) (record { less = lit< tt }) (m.sym y.Semicolon ∷ s) ∙ step.sym_on refl s
 fill_runs m.block s ts h = block_runs (g.in_braces g.no_statement) s
 fill_runs m.otherwise s ts h = (step.no_else_passes ts h).runs s
+fill_runs (m.arms n) s ts h = step.arms_off n _ (λ q. let bar = q.1 in cc) s ∙ step.sym_on refl s
 
 nothing_left : run [] [] ≡ accepts
 unfolding run
@@ -142,6 +144,7 @@ begun_stays b.Observe s c h = upon (record { less = lit< tt }) (upon tt (upon c 
 begun_stays b.If s c h = upon (record { less = lit< tt }) (upon tt (upon c.no_else (upon c h)))
 begun_stays b.While s c h = upon (record { less = lit< tt }) (upon tt (upon c h))
 begun_stays b.Choice s c h = upon tt (upon tt (upon tt (upon tt (upon tt (upon tt (upon c h))))))
+begun_stays b.Choose s c h = upon tt (upon tt (upon tt (upon tt (upon tt (upon tt (upon tt (upon tt (upon tt (upon c h)))))))))
 begun_stays (b.Name i) s c h = upon tt (upon c h)
 
 number_stays : (v : Word) (s : List Symbol) → Sound s → Stays (m.at_number v s)
@@ -149,6 +152,10 @@ number_stays (w.Number n) s h = h
 number_stays (w.Name n) s h = tt
 number_stays (w.Key n) s h = tt
 number_stays (w.Sym n) s h = tt
+
+arms_stay : (n : ℕ) (v : Word) (s : List Symbol) → Sound s → Stays (m.at_arms n v s)
+arms_stay zero v s h = if_stays (is_sym y.RightBrace v) _ _ h tt
+arms_stay (suc n) v s h = if_stays (is_sym y.Bar v) _ _ (upon tt (upon tt (upon tt (upon tt h)))) (if_stays (is_sym y.RightBrace v) _ _ h tt)
 
 start_stays : (v : Word) (s : List Symbol) → Closes (fill s) → Sound s → Stays (take_word v s) → Stays (take_word v (m.stmts ∷ s))
 unfolding take_word
@@ -174,6 +181,7 @@ stays v (upon {x = m.target} f h) =
     if_stays (is_sym y.Assign v) _ _ (upon (record { less = lit< tt }) (upon tt h)) (if_stays (is_sym y.Tilde v) _ _ (upon tt (upon tt (upon (record { less = lit< tt }) (upon tt (upon tt h))))) tt)
 stays v (upon {x = m.block} {s = s} f h) = if_stays (is_sym y.LeftBrace v) _ _ (upon (brace_closes (fill s)) (upon tt h)) tt
 stays v (upon {x = m.otherwise} {s = s} f h) = if_stays (is_key k.Else v) _ _ (upon tt h) (stays v h)
+stays v (upon {x = m.arms n} {s = s} f h) = arms_stay n v s h
 
 pub whole_sound : Sound whole
 whole_sound = upon (record { no_start = refl; no_else = λ q. cc }) (upon tt (upon (record { less = lit< tt }) (upon tt bottom)))

@@ -5,12 +5,12 @@ use Rattle.std.proofs.lemmas.List.{length-map}
 use Rattle.gcl_core.specs.declared.kinds.Kind.TheVariants.{Number}
 use Rattle.gcl_core.specs.declared.tokens.Token.{Token}
 use Rattle.gcl_core.specs.declared.words.Word.{Word}
-use Rattle.gcl_core.specs.Syntax.{Source, Statement, Statements}
-use Rattle.gcl_core.specs.Listing.{listed, count_one, count_all}
+use Rattle.gcl_core.specs.Syntax.{Source, Statement, Statements, ArmList}
+use Rattle.gcl_core.specs.Listing.{listed, count_one, count_all, count_arms}
 use Rattle.gcl_core.specs.Targets.{sets}
 use Rattle.gcl_core.specs.Acceptance.{Flaw, too_many_names, flawed, expression_flaw, statement_flaw, first_refusal, flaws_of, refusal_of}
-use Rattle.gcl_core.specs.Grammar.{ReadsStatement, a_skip, an_assignment, a_uniform, an_observation, an_if, a_while, a_choice, ReadsStatements, no_statement, a_statement, ReadsBlock, in_braces, ReadsElse, no_else, an_else}
-use Rattle.gcl_core.specs.Places.{places_inside, places_in, places_in_block, places_in_else}
+use Rattle.gcl_core.specs.Grammar.{ReadsStatement, a_skip, an_assignment, a_uniform, an_observation, an_if, a_while, a_choice, a_choose, ReadsArms, last_arm, one_more_arm, ReadsStatements, no_statement, a_statement, ReadsBlock, in_braces, ReadsElse, no_else, an_else}
+use Rattle.gcl_core.specs.Places.{places_inside, places_in, places_in_block, places_in_else, places_in_arms}
 use Rattle.gcl_core.specs.Derivation.{Derives}
 use Rattle.gcl_core.proofs.Listed.{listed_all}
 
@@ -25,6 +25,11 @@ mutual
   inside_count (an_if e a c) = let x = block_count a in let y = else_count c in let z = length-append (places_in_block a) (places_in_else c) in omega arith
   inside_count (a_while e a) = let x = block_count a in omega arith
   inside_count (a_choice a c) = let x = block_count a in let y = block_count c in let z = length-append (places_in_block a) (places_in_block c) in omega arith
+  inside_count (a_choose b arms) = let x = block_count b in let y = arms_count arms in let z = length-append (places_in_block b) (places_in_arms arms) in omega arith
+
+  arms_count : {k : ℕ} {ts rest : List Word} {arms : ArmList} (d : ReadsArms k ts arms rest) → length (places_in_arms d) ≡ count_arms arms
+  arms_count (last_arm b) = let x = block_count b in omega arith
+  arms_count (one_more_arm b arms) = let x = block_count b in let y = arms_count arms in let z = length-append (places_in_block b) (places_in_arms arms) in omega arith
 
   all_count : {ts rest : List Word} {b : Statements} (d : ReadsStatements ts b rest) → length (places_in d) ≡ count_all b
   all_count no_statement = refl

@@ -4,12 +4,14 @@ use Rattle.gcl_core.specs.declared.tokens.Key.TheVariants as k
 use Rattle.gcl_core.specs.declared.words.Word.{Word}
 use Rattle.gcl_core.specs.declared.words.Word.TheVariants as w
 use Rattle.gcl_core.specs.declared.levels.Level.{Level}
-use Rattle.gcl_core.specs.Syntax.{Expression, Statement, Statements}
+use Rattle.gcl_core.specs.Arms.{parts_of}
+use Rattle.gcl_core.specs.Parts.{HaveArmCount}
+use Rattle.gcl_core.specs.Syntax.{Expression, Statement, Statements, ArmList}
 use Rattle.gcl_core.specs.Value.{Reads}
-use Rattle.gcl_core.specs.Bounds.{StatementBelow, BlockBelow}
-use Rattle.gcl_core.specs.Listing.{count_one, count_all}
-use Rattle.gcl_core.specs.Written.{ExpressionWritten, StatementWritten, BlockWritten}
-use Rattle.gcl_core.specs.Grammar.{leaf, ReadsPhrase, ReadsMore, a_leaf, in_brackets, with_sign, without_sign, a_comparison, no_comparison, with_not, without_not, a_row, no_more, one_more, ReadsStatement, ReadsStatements, ReadsBlock, ReadsElse, a_skip, an_assignment, a_uniform, an_observation, an_if, a_while, a_choice, no_statement, a_statement, in_braces, no_else, an_else, ReadsProgram}
+use Rattle.gcl_core.specs.Bounds.{StatementBelow, BlockBelow, ArmsBelow, StatementWeights, ArmsWeights, BlockCounted}
+use Rattle.gcl_core.specs.Listing.{count_one, count_all, count_arms}
+use Rattle.gcl_core.specs.Written.{ExpressionWritten, StatementWritten, BlockWritten, ArmsWritten}
+use Rattle.gcl_core.specs.Grammar.{leaf, ReadsPhrase, ReadsMore, a_leaf, in_brackets, with_sign, without_sign, a_comparison, no_comparison, with_not, without_not, a_row, no_more, one_more, ReadsStatement, ReadsStatements, ReadsBlock, ReadsElse, a_skip, an_assignment, a_uniform, an_observation, an_if, a_while, a_choice, a_choose, ReadsArms, last_arm, one_more_arm, no_statement, a_statement, in_braces, no_else, an_else, ReadsProgram}
 
 some_is : {a b : Expression} → Some a ≡ Some b → a ≡ b
 some_is h = cc
@@ -68,6 +70,17 @@ mutual
       let j = block_below count a b.1.1.1.1 in
       let n = block_below count c j.1.1 in
       ((j.0, n.0), n.1)
+  statement_below count (a_choose a arms) b =
+      let j = block_below count a b.1.1.1.1 in
+      let n = arms_below count arms j.1.1 in
+      ((j.0, n.0), n.1.1)
+
+  arms_below : {k : ℕ} {ts rest : List Word} {arms : ArmList} (count : ℕ) → ReadsArms k ts arms rest → WordsBelow count ts → ArmsBelow count arms × WordsBelow count rest
+  arms_below count (last_arm a) b = let j = block_below count a b.1.1 in ((j.0, tt), j.1)
+  arms_below count (one_more_arm a arms) b =
+      let j = block_below count a b.1.1 in
+      let n = arms_below count arms j.1.1 in
+      ((j.0, n.0), n.1)
 
   statements_below : {ts rest : List Word} {s : Statements} (count : ℕ) → ReadsStatements ts s rest → WordsBelow count ts → BlockBelow count s × WordsBelow count rest
   statements_below count no_statement b = (tt, b)
@@ -124,6 +137,11 @@ mutual
   statement_written (an_if r a c) = (phrase_written r, block_written a, else_written c)
   statement_written (a_while r a) = (phrase_written r, block_written a)
   statement_written (a_choice a c) = (block_written a, block_written c)
+  statement_written (a_choose a arms) = (block_written a, arms_written arms)
+
+  arms_written : {k : ℕ} {ts rest : List Word} {arms : ArmList} → ReadsArms k ts arms rest → ArmsWritten arms
+  arms_written (last_arm a) = (block_written a, tt)
+  arms_written (one_more_arm a arms) = (block_written a, arms_written arms)
 
   statements_written : {ts rest : List Word} {s : Statements} → ReadsStatements ts s rest → BlockWritten s
   statements_written no_statement = tt
@@ -138,6 +156,47 @@ mutual
 
 pub program_written : {ts : List Word} {body : Statements} {e : Expression} → ReadsProgram ts body e [] → BlockWritten body × ExpressionWritten e
 program_written d = (statements_written d.statements, phrase_written d.last)
+
+-- ---- how many arms each choice among several has
+
+arms_between : {k : ℕ} {ts rest : List Word} {arms : ArmList} → ReadsArms k ts arms rest → (1 ≤ length (parts_of arms)) × (length (parts_of arms) ≤ k)
+arms_between (last_arm a) = (omega arith, omega arith)
+arms_between (one_more_arm a arms) = let i = arms_between arms in (omega arith, omega (arith, i.1))
+
+abbrev StatementCounted : Statement → Type 0
+StatementCounted = StatementWeights (λ w. Unit {0}) HaveArmCount
+
+abbrev ArmsCounted : ArmList → Type 0
+ArmsCounted = ArmsWeights (λ w. Unit {0}) HaveArmCount
+
+mutual
+  statement_bounded : {ts rest : List Word} {s : Statement} → ReadsStatement ts s rest → StatementCounted s
+  statement_bounded a_skip = tt
+  statement_bounded (an_assignment r) = tt
+  statement_bounded (a_uniform r) = tt
+  statement_bounded (an_observation r) = tt
+  statement_bounded (an_if r a c) = (block_bounded a, else_bounded c)
+  statement_bounded (a_while r a) = block_bounded a
+  statement_bounded (a_choice a c) = (tt, block_bounded a, block_bounded c)
+  statement_bounded (a_choose a arms) = let i = arms_between arms in (record { enough = omega (arith, i.0); few = omega (arith, i.1) }, (block_bounded a, arms_bounded arms))
+
+  arms_bounded : {k : ℕ} {ts rest : List Word} {arms : ArmList} → ReadsArms k ts arms rest → ArmsCounted arms
+  arms_bounded (last_arm a) = (block_bounded a, tt)
+  arms_bounded (one_more_arm a arms) = (block_bounded a, arms_bounded arms)
+
+  statements_bounded : {ts rest : List Word} {s : Statements} → ReadsStatements ts s rest → BlockCounted s
+  statements_bounded no_statement = tt
+  statements_bounded (a_statement s q) = (statement_bounded s, statements_bounded q)
+
+  block_bounded : {ts rest : List Word} {s : Statements} → ReadsBlock ts s rest → BlockCounted s
+  block_bounded (in_braces r) = statements_bounded r
+
+  else_bounded : {ts rest : List Word} {s : Statements} → ReadsElse ts s rest → BlockCounted s
+  else_bounded no_else = tt
+  else_bounded (an_else r) = block_bounded r
+
+pub program_bounded : {ts : List Word} {body : Statements} {e : Expression} → ReadsProgram ts body e [] → BlockCounted body
+program_bounded d = statements_bounded d.statements
 
 -- ---- how many statements
 
@@ -166,6 +225,11 @@ mutual
   statement_counted (an_if r a c) = let i = phrase_shrinks r in let j = block_counted a in let n = else_counted c in omega (arith, i, j, n)
   statement_counted (a_while r a) = let i = phrase_shrinks r in let j = block_counted a in omega (arith, i, j)
   statement_counted (a_choice a c) = let j = block_counted a in let n = block_counted c in omega (arith, j, n)
+  statement_counted (a_choose a arms) = let j = block_counted a in let n = arms_counted arms in omega (arith, j, n)
+
+  arms_counted : {k : ℕ} {ts rest : List Word} {arms : ArmList} → ReadsArms k ts arms rest → count_arms arms + length rest ≤ length ts
+  arms_counted (last_arm a) = let j = block_counted a in omega (arith, j)
+  arms_counted (one_more_arm a arms) = let j = block_counted a in let n = arms_counted arms in omega (arith, j, n)
 
   statements_counted : {ts rest : List Word} {s : Statements} → ReadsStatements ts s rest → count_all s + length rest ≤ length ts
   statements_counted no_statement = omega arith

@@ -1,5 +1,6 @@
 pub mod Steps
 pub mod Blocks
+pub mod Arms
 pub mod PhrasesPass
 pub mod StatementsPass
 pub mod Accepts

@@ -8,10 +8,10 @@ use Rattle.gcl_core.specs.declared.words.Word.{Word}
 use Rattle.gcl_core.specs.declared.words.Word.TheVariants as w
 use Rattle.gcl_core.specs.declared.syntax.BinOp.{BinOp}
 use Rattle.gcl_core.specs.declared.levels.Level.{Level}
-use Rattle.gcl_core.specs.Syntax.{Expression, Statement, Statements}
+use Rattle.gcl_core.specs.Syntax.{Expression, Statement, Statements, ArmList}
 use Rattle.gcl_core.specs.Words.{kind_of_word}
-use Rattle.gcl_core.specs.Grammar.{operator, leaf, ReadsPhrase, ReadsMore, a_leaf, in_brackets, with_sign, without_sign, a_comparison, no_comparison, with_not, without_not, a_row, no_more, one_more, ReadsStatement, ReadsStatements, ReadsBlock, ReadsElse, a_skip, an_assignment, a_uniform, an_observation, an_if, a_while, a_choice, no_statement, a_statement, in_braces, no_else, an_else, ReadsProgram}
-use Rattle.gcl_core.specs.Places.{places_inside, places_in, places_in_block, places_in_else, places_in_program}
+use Rattle.gcl_core.specs.Grammar.{operator, leaf, ReadsPhrase, ReadsMore, a_leaf, in_brackets, with_sign, without_sign, a_comparison, no_comparison, with_not, without_not, a_row, no_more, one_more, ReadsStatement, ReadsStatements, ReadsBlock, ReadsElse, a_skip, an_assignment, a_uniform, an_observation, an_if, a_while, a_choice, a_choose, ReadsArms, last_arm, one_more_arm, no_statement, a_statement, in_braces, no_else, an_else, ReadsProgram}
+use Rattle.gcl_core.specs.Places.{places_inside, places_in, places_in_block, places_in_else, places_in_arms, places_in_program}
 use Rattle.gcl_parse.specs.Beginnings.{sets_before, begins}
 
 abbrev kinds : List Word → List TokenKind
@@ -89,6 +89,11 @@ mutual
   inside_placed (an_if {ts = ts} {rest = rest} r a c) = ap (λ x. suc (length ts) ∷ x) (phrase_skipped r (before_block a) ∙ joined (places_in_block a) (places_in_else c) (lefts rest) (block_placed a) (else_placed c))
   inside_placed (a_while {ts = ts} r a) = ap (λ x. suc (length ts) ∷ x) (phrase_skipped r (before_block a) ∙ block_placed a)
   inside_placed (a_choice {ts = ts} {rest = rest} a c) = ap (λ x. suc (suc (suc (suc (length ts)))) ∷ x) (joined (places_in_block a) (places_in_block c) (lefts rest) (block_placed a) (block_placed c))
+  inside_placed (a_choose {ts = ts} {rest = rest} b arms) = ap (λ x. suc (suc (suc (suc (length ts)))) ∷ x) (joined (places_in_block b) (places_in_arms arms) (lefts rest) (block_placed b) (arms_placed arms))
+
+  arms_placed : {k : ℕ} {ts rest : List Word} {arms : ArmList} (d : ReadsArms k ts arms rest) → lefts ts ≡ places_in_arms d ++ lefts rest
+  arms_placed (last_arm b) = block_placed b
+  arms_placed (one_more_arm {rest = rest} b arms) = joined (places_in_block b) (places_in_arms arms) (lefts rest) (block_placed b) (arms_placed arms)
 
   pub placed : {ts rest : List Word} {b : Statements} (d : ReadsStatements ts b rest) → lefts ts ≡ places_in d ++ lefts rest
   placed no_statement = refl

@@ -8,7 +8,7 @@ use Rattle.gcl_core.specs.declared.tokens.TokenKind.TheVariants as token
 use Rattle.gcl_core.specs.declared.words.Word.{Word}
 use Rattle.gcl_core.specs.Syntax.{Expression, Statements, Source}
 use Rattle.gcl_core.specs.Names.{Name, number_of}
-use Rattle.gcl_core.specs.Bounds.{VariablesBelow}
+use Rattle.gcl_core.specs.Bounds.{VariablesBelow, BlockCounted}
 use Rattle.gcl_core.specs.Listing.{count_all}
 use Rattle.gcl_core.specs.Written.{IsWritten}
 use Rattle.gcl_core.specs.Offsets.{place_of, start_or}
@@ -24,7 +24,7 @@ use Rattle.gcl_parse.specs.Fronts.{AreInRange}
 use Rattle.gcl_parse.specs.Pushdown.{run, stops, whole}
 use Rattle.gcl_parse.proofs.OneProgram.{one_program}
 use Rattle.gcl_parse.proofs.Placed.{lefts, program_placed}
-use Rattle.gcl_parse.proofs.Kept.{WordBelow, WordsBelow, program_below, program_written, program_counted}
+use Rattle.gcl_parse.proofs.Kept.{WordBelow, WordsBelow, program_below, program_written, program_bounded, program_counted}
 use Rattle.gcl_parse.proofs.Refuses.{refused, stops_within}
 
 -- ---- numbers
@@ -107,6 +107,9 @@ variables_below {text} {tokens} d =
 
 pub is_written : {text : List ℕ} {tokens : List Token} {p : Source} {places : List ℕ} → Derives text tokens p places → IsWritten p
 is_written d = let w = program_written d.program in record { body = w.0; result = w.1 }
+
+pub arms_counted : {text : List ℕ} {tokens : List Token} {p : Source} {places : List ℕ} → Derives text tokens p places → BlockCounted p.body
+arms_counted d = program_bounded d.program
 
 pub few_statements : {text : List ℕ} {tokens : List Token} {p : Source} {places : List ℕ} → Derives text tokens p places → count_all p.body < length tokens
 few_statements {text} {tokens} d = let n = program_counted d.program in let m = length-map tokens (word_of (names_of text tokens) text) in omega (arith, n, m)

@@ -1,5 +1,5 @@
 -- Where the pushdown stops, the tokens are refused.
-use Rattle.std.proofs.Common.{◌≡◌, ℕ, suc, ◌<◌, ◌≤◌, ◌+◌, ◌-◌, ◌∙◌, refl, ap, sym, subst, arith, Bool, true, false, List, [], ◌∷◌, ◌++◌, length, map, take, drop, append_assoc, add-one, Option, Some, None, ◌⊎◌, inl, inr, length-append}
+use Rattle.std.proofs.Common.{◌≡◌, ℕ, zero, suc, ◌<◌, ◌≤◌, ◌+◌, ◌-◌, ◌∙◌, refl, ap, sym, subst, arith, Bool, true, false, List, [], ◌∷◌, ◌++◌, length, map, take, drop, append_assoc, add-one, Option, Some, None, ◌⊎◌, inl, inr, length-append}
 use Rattle.std.proofs.lemmas.List.{take-append-drop, take-append-le, map-append, length-map}
 use Rattle.std.proofs.Math.Seq.{take-append-add}
 use Rattle.gcl_core.specs.declared.tokens.TokenKind.{TokenKind}
@@ -56,6 +56,8 @@ take_name i (m.stmts ∷ s) = refl
 take_name i (m.target ∷ s) = refl
 take_name i (m.block ∷ s) = refl
 take_name i (m.otherwise ∷ s) = take_name i s
+take_name i (m.arms zero ∷ s) = refl
+take_name i (m.arms (suc n) ∷ s) = refl
 
 take_kind : (v : Word) (s : List Symbol) → take_word (plain (kind_of_word v)) s ≡ take_word v s
 unfolding take_word

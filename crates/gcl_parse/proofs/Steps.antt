@@ -1,5 +1,5 @@
 -- Single steps of the pushdown, as the parser makes them.
-use Rattle.std.proofs.Common.{◌≡◌, ◌≢◌, ℕ, ◌<◌, ◌∙◌, refl, ap, sym, subst, arith, Bool, true, false, IsTrue, ◌==◌, List, [], ◌∷◌, ◌++◌, length, Option, Some, None, Result, Ok, Err}
+use Rattle.std.proofs.Common.{◌≡◌, ◌≢◌, ℕ, zero, suc, ◌<◌, ◌∙◌, refl, ap, sym, subst, arith, Bool, true, false, IsTrue, ◌==◌, List, [], ◌∷◌, ◌++◌, length, Option, Some, None, Result, Ok, Err}
 use Rattle.gcl_core.specs.declared.words.Word.{Word}
 use Rattle.gcl_core.specs.declared.words.Word.TheVariants as w
 use Rattle.gcl_core.specs.declared.tokens.Key.{Key}
@@ -23,7 +23,7 @@ use Rattle.gcl_parse.specs.Starts.{start, begun}
 use Rattle.gcl_parse.specs.Fronts.{first, behind, key_code, sym_code, is_sym, is_key, number_at}
 use Rattle.gcl_parse.specs.Pushdown as m
 use Rattle.gcl_core.specs.Levels.{rank}
-use Rattle.gcl_parse.specs.Pushdown.{Symbol, phrase, more, take_word, run, stops, goes_on, after_operand, after_start}
+use Rattle.gcl_parse.specs.Pushdown.{Symbol, phrase, more, take_word, run, stops, goes_on, after_operand, arm_and_more, after_start}
 use Rattle.gcl_parse.specs.Parses.{operator_at, if_of, is_row, leaf_at, Passes, Fails, Parses, ParsesBlock, ParsesElse, ParsesAs, draw, start_at}
 
 other_key : (a b : Key) → b ≢ a → (key_code b == key_code a) ≡ false
@@ -390,6 +390,18 @@ pub else_parses : {old mid : List Word} → old ≡ w.Key k.Else ∷ mid → (r 
 else_parses {old} {mid} o (Ok b) new p = (rw o (an_else p.0), record { runs = λ s. else_on o s ∙ p.1.runs s }, (let y = ap length o in omega (arith, y, p.2)))
 else_parses {old} {mid} o (Err e) new p = record { halts = λ h s. else_on o s ∙ p.halts h s }
 
+-- another arm, or the brace behind the last
+pub arms_on : (n : ℕ) {old new : List Word} → old ≡ w.Sym y.Bar ∷ new → (s : List Symbol) → run old (m.arms (suc n) ∷ s) ≡ run new (arm_and_more n ++ s)
+unfolding run take_word
+arms_on n {old} {new} h s = ap (λ x. run x (m.arms (suc n) ∷ s)) h
+
+pub arms_off : (n : ℕ) (ts : List Word) → ((0 < n) × (first ts ≡ Some (w.Sym y.Bar)) → ⊥) → (s : List Symbol) → run ts (m.arms n ∷ s) ≡ run ts (m.sym y.RightBrace ∷ s)
+unfolding run take_word
+arms_off zero [] h s = refl
+arms_off zero (v ∷ ts) h s = refl
+arms_off (suc n) [] h s = refl
+arms_off (suc n) (v ∷ ts) h s = rw (not_sym y.Bar v (λ e. h (omega arith, e)))
+
 -- a statement begins, or none does
 stmt_at : (v : Word) (b : Start) (ts : List Word) (s : List Symbol) → start v ≡ Some b → run (v ∷ ts) (m.stmts ∷ s) ≡ run ts (after_start b ++ (m.stmts ∷ s))
 unfolding run take_word
@@ -415,6 +427,7 @@ is_begun (w.Key k.Observe) b h = subst (λ x. w.Key k.Observe ≡ begun x) (some
 is_begun (w.Key k.If) b h = subst (λ x. w.Key k.If ≡ begun x) (some_is h) refl
 is_begun (w.Key k.While) b h = subst (λ x. w.Key k.While ≡ begun x) (some_is h) refl
 is_begun (w.Key k.Choice) b h = subst (λ x. w.Key k.Choice ≡ begun x) (some_is h) refl
+is_begun (w.Key k.Choose) b h = subst (λ x. w.Key k.Choose ≡ begun x) (some_is h) refl
 is_begun (w.Key _) b h = cc
 is_begun (w.Sym _) b h = cc
 

@@ -21,6 +21,7 @@ begins (token.Key k.Observe) ks = true
 begins (token.Key k.If) ks = true
 begins (token.Key k.While) ks = true
 begins (token.Key k.Choice) ks = true
+begins (token.Key k.Choose) ks = true
 begins (token.Key k.Return) ks = true
 begins token.Name ks = sets_before ks
 begins _ ks = false

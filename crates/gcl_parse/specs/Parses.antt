@@ -1,9 +1,10 @@
 -- What the parser's functions answer.
-use Rattle.std.specs.Prelude.{◌≡◌, ℕ, ◌<◌, List, [], ◌∷◌, length, Result, Ok, Err, Option, Some, None, option_and_then, Bool, true, false, ◌==◌, if◌then◌else◌, ◌++◌, ◌≤◌}
+use Rattle.std.specs.Prelude.{◌≡◌, ℕ, suc, ◌<◌, List, [], ◌∷◌, length, Result, Ok, Err, Option, Some, None, option_and_then, Bool, true, false, ◌==◌, if◌then◌else◌, ◌++◌, ◌≤◌}
 use Rattle.gcl_core.specs.declared.words.Word.{Word}
 use Rattle.gcl_core.specs.declared.levels.Level.{Level}
 use Rattle.gcl_core.specs.declared.syntax.Expr.{Expr}
 use Rattle.gcl_core.specs.declared.syntax.Stmt.{Stmt}
+use Rattle.gcl_core.specs.declared.syntax.Arms.{Arms}
 use Rattle.gcl_core.specs.declared.syntax.Block.{Block}
 use Rattle.gcl_parse.specs.declared.starts.Start.{Start}
 use Rattle.gcl_parse.specs.declared.parser.Halt.{Halt}
@@ -13,13 +14,13 @@ use Rattle.gcl_core.specs.declared.tokens.Key.TheVariants as k
 use Rattle.gcl_core.specs.declared.tokens.Sym.TheVariants as y
 use Rattle.gcl_core.specs.declared.syntax.BinOp.{BinOp}
 use Rattle.gcl_core.specs.declared.levels.Level.TheVariants as l
-use Rattle.gcl_core.specs.Syntax.{Expression}
-use Rattle.gcl_core.specs.Views.{expression_of, statement_of, statements_of}
-use Rattle.gcl_core.specs.Grammar.{ReadsPhrase, operator, leaf, ReadsStatement, ReadsStatements, ReadsBlock, ReadsElse}
+use Rattle.gcl_core.specs.Syntax.{Expression, ArmList, arm}
+use Rattle.gcl_core.specs.Views.{expression_of, statement_of, statements_of, list_of_arms}
+use Rattle.gcl_core.specs.Grammar.{ReadsPhrase, operator, leaf, ReadsStatement, ReadsStatements, ReadsBlock, ReadsElse, ReadsArms}
 use Rattle.gcl_core.specs.Levels.{level_of}
 use Rattle.gcl_parse.specs.Starts.{start, begun}
 use Rattle.gcl_core.specs.Levels.{rank}
-use Rattle.gcl_parse.specs.Pushdown.{Symbol, phrase, stmts, block, otherwise, after_start, number, sym, key, run, stops}
+use Rattle.gcl_parse.specs.Pushdown.{Symbol, phrase, stmts, block, otherwise, after_start, number, sym, key, arm_and_more, run, stops}
 
 -- the operator of this level that a token is
 abbrev pub if_of : Level → BinOp → Option BinOp
@@ -75,6 +76,31 @@ ParsesBlock old (Err e) new = Fails (block ∷ []) old e new
 abbrev pub ParsesElse : List Word → Result Block Halt → List Word → Type 0
 ParsesElse old (Ok b) new = ReadsElse old (statements_of b) new × Passes (otherwise ∷ []) old new × (length new ≤ length old)
 ParsesElse old (Err e) new = Fails (otherwise ∷ []) old e new
+
+-- `NUMBER : block`
+abbrev pub one_arm : List Symbol
+one_arm = number ∷ sym y.Colon ∷ block ∷ []
+
+-- the words behind `NUMBER :`, which is at the front of these
+pub record BehindPart (n : ℕ) (ts : List Word) : Type 0 where
+  pub rest : List Word
+  pub front : ts ≡ w.Number n ∷ w.Sym y.Colon ∷ rest
+
+abbrev pub ParsesArm : List Word → Result (ℕ × Block) Halt → List Word → Type 0
+ParsesArm old (Ok a) new = (f : BehindPart a.0 old) × ReadsBlock f.rest (statements_of a.1) new × Passes one_arm old new × (length new < length old)
+ParsesArm old (Err e) new = Fails one_arm old e new
+
+-- these arms, and then those
+abbrev pub arms_before : List (ℕ × Block) → ArmList → ArmList
+arms_before [] arms = arms
+arms_before (a ∷ found) arms = arm a.0 (statements_of a.1) (arms_before found arms)
+
+-- an arm and at most so many behind it, up to the brace behind them; these arms were found before
+abbrev pub ParsesArms : ℕ → List (ℕ × Block) → List Word → Result Arms Halt → List Word → Type 0
+ParsesArms n found old (Ok a) new =
+    (arms : ArmList) × (list_of_arms a ≡ arms_before found arms) × ReadsArms (suc n) old arms (w.Sym y.RightBrace ∷ new)
+    × Passes (arm_and_more n) old new × (length new < length old)
+ParsesArms n found old (Err e) new = Fails (arm_and_more n) old e new
 
 -- a statement whose first tokens are taken already, where these symbols are what is still expected of it
 abbrev pub ParsesAs : List Symbol → List Word → List Word → Result Stmt Halt → List Word → Type 0

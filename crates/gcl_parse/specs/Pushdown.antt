@@ -1,6 +1,7 @@
 -- The language of the grammar by what may come next: a stack of what is still expected, and what one word makes of it. The
 -- parser's functions are tied to it, and the grammar's refusal is proved from it.
-use Rattle.std.specs.Prelude.{Bool, true, false, ◌==◌, if◌then◌else◌, List, [], ◌∷◌, ◌++◌, Option, Some, None}
+use Rattle.std.specs.Prelude.{ℕ, zero, suc, ◌-◌, Bool, true, false, ◌==◌, if◌then◌else◌, List, [], ◌∷◌, ◌++◌, Option, Some, None}
+use Rattle.gcl_core.specs.declared.rules.TheConstants.{MOST_ARMS}
 use Rattle.gcl_core.specs.declared.words.Word.{Word}
 use Rattle.gcl_core.specs.declared.words.Word.TheVariants as w
 use Rattle.gcl_core.specs.declared.tokens.Key.{Key}
@@ -35,6 +36,8 @@ pub data Symbol : Type 0 where
   block : Symbol
   -- an `else` with its block, or nothing
   otherwise : Symbol
+  -- behind the block of an arm: `|` and another arm, at most so many times, and `}`
+  arms : ℕ → Symbol
 
 -- what is left once the word is taken, if an atom may begin with it
 abbrev pub if_leaf : Option Expression → List Symbol → Option (List Symbol) → Option (List Symbol)
@@ -69,12 +72,17 @@ abbrev pub goes_on : Level → Option BinOp → Bool
 goes_on l None = false
 goes_on l (Some o) = rank (level_of o) == rank l
 
+-- `NUMBER : block`, and at most so many arms behind it
+abbrev pub arm_and_more : ℕ → List Symbol
+arm_and_more n = number ∷ sym y.Colon ∷ block ∷ arms n ∷ []
+
 abbrev pub after_start : Start → List Symbol
 after_start b.Skip = sym y.Semicolon ∷ []
 after_start b.Observe = phrase l.Or ∷ sym y.Semicolon ∷ []
 after_start b.If = phrase l.Or ∷ block ∷ otherwise ∷ []
 after_start b.While = phrase l.Or ∷ block ∷ []
 after_start b.Choice = number ∷ sym y.Slash ∷ number ∷ block ∷ key k.Or ∷ block ∷ []
+after_start b.Choose = sym y.LeftBrace ∷ number ∷ sym y.Colon ∷ block ∷ sym y.Bar ∷ arm_and_more (MOST_ARMS - 2)
 after_start (b.Name i) = target ∷ []
 
 abbrev pub if_start : Option Start → List Symbol → Option (List Symbol) → Option (List Symbol)
@@ -90,6 +98,10 @@ at_target v s =
     if is_sym y.Assign v then Some (phrase l.Or ∷ sym y.Semicolon ∷ s)
     else (if is_sym y.Tilde v then Some (key k.Uniform ∷ sym y.LeftParen ∷ phrase l.Or ∷ sym y.RightParen ∷ sym y.Semicolon ∷ s) else None)
 
+abbrev pub at_arms : ℕ → Word → List Symbol → Option (List Symbol)
+at_arms zero v s = if is_sym y.RightBrace v then Some s else None
+at_arms (suc n) v s = if is_sym y.Bar v then Some (arm_and_more n ++ s) else (if is_sym y.RightBrace v then Some s else None)
+
 unfoldable pub take_word : Word → List Symbol → Option (List Symbol)
 take_word v [] = None
 take_word v (phrase l ∷ s) = at_phrase l v s
@@ -101,6 +113,7 @@ take_word v (stmts ∷ s) = if_start (start v) (stmts ∷ s) (take_word v s)
 take_word v (target ∷ s) = at_target v s
 take_word v (block ∷ s) = if is_sym y.LeftBrace v then Some (stmts ∷ sym y.RightBrace ∷ s) else None
 take_word v (otherwise ∷ s) = if is_key k.Else v then Some (block ∷ s) else take_word v s
+take_word v (arms n ∷ s) = at_arms n v s
 
 -- nothing more is needed
 abbrev pub may_end : List Symbol → Bool

@@ -13,6 +13,7 @@ start (w.Key k.Observe) = Some b.Observe
 start (w.Key k.If) = Some b.If
 start (w.Key k.While) = Some b.While
 start (w.Key k.Choice) = Some b.Choice
+start (w.Key k.Choose) = Some b.Choose
 start (w.Name x) = Some (b.Name x)
 start _ = None
 
@@ -22,4 +23,5 @@ begun b.Observe = w.Key k.Observe
 begun b.If = w.Key k.If
 begun b.While = w.Key k.While
 begun b.Choice = w.Key k.Choice
+begun b.Choose = w.Key k.Choose
 begun (b.Name x) = w.Name x

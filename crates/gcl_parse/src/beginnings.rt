@@ -23,7 +23,13 @@ fn begins(kind: TokenKind, behind: &[Token]) -> bool
 {
     match kind {
         TokenKind::Key(
-            Key::Skip | Key::Observe | Key::If | Key::While | Key::Choice | Key::Return,
+            Key::Skip
+            | Key::Observe
+            | Key::If
+            | Key::While
+            | Key::Choice
+            | Key::Choose
+            | Key::Return,
         ) => true,
         TokenKind::Name => sets_before(behind),
         _ => false,

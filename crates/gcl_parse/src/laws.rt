@@ -4,6 +4,7 @@ ghost use Rattle.std.specs.Prelude.{◌≡◌, ◌↔◌, ◌⊎◌, ℕ, List};
 ghost use Rattle.gcl_core.specs.declared.tokens.Token.{Token};
 ghost use Rattle.gcl_core.specs.declared.tokens.TokenKind.{TokenKind};
 ghost use Rattle.gcl_core.specs.Syntax.{Source};
+ghost use Rattle.gcl_core.specs.Bounds.{BlockCounted};
 ghost use Rattle.gcl_core.specs.Words.{kinds_of};
 ghost use Rattle.gcl_core.specs.Derivation.{Derives};
 ghost use Rattle.gcl_core.specs.Written.{IsWritten};
@@ -25,11 +26,13 @@ pub fn program_or_refused()
     ensures apart { (ks : List TokenKind) (i : ℕ) → IsProgram ks → RefusedAt ks i → ⊥ }
 {}
 
-/// The tokens of a text derive at most one program, in which no number of an expression is below 0.
+/// The tokens of a text derive at most one program, in which no number of an expression is below 0, and each choice among several
+/// has as many arms as it may have.
 pub fn one_program()
     ensures program { (text : List ℕ) (tokens : List Token) (p q : Source) (at places : List ℕ)
         → Derives text tokens p at → Derives text tokens q places → (q ≡ p) × (places ≡ at) }
     ensures written { (text : List ℕ) (tokens : List Token) (p : Source) (at : List ℕ) → Derives text tokens p at → IsWritten p }
+    ensures arms { (text : List ℕ) (tokens : List Token) (p : Source) (at : List ℕ) → Derives text tokens p at → BlockCounted p.body }
 {}
 
 /// Each list of bytes is read in exactly one way. As it is written, it has one program, with the places of its statements, or is

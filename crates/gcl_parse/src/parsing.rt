@@ -3,7 +3,7 @@
 ghost use Rattle.std.specs.Prelude.{◌≡◌, ℕ, ◌+◌, ◌<◌, ◌≤◌, List, length, IfOk, IsOk, IfErr, IsOkUnless};
 ghost use Rattle.gcl_core.specs.Syntax.{Source};
 ghost use Rattle.gcl_core.specs.Views.{source_of};
-ghost use Rattle.gcl_core.specs.Bounds.{VariablesBelow};
+ghost use Rattle.gcl_core.specs.Bounds.{BlockCounted, VariablesBelow};
 ghost use Rattle.gcl_core.specs.Listing.{count_all};
 ghost use Rattle.gcl_core.specs.Spans.{StandInOrder};
 ghost use Rattle.gcl_core.specs.Offsets.{place_of};
@@ -59,6 +59,7 @@ pub fn parse(alloc: Global, text: &[u8], tokens: &[Token]) -> Result<Parsed, Par
     ensures nested { IsOk result → Nests (kinds_of tokens.now) }
     ensures variables { IfOk result (λ p. VariablesBelow (source_of p.program)) }
     ensures written { IfOk result (λ p. IsWritten (source_of p.program)) }
+    ensures arms { IfOk result (λ p. BlockCounted (source_of p.program).body) }
     ensures places { IfOk result (λ p. length p.places ≡ count_all (source_of p.program).body + 1) }
     ensures statements { IfOk result (λ p. count_all (source_of p.program).body < length tokens.now) }
     ensures refused { IfErr result (λ e. IsRefused text.now tokens.now e) }

@@ -9,4 +9,5 @@ pub enum Start {
     If,
     While,
     Choice,
+    Choose,
 }

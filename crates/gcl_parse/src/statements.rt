@@ -1,13 +1,13 @@
 // Reading statements.
 
-ghost use Rattle.std.specs.Prelude.{◌≡◌};
-ghost use Rattle.gcl_parse.specs.Parses.{ParsesAll, ParsesBlock, ParsesElse, ParsesRest, ParsesAssignment, ParsesDraw, start_at};
+ghost use Rattle.std.specs.Prelude.{◌≡◌, ◌<◌, ◌↔◌, IsTrue, Some};
+ghost use Rattle.gcl_parse.specs.Parses.{ParsesAll, ParsesBlock, ParsesElse, ParsesArm, ParsesArms, ParsesRest, ParsesAssignment, ParsesDraw, start_at};
 ghost use Rattle.gcl_parse.specs.Programs.{ParsesWhole, ParsesProgram};
 ghost use Rattle.gcl_parse.specs.Fronts.{first};
 
 use crate::parser::{Halt, Parser};
 use crate::starts::Start;
-use gcl_core::{Block, Expr, Key, Level, Stmt, Sym, Weight, Word};
+use gcl_core::{Arms, Block, Expr, Key, Level, MOST_ARMS, Stmt, Sym, Weight, Word};
 
 #[tactic(auto, using(crate::proofs::Steps::fails_after, crate::proofs::Steps::fails_here, crate::proofs::Steps::after))]
 impl Parser<'_> {
@@ -20,6 +20,7 @@ impl Parser<'_> {
             Word::Key(Key::If) => Some(Start::If),
             Word::Key(Key::While) => Some(Start::While),
             Word::Key(Key::Choice) => Some(Start::Choice),
+            Word::Key(Key::Choose) => Some(Start::Choose),
             Word::Name(i) => Some(Start::Name(i)),
             _ => None,
         }
@@ -49,6 +50,7 @@ impl Parser<'_> {
             Start::If => self.branch(),
             Start::While => self.repeat(),
             Start::Choice => self.choice(),
+            Start::Choose => self.choice_among(),
         }
     }
 
@@ -127,6 +129,52 @@ impl Parser<'_> {
         self.key(Key::Or)?;
         let right = self.block()?;
         Ok(Stmt::Choice(Weight { num, den }, left, right))
+    }
+
+    #[cycle(statements)]
+    fn choice_among(&mut self) -> Result<Stmt, Halt>
+        ensures { ParsesRest Start.Choose self.old result self.new }
+    {
+        self.sym(Sym::LeftBrace)?;
+        let first = self.arm()?;
+        self.sym(Sym::Bar)?;
+        let mut found = Vec::new(self.alloc());
+        found.push(first)?;
+        let arms = self.arms(found, MOST_ARMS - 2)?;
+        Ok(Stmt::Choose(arms))
+    }
+
+    /// A part and its block.
+    #[cycle(statements)]
+    fn arm(&mut self) -> Result<(u64, Block), Halt>
+        ensures { ParsesArm self.old result self.new }
+    {
+        let part = self.number()?;
+        self.sym(Sym::Colon)?;
+        let block = self.block()?;
+        Ok((part, block))
+    }
+
+    /// An arm, at most `more` others and the brace behind them, where these arms were found before.
+    #[cycle(statements)]
+    fn arms(&mut self, mut found: Vec<(u64, Block)>, more: usize) -> Result<Arms, Halt>
+        ensures { ParsesArms more found.items self.old result self.new }
+    {
+        let arm = self.arm()?;
+        found.push(arm)?;
+        if self.goes_on(more) {
+            self.advance();
+            return self.arms(found, more - 1);
+        }
+        self.sym(Sym::RightBrace)?;
+        Ok(Arms { arms: found })
+    }
+
+    /// Another arm comes, where so many may.
+    fn goes_on(&self, more: usize) -> bool
+        ensures { IsTrue result ↔ ((0 < more) × (first self.now ≡ Some (Word.Sym Sym.Bar))) }
+    {
+        more > 0 && self.next_is(Word::Sym(Sym::Bar))
     }
 
     #[cycle(statements)]

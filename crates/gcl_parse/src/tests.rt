@@ -6,7 +6,7 @@ use std::test::Fail;
 
 #[test]
 fn answers_stand_at_their_places(rt: HostRuntime) -> Result<(), Fail> {
-    let table: [(&[u8], Result<&[u32], u32>); 16] = [
+    let table: [(&[u8], Result<&[u32], u32>); 22] = [
         (b"return 7;", Ok(&[0])),
         (b"skip; return 7;", Ok(&[0, 6])),
         (
@@ -28,7 +28,16 @@ fn answers_stand_at_their_places(rt: HostRuntime) -> Result<(), Fail> {
         (b"return 1 < 2 < 3;", Err(13)),
         (b"else { } return 1;", Err(0)),
         (b"if x { } skip; else { } return 1;", Err(15)),
-        (b"choose x; return 1;", Err(0)),
+        (b"choose x; return 1;", Err(7)),
+        (
+            b"choose{1:{skip;}|0:{x:=1;}|2:{}}return x;",
+            Ok(&[0, 10, 20, 32]),
+        ),
+        (b"choose { 2: {} } return 1;", Err(15)),
+        (b"choose {} return 1;", Err(8)),
+        (b"choose { 1 {} | 1: {} } return 1;", Err(11)),
+        (b"choose { 1: {} | } return 1;", Err(17)),
+        (b"choose { 1: {} | 1: {} return 1;", Err(23)),
         (b"choice 1/x { } or { } return 1;", Err(9)),
         (b"x = 1; return x;", Err(2)),
         (b"return -not 1;", Err(8)),
@@ -42,6 +51,50 @@ fn answers_stand_at_their_places(rt: HostRuntime) -> Result<(), Fail> {
         match want {
             Ok(want) => assert_eq!(rt; places.as_slice(), want, "places of {text:?}"),
             Err(at) => assert_eq!(rt; error, Some(ParseError::Unexpected { at }), "of {text:?}"),
+        }
+    }
+    Ok(())
+}
+
+// A choice among so many arms, and a result.
+fn arms(alloc: Global, count: usize) -> Result<Vec<u8>, AllocError> {
+    let mut text = b"choose{".to_vec(alloc)?;
+    for i in 0..count {
+        if i > 0 {
+            text.push(b'|')?;
+        }
+        text.extend_from_slice(b"1:{}")?;
+    }
+    text.extend_from_slice(b"}return 1;")?;
+    Ok(text)
+}
+
+#[test]
+fn arms_are_from_two_to_sixteen(rt: HostRuntime) -> Result<(), Fail> {
+    let table: [(usize, Result<u32, u32>); 6] = [
+        (0, Err(7)),
+        (1, Err(11)),
+        (2, Ok(17)),
+        (3, Ok(22)),
+        (16, Ok(87)),
+        (17, Err(86)),
+    ];
+    for (count, want) in table {
+        let text = arms(rt.alloc(), count)?;
+        let tokens = lex(rt.alloc(), &text)?;
+        match (parse(rt.alloc(), &text, &tokens), want) {
+            (Ok(parsed), Ok(at)) => {
+                assert_eq!(rt;
+                    parsed.places.into_vec().as_slice(),
+                    [0, at].as_slice(),
+                    "of {count} arms"
+                );
+            }
+            (parsed, want) => {
+                let at = want.err();
+                let error = at.map(|at| ParseError::Unexpected { at });
+                assert_eq!(rt; parsed.err(), error, "of {count} arms");
+            }
         }
     }
     Ok(())
@@ -106,5 +159,21 @@ fn names_are_numbered_and_operators_grouped(rt: HostRuntime) -> Result<(), Fail>
     assert!(rt; matches!(set.result, Expr::Bin(BinOp::Mul, _, _)));
     let left = program(rt.alloc(), b"return 1 - 2 + 3;")?;
     assert!(rt; matches!(left.result, Expr::Bin(BinOp::Add, _, _)));
+    Ok(())
+}
+
+#[test]
+fn arms_have_their_parts(rt: HostRuntime) -> Result<(), Fail> {
+    let drawn = program(
+        rt.alloc(),
+        b"choose { 3: { x := 1; } | 0: { } | 5: { skip; skip; } } return x;",
+    )?;
+    let mut found = Vec::new(rt.alloc());
+    if let Some(Stmt::Choose(arms)) = drawn.body.stmts.get(0) {
+        for (part, block) in &arms.arms {
+            found.push((*part, block.stmts.len()))?;
+        }
+    }
+    assert_eq!(rt; found.as_slice(), [(3, 1), (0, 0), (5, 2)].as_slice());
     Ok(())
 }

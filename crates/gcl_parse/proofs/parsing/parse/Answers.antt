@@ -1,6 +1,6 @@
 use Rattle.std.proofs.Common.{◌∙◌, sym, arith}
 use Rattle.gcl_parse.proofs.Excludes.{only_memory}
-use Rattle.gcl_parse.proofs.Programs.{words_in_range, derives, one_derivation, variables_below, is_written, few_statements, unexpected, left_within}
+use Rattle.gcl_parse.proofs.Programs.{words_in_range, derives, one_derivation, variables_below, is_written, arms_counted, few_statements, unexpected, left_within}
 use Rattle.gcl_parse.proofs.FlawPlaces.{places_count}
 use Rattle.gcl_parse.proofs.parsing.parse.Goals as goal
 
@@ -20,6 +20,9 @@ returns-in-Ok-clause-variables c = variables_below (returns-in-Ok-clause-program
 
 pub returns-in-Ok-clause-written : goal.returns-in-Ok-clause-written
 returns-in-Ok-clause-written c = is_written (returns-in-Ok-clause-program c)
+
+pub returns-in-Ok-clause-arms : goal.returns-in-Ok-clause-arms
+returns-in-Ok-clause-arms c = arms_counted (returns-in-Ok-clause-program c)
 
 pub returns-in-Ok-clause-places : goal.returns-in-Ok-clause-places
 returns-in-Ok-clause-places c = places_count (returns-in-Ok-clause-program c)

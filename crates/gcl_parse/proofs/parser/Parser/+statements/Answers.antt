@@ -1,13 +1,18 @@
-use Rattle.std.proofs.Common.{◌≡◌, ◌≢◌, [], ◌∷◌, Err, Some, None, ◌++◌, arith, rules, ◌∙◌}
+use Rattle.std.proofs.Common.{◌≡◌, ◌≢◌, ◌<◌, ◌-◌, suc, ap, subst, [], ◌∷◌, Err, Some, None, ◌++◌, arith, rules, ◌∙◌}
 use Rattle.gcl_core.specs.declared.words.Word.TheVariants as w
 use Rattle.gcl_core.specs.declared.tokens.Key.TheVariants as k
+use Rattle.gcl_core.specs.declared.tokens.Sym.TheVariants as y
+use Rattle.gcl_core.specs.declared.syntax.Arms.{out-roll-Arms}
+use Rattle.gcl_core.specs.Syntax.{arm}
+use Rattle.gcl_core.specs.Views.{statements_of, arm_list_of, list_of_arms}
 use Rattle.gcl_parse.specs.Fronts.{first}
 use Rattle.gcl_core.specs.Grammar as g
 use Rattle.gcl_parse.specs.Pushdown as m
-use Rattle.gcl_parse.specs.Parses.{start_at}
+use Rattle.gcl_parse.specs.Parses.{ParsesArms, arms_before, start_at}
 use Rattle.gcl_parse.proofs.Steps as step
 use Rattle.gcl_parse.proofs.Steps.{after, fails_after, fails_here}
 use Rattle.gcl_core.proofs.ViewLemmas as views
+use Rattle.gcl_parse.proofs.Arms as arms
 use Rattle.gcl_parse.proofs.Blocks as blocks
 use Rattle.gcl_parse.proofs.parser.Parser.+statements.Goals as goal
 
@@ -57,6 +62,52 @@ choice-returns t c =
       rw (num.0, slash.0, den.0, views.choice_view) (g.a_choice (rw or.0 at left.0) right.0),
       after num.1 (after slash.1 (after den.1 (after left.1 (after or.1 right.1)))),
       omega (arith, num.2, slash.2, den.2, left.2, or.2, right.2),
+    )
+
+pub arm-returns : goal.arm-returns
+arm-returns t c =
+    let part = c.in_ok-part.ensures in
+    let colon = c.in_ok-sym.ensures in
+    let block = c.in_ok-block.ensures in (
+      record { rest = _; front = part.0 ∙ ap (λ ts. w.Number c.in_ok-part.part ∷ ts) colon.0 },
+      block.0,
+      after part.1 (after colon.1 block.1),
+      omega (arith, part.2, colon.2, block.2),
+    )
+
+pub arms-returns-then-goes_on : goal.arms-returns-then-goes_on
+arms-returns-then-goes_on t c =
+    let some : (0 < c.args.more) × (first c.arm.new.self ≡ Some (w.Sym y.Bar)) = grind arith in
+    let more : suc (c.args.more - 1) ≡ c.args.more = omega (arith, some.0) in
+    let pushed : c.push.new.self.items ≡ c.args.found.items ++ c.in_ok-arm.arm ∷ [] = search rules in
+    subst (λ n. ParsesArms n c.args.found.items c.args.self.now c.arms.result c.arms.new.self) more
+    (arms.another_parses _ _ _ c.in_ok-arm.ensures (step.front_is _ some.1 c.advance.ensures) _ _ (rw pushed at c.arms.ensures))
+
+pub arms-returns-in_err-sym : goal.arms-returns-in_err-sym
+arms-returns-in_err-sym t c =
+    let r : c.from_residual-in_err-sym.result ≡ Err c.in_err-sym.field-0.0 = grind arith in
+    let none : (0 < c.args.more) × (first c.arm.new.self ≡ Some (w.Sym y.Bar)) → ⊥ = grind arith in
+    rw r (arms.last_fails _ c.args.found.items c.in_ok-arm.arm c.in_ok-arm.ensures none c.in_err-sym.ensures)
+
+pub arms-returns : goal.arms-returns
+arms-returns t c =
+    let none : (0 < c.args.more) × (first c.arm.new.self ≡ Some (w.Sym y.Bar)) → ⊥ = grind arith in
+    let pushed : c.push.new.self.items ≡ c.args.found.items ++ c.in_ok-arm.arm ∷ [] = search rules in
+    let brace = c.in_ok-sym.ensures in
+    let made = ap (λ r. arm_list_of r.arms.items) (out-roll-Arms _) ∙ ap arm_list_of pushed in
+    arms.last_parses _ c.args.found.items c.in_ok-arm.arm _ c.in_ok-arm.ensures none brace.0 made
+
+pub choice_among-returns : goal.choice_among-returns
+choice_among-returns t c =
+    let brace = c.in_ok-sym.ensures in
+    let one = c.in_ok-first.ensures in
+    let bar = c.in_ok-sym-2.ensures in
+    let others = c.in_ok-arms.ensures in
+    let pushed : c.push.new.self.items ≡ c.in_ok-first.first ∷ [] = search rules in
+    let made : list_of_arms c.in_ok-arms.arms ≡ arm c.in_ok-first.first.0 (statements_of c.in_ok-first.first.1) others.0 = others.1 ∙ ap (λ found. arms_before found others.0) pushed in (
+      rw (brace.0, one.0.front, views.choose_view, made) (g.a_choose (rw bar.0 at one.1) others.2),
+      after brace.1 (arms.after_arm one.2 (after bar.1 others.3)),
+      omega (arith, brace.2, one.3, bar.2, others.4),
     )
 
 pub otherwise-returns-then-not-next_is : goal.otherwise-returns-then-not-next_is

@@ -21,6 +21,15 @@ decreases-repeat l = 20 * length l.self.now + 8
 abbrev pub decreases-choice : goal.decreases-choice
 decreases-choice l = 20 * length l.self.now + 8
 
+abbrev pub decreases-choice_among : goal.decreases-choice_among
+decreases-choice_among l = 20 * length l.self.now + 8
+
+abbrev pub decreases-arms : goal.decreases-arms
+decreases-arms l = 20 * length l.self.now + 8
+
+abbrev pub decreases-arm : goal.decreases-arm
+decreases-arm l = 20 * length l.self.now + 7
+
 abbrev pub decreases-block : goal.decreases-block
 decreases-block l = 20 * length l.self.now + 5
 
