@@ -18,3 +18,4 @@ pub mod FlawPlaces
 pub mod Reasons
 pub mod OneReading
 pub mod OneSpelling
+pub mod SmallNumbers

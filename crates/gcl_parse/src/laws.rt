@@ -5,6 +5,8 @@ ghost use Rattle.gcl_core.specs.declared.tokens.Token.{Token};
 ghost use Rattle.gcl_core.specs.declared.tokens.TokenKind.{TokenKind};
 ghost use Rattle.gcl_core.specs.Syntax.{Source};
 ghost use Rattle.gcl_core.specs.Bounds.{BlockCounted};
+ghost use Rattle.gcl_core.specs.Keeping.{IsChecked};
+ghost use Rattle.gcl_core.specs.Texts.{Spells};
 ghost use Rattle.gcl_core.specs.Words.{kinds_of};
 ghost use Rattle.gcl_core.specs.Derivation.{Derives};
 ghost use Rattle.gcl_core.specs.Written.{IsWritten};
@@ -33,6 +35,11 @@ pub fn one_program()
         → Derives text tokens p at → Derives text tokens q places → (q ≡ p) × (places ≡ at) }
     ensures written { (text : List ℕ) (tokens : List Token) (p : Source) (at : List ℕ) → Derives text tokens p at → IsWritten p }
     ensures arms { (text : List ℕ) (tokens : List Token) (p : Source) (at : List ℕ) → Derives text tokens p at → BlockCounted p.body }
+{}
+
+/// The program that a text spells is a checked program.
+pub fn spelled_programs_are_checked()
+    ensures { (text : List ℕ) (p : Source) → Spells text p → IsChecked p }
 {}
 
 /// Each list of bytes is read in exactly one way. As it is written, it has one program, with the places of its statements, or is

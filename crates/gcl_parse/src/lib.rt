@@ -16,6 +16,8 @@ mod tests;
 mod wording;
 
 pub use error::ParseError;
-pub use laws::{kinds_decide, one_program, one_reading, program_or_refused};
+pub use laws::{
+    kinds_decide, one_program, one_reading, program_or_refused, spelled_programs_are_checked,
+};
 pub use offsets::Places;
 pub use parsing::{Parsed, parse};

@@ -1,0 +1,23 @@
+// What `sample` says, beside what its program states.
+
+ghost use Rattle.std.specs.Prelude.{ℕ, List};
+ghost use Rattle.gcl_core.specs.declared.answers.Limits.{Limits};
+ghost use Rattle.gcl_core.specs.Syntax.{Source};
+ghost use Rattle.gcl_core.specs.Texts.{Spells};
+ghost use Rattle.zar_cli.specs.Samples.{SamplesExactly};
+
+use gcl_parse::spelled_programs_are_checked;
+use weighing_law::{limits_cost_what_they_weigh, runs_weigh_exactly, strings_are_counted};
+
+/// It does nothing: its clause joins what `sample` says with what its program states, for every text that spells a program, and all
+/// limits. Over files that hold the text and some bits, `sample` says how the program's run on the bits ends. The strings of bits on
+/// which it ends in an outcome weigh exactly the fraction that the program states under these limits, and so many of the strings of a
+/// length end in it. What the limits of attempts and of rounds cost is no more than they weigh.
+pub fn zar_samples_exactly()
+    ensures { (text : List ℕ) (p : Source) (l : Limits) → Spells text p → SamplesExactly text p l }
+{
+    spelled_programs_are_checked();
+    runs_weigh_exactly();
+    strings_are_counted();
+    limits_cost_what_they_weigh();
+}
