@@ -1,12 +1,12 @@
 -- The first refusal of statements in a row.
-use Rattle.std.proofs.Common.{◌≡◌, ◌∙◌, ℕ, ◌+◌, ◌≤◌, Bool, false, nat_lt, if◌then◌else◌, List, [], ◌∷◌, ◌++◌, map, length, Option, Some, None, refl, sym, ap, arith, length-append}
+use Rattle.std.proofs.Common.{◌≡◌, ◌∙◌, ℕ, ◌+◌, ◌≤◌, Bool, false, nat_lt, if◌then◌else◌, List, [], ◌∷◌, ◌++◌, map, length, Option, Some, None, refl, sym, ap, arith}
 use Rattle.std.proofs.lemmas.Bool.Decides.{nat_tests}
 use Rattle.std.proofs.lemmas.List.{length-map, map-append}
 use Rattle.gcl_core.specs.declared.kinds.Kind.TheVariants.{Number}
 use Rattle.gcl_core.specs.Acceptance.{Flaw, Refusal, too_many_names, expression_flaw, statement_flaw, first_refusal, flaws_of, refusal_of}
-use Rattle.gcl_core.proofs.Listed.{listed_one, listed_all}
-use Rattle.gcl_core.specs.Listing.{statement_listed, listed, count_one, count_all}
-use Rattle.gcl_core.specs.Syntax.{Statement, skip, assign, branch, loop, choice, uniform, observe, Statements, done, ◌▸◌, Source}
+use Rattle.gcl_core.proofs.Listed.{listed_all}
+use Rattle.gcl_core.specs.Listing.{listed, count_all}
+use Rattle.gcl_core.specs.Syntax.{Statement, Statements, Source}
 use Rattle.gcl_core.specs.Targets.{sets}
 
 -- ---- flaws, and then others
@@ -69,13 +69,10 @@ module _ (flaw_of : Statement → Option Flaw) where
       let q = listed_all a in
       statements_after (n + 1) m (listed a) (listed c) none (omega arith) ∙ behind_head n (flaw_of s) (map flaw_of (listed a ++ listed c)) head
 
-  -- ---- the next statement of a block
-  pub next_refused : (n : ℕ) (r : Refusal) (rest b : Statements) (s : Statement) → rest ≡ s ▸ b → Some r ≡ first_refusal n (map flaw_of (statement_listed s)) →
-      Some r ≡ first_refusal n (map flaw_of (listed rest))
-  next_refused n r rest b s is refused = statements_stay n r (statement_listed s) (listed b) refused ∙ sym (ap (λ x. first_refusal n (map flaw_of (listed x))) is)
+  -- ---- the statements of a part, and then others
+  pub part_refused : (n : ℕ) (r : Refusal) (whole xs ys : List Statement) → whole ≡ xs ++ ys → Some r ≡ first_refusal n (map flaw_of xs) → Some r ≡ first_refusal n (map flaw_of whole)
+  part_refused n r whole xs ys is refused = statements_stay n r xs ys refused ∙ sym (ap (λ l. first_refusal n (map flaw_of l)) is)
 
-  pub rest_decides : (n m : ℕ) (rest b : Statements) (s : Statement) → rest ≡ s ▸ b → None ≡ first_refusal n (map flaw_of (statement_listed s)) → m ≡ n + count_one s →
-      first_refusal m (map flaw_of (listed b)) ≡ first_refusal n (map flaw_of (listed rest))
-  rest_decides n m rest b s is none e =
-      let q = listed_one s in
-      statements_after n m (statement_listed s) (listed b) none (omega arith) ∙ sym (ap (λ x. first_refusal n (map flaw_of (listed x))) is)
+  pub rest_decides : (n m : ℕ) (whole xs ys : List Statement) → whole ≡ xs ++ ys → None ≡ first_refusal n (map flaw_of xs) → m ≡ n + length xs →
+      first_refusal m (map flaw_of ys) ≡ first_refusal n (map flaw_of whole)
+  rest_decides n m whole xs ys is none e = statements_after n m xs ys none e ∙ sym (ap (λ l. first_refusal n (map flaw_of l)) is)

@@ -15,13 +15,14 @@ pub enum CheckError {
     /// An expression reads a name that no statement sets.
     #[error("unknown name in statement {stmt}")]
     UnknownName { stmt: u32 },
-    /// A weight's denominator is 0.
+    /// A weight's denominator is 0, or all parts of a choice among several are.
     #[error("zero denominator in statement {stmt}")]
     ZeroDenominator { stmt: u32 },
     /// A weight's numerator is above its denominator.
     #[error("weight above one in statement {stmt}")]
     WeightAboveOne { stmt: u32 },
-    /// A weight's denominator in lowest terms is above `GREATEST_DENOMINATOR`.
+    /// A weight's denominator in lowest terms, or the sum of the parts of a choice among several in lowest terms, is above
+    /// `GREATEST_DENOMINATOR`.
     #[error("weight too fine in statement {stmt}")]
     TooFine { stmt: u32 },
 }

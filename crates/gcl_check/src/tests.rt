@@ -1,14 +1,14 @@
 // The refusals, on programs over the names x and y.
 
 ghost use Rattle.std.specs.Prelude.{◌≡◌, ◌-◌, ◌^◌, ◌<◌, length, IfOk};
-ghost use Rattle.gcl_core.specs.Bounds.{BlockBelow};
+ghost use Rattle.gcl_core.specs.Bounds.{BlockBelow, BlockCounted};
 ghost use Rattle.gcl_core.specs.Listing.{count_all};
-ghost use Rattle.gcl_core.specs.Syntax.{done, ◌▸◌};
+ghost use Rattle.gcl_core.specs.Syntax.{choice_among, done, ◌▸◌, no_arm, arm};
 ghost use Rattle.gcl_core.specs.Value.{Reads};
 ghost use Rattle.gcl_core.specs.Views.{expression_of, statement_of, statements_of};
 
 use crate::{CheckError, check};
-use gcl_core::{BinOp, Block, Checked, Expr, Names, Program, Stmt, Weight};
+use gcl_core::{Arms, BinOp, Block, Checked, Expr, Names, Program, Stmt, Weight};
 use std::alloc::{AllocError, Global};
 use std::test::Fail;
 
@@ -41,6 +41,22 @@ fn two(alloc: Global, first: Stmt, second: Stmt) -> Result<Block, AllocError>
     Ok(Block { stmts })
 }
 
+// A choice among three arms with these parts, the last of which is empty.
+#[tactic(auto, using(gcl_core::proofs::ViewLemmas::views))]
+fn choose(
+    alloc: Global,
+    parts: (u64, u64, u64),
+    first: Block,
+    second: Block,
+) -> Result<Stmt, AllocError>
+    ensures { IfOk result (λ s. statement_of s ≡ choice_among (arm parts.0 (statements_of first) (arm parts.1 (statements_of second) (arm parts.2 done no_arm)))) }
+{
+    let (a, b, c) = parts;
+    let last = none(alloc);
+    let arms = vec![in alloc; (a, first), (b, second), (c, last)]?;
+    Ok(Stmt::Choose(Arms { arms }))
+}
+
 fn checked(
     alloc: Global,
     body: Block,
@@ -49,6 +65,7 @@ fn checked(
     requires body { BlockBelow 2 (statements_of body) }
     requires value { Reads (expression_of value) 2 }
     requires count { count_all (statements_of body) < 2 ^ 32 - 1 }
+    requires arms { BlockCounted (statements_of body) }
 {
     let mut names = Names::new(alloc);
     names.add(b"x")?;
@@ -98,6 +115,81 @@ fn weights(rt: HostRuntime) -> Result<(), Fail> {
             want
         );
     }
+    Ok(())
+}
+
+// The parts of the second statement.
+fn second_parts(program: &Program) -> Option<(u64, u64, u64)> {
+    match program.body.stmts.as_slice() {
+        [_, Stmt::Choose(arms)] => match arms.arms.as_slice() {
+            [(a, _), (b, _), (c, _)] => Some((*a, *b, *c)),
+            _ => None,
+        },
+        _ => None,
+    }
+}
+
+#[test]
+#[tactic(auto, using(gcl_core::proofs::ViewLemmas::views))]
+fn parts(rt: HostRuntime) -> Result<(), Fail> {
+    let alloc = rt.alloc();
+    let table = [
+        ((3, 2, 1), Ok(Some((3, 2, 1)))),
+        ((6, 0, 4), Ok(Some((3, 0, 2)))),
+        ((0, 5, 0), Ok(Some((0, 1, 0)))),
+        ((u64::MAX, u64::MAX, u64::MAX), Ok(Some((1, 1, 1)))),
+        ((FINEST - 1, 1, 0), Ok(Some((FINEST - 1, 1, 0)))),
+        ((2, 2 * FINEST - 2, 0), Ok(Some((1, FINEST - 1, 0)))),
+        ((0, 0, 0), Err(CheckError::ZeroDenominator { stmt: 1 })),
+        ((FINEST, 1, 0), Err(CheckError::TooFine { stmt: 1 })),
+        (
+            (u64::MAX, u64::MAX - 1, 0),
+            Err(CheckError::TooFine { stmt: 1 }),
+        ),
+    ];
+    for (parts, want) in table {
+        let body = two(
+            alloc,
+            Stmt::Skip,
+            choose(alloc, parts, none(alloc), none(alloc))?,
+        )?;
+        let answer = checked(alloc, body, Expr::Num(0))?;
+        assert_eq!(rt; answer.map(|checked| second_parts(checked.program())), want);
+    }
+    Ok(())
+}
+
+// The statements of the arms are numbered on, and what an arm sets is known.
+#[test]
+#[tactic(auto, using(gcl_core::proofs::ViewLemmas::views))]
+fn arms(rt: HostRuntime) -> Result<(), Fail> {
+    let alloc = rt.alloc();
+
+    // choose { 1: skip; skip; | 2: x := y; | 3: } with the result x
+    let first = two(alloc, Stmt::Skip, Stmt::Skip)?;
+    let second = one(alloc, Stmt::Set(X, Expr::Var(Y)))?;
+    let body = one(alloc, choose(alloc, (1, 2, 3), first, second)?)?;
+    assert_eq!(rt;
+        checked(alloc, body, Expr::Var(X))?.err(),
+        Some(CheckError::UnknownName { stmt: 3 })
+    );
+
+    // choose { 1: skip; skip; | 2: y := 1; | 3: } x := true;
+    let first = two(alloc, Stmt::Skip, Stmt::Skip)?;
+    let second = one(alloc, Stmt::Set(Y, Expr::Num(1)))?;
+    let chosen = choose(alloc, (1, 2, 3), first, second)?;
+    let body = two(alloc, chosen, Stmt::Set(X, Expr::Truth(true)))?;
+    assert_eq!(rt;
+        checked(alloc, body, Expr::Var(X))?.err(),
+        Some(CheckError::KindMismatch { stmt: 4 })
+    );
+
+    // choose { 1: skip; skip; | 2: y := 1; | 3: } x := y;
+    let first = two(alloc, Stmt::Skip, Stmt::Skip)?;
+    let second = one(alloc, Stmt::Set(Y, Expr::Num(1)))?;
+    let chosen = choose(alloc, (1, 2, 3), first, second)?;
+    let body = two(alloc, chosen, Stmt::Set(X, Expr::Var(Y)))?;
+    assert_eq!(rt; checked(alloc, body, Expr::Var(X))?.err(), None);
     Ok(())
 }
 
