@@ -1,5 +1,5 @@
 -- What a fold asks of a program, and statements as their views.
-use Rattle.std.proofs.Common.{◌≡◌, ℕ, suc, ◌+◌, ◌<◌, List, [], ◌∷◌, Option, length, drop, get_or, drop-cons, refl, sym, ap, ◌∙◌, subst, arith}
+use Rattle.std.proofs.Common.{◌≡◌, ℕ, suc, ◌+◌, ◌≤◌, ◌<◌, List, [], ◌∷◌, Option, length, drop, get_or, drop-cons, refl, sym, ap, ◌∙◌, subst, arith}
 use Rattle.gcl_core.specs.declared.syntax.Stmt.{Stmt}
 use Rattle.gcl_core.specs.Views.{statement_of, list_of}
 use Rattle.gcl_core.specs.Syntax.{Statement, Statements, ◌▸◌}
@@ -43,3 +43,6 @@ below_list m xs ys p h = subst (λ z. BlockBelow m (list_of z)) (sym p) h
 pub empty_of : (es : Entries) → length es ≡ 0 → es ≡ []
 empty_of [] e = refl
 empty_of (d ∷ es) e = absurd (omega arith)
+
+pub some_states : (es : Entries) → 1 ≤ length es → es ≡ [] → ⊥
+some_states es h e = let k = ap length e in omega (arith, h, k)

@@ -31,3 +31,6 @@ pub mod Prices
 pub mod RoundBits
 pub mod MeterFolds
 pub mod MeterLoops
+pub mod ArmFolds
+pub mod ArmMeters
+pub mod ArmsLeft

@@ -21,7 +21,7 @@ use Rattle.mass_fold.specs.declared.meter.Meter.{Meter}
 use Rattle.mass_fold.specs.Amounts.{Entries, held}
 use Rattle.mass_fold.specs.Steps.{StepsTo}
 use Rattle.mass_fold.specs.Fold.{Stands, FoldsTo, FoldsOne, SidesTo}
-use Rattle.mass_fold.specs.Metering.{Counted, IsPriced, Priced, price, bound_price, IsValuePriced, IsBoundPriced, CountsAll, Meters, MetersOne}
+use Rattle.mass_fold.specs.Metering.{Counted, IsPriced, Priced, price, bound_price, IsValuePriced, IsBoundPriced, CountsAll, CountsDraws, Meters, MetersOne}
 use Rattle.mass_fold.proofs.Folds.{first_of, looked_first, looked_second}
 use Rattle.mass_fold.proofs.Meters.{counted_none, counted_then, counted_as}
 use Rattle.mass_fold.proofs.Shares.{EachIn, each_state}
@@ -44,12 +44,12 @@ each_priced : (r : Option ℕ) (M b : ℕ) (ends : List ℕ) (I : Table) → las
 each_priced r M b ends [] e k = tt
 each_priced r M b ends (d ∷ I) e k = (subst (IsPriced r M) e k.0, each_priced r M b ends I e k.1)
 
--- a choice
-pub choice_counts : (r : Option ℕ) (p : Weight) (es : Entries) (m m' : Meter) (N M : ℕ) (I : Table) → 0 < N → 0 < M → Stands N es I → Priced r M (drawn_each (choice_ends p) I) →
-    CountsAll (λ M s. IsPriced r M p.den) (λ M s. price r M (choice_ends p)) es m m' → Counted (N * M) (amount N (price r M) (drawn_each (choice_ends p) I)) m m'
-choice_counts r p es m m' N M I Np Mp s k x =
-    counted_as (N * M) _ _ m m' (s.same (λ s. price r M (choice_ends p)) ∙ sym (amount_drawn_each N (price r M) (choice_ends p) I))
-    (x N M Np Mp s.kept (each_state (λ s. IsPriced r M p.den) N es I Np s (each_priced r M p.den (choice_ends p) I refl k)))
+-- a draw with the same ends for each entry
+pub draw_counts : (r : Option ℕ) (ends : List ℕ) (b : ℕ) → last_end ends ≡ b → (es : Entries) (m m' : Meter) (N M : ℕ) (I : Table) → 0 < N → 0 < M → Stands N es I → Priced r M (drawn_each ends I) →
+    CountsDraws r b ends es m m' → Counted (N * M) (amount N (price r M) (drawn_each ends I)) m m'
+draw_counts r ends b l es m m' N M I Np Mp s k x =
+    counted_as (N * M) _ _ m m' (s.same (λ s. price r M ends) ∙ sym (amount_drawn_each N (price r M) ends I))
+    (x N M Np Mp s.kept (each_state (λ s. IsPriced r M b) N es I Np s (each_priced r M b ends I l k)))
 
 bound_priced : (r : Option ℕ) (M : ℕ) (v : State → Value) (I : Table) → Priced r M (drawn_bound v I) → EachIn (IsBoundPriced v r M) I
 bound_priced r M v [] k = tt
@@ -131,7 +131,7 @@ module _ (n : ℕ) (r : Option ℕ) where
       (z N M L C ((J ++ faults v I) ++ fa.ended) Np Mp q.0 u.1 (both_second N L (faults v I) fa fc w.inside) (priced_second r M (block_draws n r a A) (block_draws n r c C) pr))
 
   pub choice_meters : (p : Weight) (a c : Statements) (w : IsWeight p) (es : Entries) (E : Ended) (first second : Entries) (F : Ended) → SidesTo p r es E first second F → (ls : Entries) (G : Ended) (m mid now m' : Meter) →
-      CountsAll (λ M s. IsPriced r M p.den) (λ M s. price r M (choice_ends p)) es m mid → FoldsTo (block_flow n r a) first F ls G →
+      CountsDraws r p.den (choice_ends p) es m mid → FoldsTo (block_flow n r a) first F ls G →
       Meters r (block_flow n r a) (block_draws n r a) first F mid now → Meters r (block_flow n r c) (block_draws n r c) second G now m' → MetersOne r (statement_flow n r (choice p a c)) (statement_draws n r (choice p a c)) es E m m'
   choice_meters p a c w es E first second F d ls G m mid now m' h x y z N M L I J Np Mp s t wi pr =
       let A = choices.A n r p a c w es E I in
@@ -146,7 +146,7 @@ module _ (n : ℕ) (r : Option ℕ) where
       let D = drawn_each (choice_ends p) I in
       let rest = priced_second r M D (block_draws n r a A ++ block_draws n r c C) pr in
       both_counted N (N * M) (price r M) D (block_draws n r a A ++ block_draws n r c C) m mid m'
-      (choice_counts r p es m mid N M I Np Mp s (priced_first r M D (block_draws n r a A ++ block_draws n r c C) pr) h)
+      (draw_counts r (choice_ends p) p.den refl es m mid N M I Np Mp s (priced_first r M D (block_draws n r a A ++ block_draws n r c C) pr) h)
       (both_counted N (N * M) (price r M) (block_draws n r a A) (block_draws n r c C) mid now m'
       (y N M L A (J ++ Z) Np Mp q.0 q.2 wa (priced_first r M (block_draws n r a A) (block_draws n r c C) rest))
       (z N M L C ((J ++ Z) ++ fa.ended) Np Mp q.1 u.1 (both_second N L Z fa fc i) (priced_second r M (block_draws n r a A) (block_draws n r c C) rest)))

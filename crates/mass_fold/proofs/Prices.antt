@@ -1,8 +1,8 @@
 -- The draw of one state, and of each entry, on a meter.
-use Rattle.std.proofs.Common.{◌≡◌, ℕ, suc, ◌*◌, ◌≤◌, pos, [], ◌∷◌, Option, Ok, length, sym, ap, ◌∙◌, subst, arith}
-use Rattle.gcl_core.specs.declared.syntax.Weight.{Weight}
+use Rattle.std.proofs.Common.{◌≡◌, ℕ, suc, ◌*◌, ◌≤◌, pos, List, [], ◌∷◌, Option, Ok, length, sym, ap, ◌∙◌, subst, arith}
 use Rattle.gcl_core.specs.Value.{State, Value}
-use Rattle.gcl_core.specs.Blocks.{by_value, by_bound, choice_ends, uniform_ends}
+use Rattle.gcl_core.specs.Blocks.{by_value, by_bound, uniform_ends}
+use Rattle.gcl_core.specs.Draw.{last_end}
 use Rattle.gcl_core.specs.Fractions.{Fraction}
 use Rattle.gcl_core.specs.WeightedEnds.{class_weight}
 use Rattle.cost_law.specs.ExpectedBits.{attempt_bits}
@@ -14,26 +14,27 @@ use Rattle.mass_fold.specs.declared.meter.Meter.{Meter}
 use Rattle.mass_fold.specs.declared.meter.Meter.TheVariants.{Bits, TooWide}
 use Rattle.mass_fold.specs.Amounts.{Entries}
 use Rattle.mass_fold.specs.Steps.{PartsBlame}
-use Rattle.mass_fold.specs.Metering.{AddsBits, IsPriced, IsPrice, PriceBlames, price, bound_price, IsValuePriced, IsBoundPriced, CountsAll}
+use Rattle.mass_fold.specs.Metering.{AddsBits, IsPriced, IsPrice, PriceBlames, price, bound_price, IsValuePriced, IsBoundPriced, CountsAll, CountsDraws}
 use Rattle.mass_fold.proofs.Meters.{counted_as, counts_as, parts_wide, wide_here}
 
 -- the parts of a draw do not fit
 pub parts_blame : (undecided b : ℕ) (r : Option ℕ) (e : MassError) → e ≡ error_kind.TooWide → PartsBlame b r e → PriceBlames undecided b r
 parts_blame undecided b r e p x = parts_wide undecided b r (subst (λ e. PartsBlame b r e) p x)
 
--- ---- choices
-pub choice_wide : (p : Weight) (r : Option ℕ) (u : ℕ) (m : Meter) (sum : Fraction) (es : Entries) → u ≡ (attempt_bits (choice_ends p)).0 → 1 ≤ length es → m ≡ Bits sum → PriceBlames u p.den r →
-    CountsAll (λ M s. IsPriced r M p.den) (λ M s. price r M (choice_ends p)) es m TooWide
-choice_wide p r u m sum [] e some q x = absurd (omega arith)
-choice_wide p r u m sum (d ∷ es) e some q x =
-    subst (λ m. CountsAll (λ M s. IsPriced r M p.den) (λ M s. price r M (choice_ends p)) (d ∷ es) m TooWide) (sym q)
-    (wide_here u p.den r (λ M s. IsPriced r M p.den) (λ M s. price r M (choice_ends p)) d.0 d.1 sum es x (λ M k. (k, ap (λ u. u * whole M (class_weight p.den r 1)) (sym e))))
+-- ---- a draw with the same ends for each entry
+module _ (ends : List ℕ) (b : ℕ) (l : last_end ends ≡ b) (r : Option ℕ) (u : ℕ) (e : u ≡ (attempt_bits ends).0) where
+  bits_same : (M : ℕ) → price r M ends ≡ u * whole M (class_weight b r 1)
+  bits_same M = ap (λ u. u * whole M (class_weight (last_end ends) r 1)) (sym e) ∙ ap (λ b. u * whole M (class_weight b r 1)) l
 
-pub choice_adds : (p : Weight) (r : Option ℕ) (u : ℕ) (bits : Fraction) (es : Entries) (m m' : Meter) → u ≡ (attempt_bits (choice_ends p)).0 → IsPrice u p.den r bits → CountsAll (λ M s. Whole M bits) (λ M s. whole M bits) es m m' →
-    CountsAll (λ M s. IsPriced r M p.den) (λ M s. price r M (choice_ends p)) es m m'
-choice_adds p r u bits es m m' e i x =
-    counts_as (λ M s. IsPriced r M p.den) (λ M s. Whole M bits) (λ M s. price r M (choice_ends p)) (λ M s. whole M bits) es m m'
-    (λ M s Mp k. let w = i M Mp k in (w.0, w.1 ∙ ap (λ u. u * whole M (class_weight p.den r 1)) e)) x
+  pub draw_wide : (m : Meter) (sum : Fraction) (es : Entries) → 1 ≤ length es → m ≡ Bits sum → PriceBlames u b r → CountsDraws r b ends es m TooWide
+  draw_wide m sum [] some q x = absurd (omega arith)
+  draw_wide m sum (d ∷ es) some q x =
+      subst (λ m. CountsDraws r b ends (d ∷ es) m TooWide) (sym q)
+      (wide_here u b r (λ M s. IsPriced r M b) (λ M s. price r M ends) d.0 d.1 sum es x (λ M k. (k, bits_same M)))
+
+  pub draw_adds : (bits : Fraction) (es : Entries) (m m' : Meter) → IsPrice u b r bits → CountsAll (λ M s. Whole M bits) (λ M s. whole M bits) es m m' → CountsDraws r b ends es m m'
+  draw_adds bits es m m' i x =
+      counts_as (λ M s. IsPriced r M b) (λ M s. Whole M bits) (λ M s. price r M ends) (λ M s. whole M bits) es m m' (λ M s Mp k. let w = i M Mp k in (w.0, w.1 ∙ sym (bits_same M))) x
 
 -- ---- uniform draws
 module _ (v : State → Value) (r : Option ℕ) (s : State) where

@@ -25,8 +25,8 @@ use Rattle.mass_fold.specs.declared.ended.Gone.TheVariants as gone_kind
 use Rattle.mass_fold.specs.declared.ended.Ended.{Ended}
 use Rattle.mass_fold.specs.Amounts.{Entries, order}
 use Rattle.mass_fold.specs.Ended.{end_of, rows_of}
-use Rattle.mass_fold.specs.Steps.{StepsTo, StepBlames, EachState, Draws, DrawsTo, DrawBlames, IsParts, PartsBlame}
-use Rattle.mass_fold.specs.Fold.{Stands, FoldsTo, FoldBlames, Around, FoldsOne, OneBlames, WeighedBy, WeighBlamesBy, SidesWithin, SidesTo, SidesBlame}
+use Rattle.mass_fold.specs.Steps.{StepsTo, StepBlames, EachState, Draws, DrawsTo, DrawBlames, IsParts}
+use Rattle.mass_fold.specs.Fold.{Stands, FoldsTo, FoldBlames, Around, FoldsOne, OneBlames, UndecidedTo, UndecidedBlames, WeighedBy, WeighBlamesBy, SidesWithin, SidesTo, SidesBlame}
 use Rattle.mass_fold.proofs.Insertion.{whole_pos}
 use Rattle.mass_fold.proofs.Powers.{equal_whole, whole_at_most, product_equal}
 use Rattle.mass_fold.proofs.Shares.{scaled_stands}
@@ -114,67 +114,74 @@ module _ (part over w : Fraction) (count : ℕ) (es : Entries) (op : 0 < over.1)
             omega arith
 
 -- ---- both sides of a choice
-count_whole : (N b : ℕ) (r : Option ℕ) (a : ℕ) → 0 < b → Whole N (class_weight b r 1) → Whole N (class_weight b r a)
+pub count_whole : (N b : ℕ) (r : Option ℕ) (a : ℕ) → 0 < b → Whole N (class_weight b r 1) → Whole N (class_weight b r a)
 count_whole N b None a bp w = (whole_from N (a, b) (a * whole N (1, b)) bp (let e = w.exact in let z = ap (λ x. a * x) e in omega arith)).1
 count_whole N b (Some k) a bp w =
     let c = class_weight b (Some k) 1 in
     let S = each_part b (Some k) in
     (whole_from N (class_weight b (Some k) a) (a * whole N c) (class_pos b (Some k) a bp) (let e : c.1 * whole N c ≡ 1 * S * N = w.exact in let z = ap (λ x. a * x) e in omega arith)).1
 
-count_small : (b : ℕ) (r : Option ℕ) (a : ℕ) → a ≤ b → (class_weight b r a).0 ≤ (class_weight b r a).1
+pub count_small : (b : ℕ) (r : Option ℕ) (a : ℕ) → a ≤ b → (class_weight b r a).0 ≤ (class_weight b r a).1
 count_small b None a h = h
 count_small b (Some k) a h = let t = parts_add_up b (Some k) in let m = mul-le-mul_left (each_part b (Some k)) h in omega arith
 
-count_equal : (b : ℕ) (r : Option ℕ) (a : ℕ) (part : Fraction) → IsEqual part (class_weight b r 1) → part.0 * a * (class_weight b r a).1 ≡ (class_weight b r a).0 * part.1
+pub count_equal : (b : ℕ) (r : Option ℕ) (a : ℕ) (part : Fraction) → IsEqual part (class_weight b r 1) → part.0 * a * (class_weight b r a).1 ≡ (class_weight b r a).0 * part.1
 count_equal b None a part e = let z = ap (λ x. a * x) e in omega arith
 count_equal b (Some k) a part e = let z = ap (λ x. a * x) e in omega arith
 
-module _ (p : Weight) (r : Option ℕ) (w : IsWeight p) (part rest : Fraction) (is : IsParts p.den r part rest) (es : Entries) (E : Ended) where
+-- ---- what no attempt decides
+module _ (b : ℕ) (r : Option ℕ) (part rest : Fraction) (is : IsParts b r part rest) (es : Entries) (E : Ended) (o : IsStrictlySortedBy order (keys_of es)) where
+  pub undecided_refused : (error : MassError) → DrawBlames (λ s. rest) (λ s. rest) none_kept (all_stopped (end_of gone_kind.Attempts)) es E error → UndecidedBlames b r es E error
+  undecided_refused error d N L I J Np one none wi wz s t m =
+      let u = no_class_weight b r in
+      let x = scaled_stands N u rest es I Np (no_class_pos b r) is.rest_positive is.rest_is o wi wz s in
+      let wr = (equal_whole N rest u is.rest_positive is.rest_is none).1 in
+      d N L [] Np s.kept t.kept x.0 x.0 (same_draws N rest es wr) (λ G. let z = shared_none N (λ s. rest) es in omega arith) (omega arith) (omega arith)
+      (let y = x.1 (λ s. 1) in let z = t.same (λ x. 1) in omega arith)
+
+  pub undecided_to : (F : Ended) → DrawsTo (λ s. rest) (λ s. rest) none_kept (all_stopped (end_of gone_kind.Attempts)) es E [] F → UndecidedTo b r es E F
+  undecided_to F d N I J Np wi wz s t =
+      let u = no_class_weight b r in
+      let x = scaled_stands N u rest es I Np (no_class_pos b r) is.rest_positive is.rest_is o wi wz s in
+      let y = d N Np s.kept t.kept x.0 x.0 in
+      record {
+        kept = y.ended;
+        same = λ G. let q = y.stopping G in let z = x.1 (all_stopped (end_of gone_kind.Attempts) G) in let k = t.same G in
+            let b = amount_append N G J (all_end (limit limit_kind.Attempts) (scaled u I)) in let e = amount_all_end N G (limit limit_kind.Attempts) (scaled u I) in omega arith;
+      }
+
+-- ---- both sides
+module _ (p : Weight) (r : Option ℕ) (w : IsWeight p) (es : Entries) (E : Ended) where
   bp : 0 < p.den
   bp = let z = w.positive in omega arith
 
-  pub parts_refused : (error : MassError) → PartsBlame p.den r error → SidesBlame p r es E error
-  parts_refused error d N L I J Np s t pr h m = d N L Np pr.one pr.none
-
-  pub first_refused : (error : MassError) → WeighBlamesBy part p.num es error → SidesBlame p r es E error
-  first_refused error d N L I J Np s t pr h m =
+  pub none_refused : (error : MassError) → UndecidedBlames p.den r es E error → SidesBlame p r es E error
+  none_refused error d N L I J Np s t pr h m =
       let k = choice_kept N p.num p.den r I w.at_most_one bp h.before h.first h.second h.third in
-      d (class_weight p.den r p.num) (class_pos p.den r p.num bp) (count_small p.den r p.num w.at_most_one) (count_equal p.den r p.num part is.part_is) N L I Np (count_whole N p.den r p.num bp pr.one) h.before h.first s (omega arith) h.few_first
+      d N L I J Np pr.one pr.none h.before h.third s t (omega arith)
 
-  module _ (first : Entries) (a : WeighedBy part p.num es first) where
+  module _ (part : Fraction) (is : IsEqual part (class_weight p.den r 1)) where
+    pub first_refused : (error : MassError) → WeighBlamesBy part p.num es error → SidesBlame p r es E error
+    first_refused error d N L I J Np s t pr h m =
+        let k = choice_kept N p.num p.den r I w.at_most_one bp h.before h.first h.second h.third in
+        d (class_weight p.den r p.num) (class_pos p.den r p.num bp) (count_small p.den r p.num w.at_most_one) (count_equal p.den r p.num part is) N L I Np (count_whole N p.den r p.num bp pr.one) h.before h.first s (omega arith) h.few_first
+
     pub second_refused : (error : MassError) → WeighBlamesBy part (p.den - p.num) es error → SidesBlame p r es E error
     second_refused error d N L I J Np s t pr h m =
         let c = p.den - p.num in
         let k = choice_kept N p.num p.den r I w.at_most_one bp h.before h.first h.second h.third in
-        d (class_weight p.den r c) (class_pos p.den r c bp) (count_small p.den r c (omega arith)) (count_equal p.den r c part is.part_is) N L I Np (count_whole N p.den r c bp pr.one) h.before h.second s (omega arith) h.few_second
+        d (class_weight p.den r c) (class_pos p.den r c bp) (count_small p.den r c (omega arith)) (count_equal p.den r c part is) N L I Np (count_whole N p.den r c bp pr.one) h.before h.second s (omega arith) h.few_second
 
-    module _ (second : Entries) (c : WeighedBy part (p.den - p.num) es second) (o : IsStrictlySortedBy order (keys_of es)) where
-      pub third_refused : (error : MassError) → DrawBlames (λ s. rest) (λ s. rest) none_kept (all_stopped (end_of gone_kind.Attempts)) es E error → SidesBlame p r es E error
-      third_refused error d N L I J Np s t pr h m =
-          let u = no_class_weight p.den r in
-          let x = scaled_stands N u rest es I Np (no_class_pos p.den r) is.rest_positive is.rest_is o h.before h.third s in
-          let wr = (equal_whole N rest u is.rest_positive is.rest_is pr.none).1 in
-          let k = choice_kept N p.num p.den r I w.at_most_one bp h.before h.first h.second h.third in
-          d N L [] Np s.kept t.kept x.0 x.0 (same_draws N rest es wr) (λ G. let z = shared_none N (λ s. rest) es in omega arith) (omega arith) (omega arith)
-          (let y = x.1 (λ s. 1) in let z = t.same (λ x. 1) in omega arith)
-
-      pub sides_to : (F : Ended) → DrawsTo (λ s. rest) (λ s. rest) none_kept (all_stopped (end_of gone_kind.Attempts)) es E [] F → SidesTo p r es E first second F
-      sides_to F d N L I J Np s t h =
-          let u = no_class_weight p.den r in
-          let x = scaled_stands N u rest es I Np (no_class_pos p.den r) is.rest_positive is.rest_is o h.before h.third s in
-          let y = d N Np s.kept t.kept x.0 x.0 in
-          let i = p.den - p.num in (
-            a (class_weight p.den r p.num) (class_pos p.den r p.num bp) (count_equal p.den r p.num part is.part_is) N I Np h.before h.first s,
-            c (class_weight p.den r i) (class_pos p.den r i bp) (count_equal p.den r i part is.part_is) N I Np h.before h.second s,
-            record {
-              kept = y.ended;
-              same = λ G. let q = y.stopping G in let z = x.1 (all_stopped (end_of gone_kind.Attempts) G) in let k = t.same G in
-                  let b = amount_append N G J (all_end (limit limit_kind.Attempts) (scaled u I)) in let e = amount_all_end N G (limit limit_kind.Attempts) (scaled u I) in omega arith;
-            },
-          )
+    pub sides_to : (F : Ended) → UndecidedTo p.den r es E F → (first second : Entries) → WeighedBy part p.num es first → WeighedBy part (p.den - p.num) es second → SidesTo p r es E first second F
+    sides_to F d first second a c N L I J Np s t h =
+        let i = p.den - p.num in (
+          a (class_weight p.den r p.num) (class_pos p.den r p.num bp) (count_equal p.den r p.num part is) N I Np h.before h.first s,
+          c (class_weight p.den r i) (class_pos p.den r i bp) (count_equal p.den r i part is) N I Np h.before h.second s,
+          d N I J Np h.before h.third s t,
+        )
 
 -- ---- the whole choice
-draws_head : (N : ℕ) (es : Entries) (I : Table) (ws : List Fraction) → 0 < N → Stands N es I → (es ≡ [] → ⊥) → AllWhole N (draws_each ws I) → AllWhole N ws
+pub draws_head : (N : ℕ) (es : Entries) (I : Table) (ws : List Fraction) → 0 < N → Stands N es I → (es ≡ [] → ⊥) → AllWhole N (draws_each ws I) → AllWhole N ws
 draws_head N [] I ws Np s h w = absurd (h refl)
 draws_head N (d ∷ es) [] ws Np s h w = absurd (let z = s.same (λ s. 1) in let y = whole_pos N d.1 Np s.kept.0 s.kept.1 in omega arith)
 draws_head N (d ∷ es) (e ∷ I) ws Np s h w = draws_first N ws (draws_each ws I) w

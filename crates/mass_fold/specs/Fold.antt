@@ -74,6 +74,19 @@ pub record LoopAt (flow : ℕ → Table → Flow) (n t : ℕ) (now exits : Entri
 abbrev pub LoopsOn : (ℕ → Table → Flow) → ℕ → ℕ → Entries → Ended → Entries → Entries → Ended → Type 0
 LoopsOn flow n t es E now exits F = (N L : ℕ) (I : Table) (J : Weighted End) → 0 < N → Stands N es I → EndStands N E J → Within N L (flow n I) → LoopAt flow n t now exits F N L I J
 
+-- ---- what no attempt of a draw with b numbers decides
+
+abbrev pub UndecidedTo : ℕ → Option ℕ → Entries → Ended → Ended → Type 0
+UndecidedTo b r es E F = (N : ℕ) (I : Table) (J : Weighted End) → 0 < N → Wholes N I → Wholes N (scaled (no_class_weight b r) I) → Stands N es I → EndStands N E J → EndStands N F (J ++ all_end (limit Attempts) (scaled (no_class_weight b r) I))
+
+abbrev pub UndecidedBlames : ℕ → Option ℕ → Entries → Ended → MassError → Type 0
+UndecidedBlames b r es E e = (N L : ℕ) (I : Table) (J : Weighted End) → 0 < N → Whole N (class_weight b r 1) → Whole N (no_class_weight b r) → Wholes N I → Wholes N (scaled (no_class_weight b r) I) → Stands N es I → EndStands N E J
+    → weight N (scaled (no_class_weight b r) I) + weight N J ≤ N → Blames e N L
+
+-- a fact of whatever had ended before
+abbrev pub AfterUndecided : ℕ → Option ℕ → Entries → Ended → (Ended → Type 0) → Type 0
+AfterUndecided b r es F Fact = (E : Ended) → UndecidedTo b r es E F → Fact E
+
 -- ---- both sides of a choice, and what no attempt decides
 
 pub record SidesWithin (N L : ℕ) (p : Weight) (r : Option ℕ) (I : Table) : Type 0 where

@@ -80,6 +80,10 @@ PriceBlames undecided b r = (M C : ℕ) → 0 < M → 1 ≤ C → IsPriced r M b
 abbrev pub CountsAll : (ℕ → State → Type 0) → (ℕ → State → ℕ) → Entries → Meter → Meter → Type 0
 CountsAll Fact p es m m' = (N M : ℕ) → 0 < N → 0 < M → Held N es → EachState (Fact M) es → Counted (N * M) (held N (p M) es) m m'
 
+-- the same draw of each entry, with b numbers
+abbrev pub CountsDraws : Option ℕ → ℕ → List ℕ → Entries → Meter → Meter → Type 0
+CountsDraws r b ends es m m' = CountsAll (λ M s. IsPriced r M b) (λ M s. price r M ends) es m m'
+
 -- whatever the rest counts, all do
 abbrev pub CountsRest : (ℕ → State → Type 0) → (ℕ → State → ℕ) → Entries → Meter → Meter → Entries → Type 0
 CountsRest Fact p es m now rest = (m' : Meter) → CountsAll Fact p rest now m' → CountsAll Fact p es m m'

@@ -1,22 +1,30 @@
 // A table through a block.
 
-ghost use Rattle.std.specs.Prelude.{◌≡◌, ◌<◌, ◌≤◌, IfOk, IfErr, IfSome};
-ghost use Rattle.gcl_core.specs.Bounds.{StatementIsWeighed, BlockIsWeighed, StatementBelow, BlockBelow};
-ghost use Rattle.gcl_core.specs.Views.{expression_of, statement_of, statements_of};
+ghost use Rattle.std.specs.Prelude.{◌≡◌, ◌<◌, ◌≤◌, length, IfOk, IfErr, IfSome};
+ghost use Rattle.std.specs.List.{sum};
+ghost use Rattle.frac128.specs.Fraction.{IsEqual};
+ghost use Rattle.gcl_core.specs.Arms.{parts_of};
+ghost use Rattle.gcl_core.specs.Bounds.{StatementIsWeighed, BlockIsWeighed, ArmsAreWeighed, StatementBelow, BlockBelow, ArmsBelow};
+ghost use Rattle.gcl_core.specs.Parts.{AreParts, partial_sums};
+ghost use Rattle.gcl_core.specs.Syntax.{choice_among};
+ghost use Rattle.gcl_core.specs.Views.{expression_of, statement_of, statements_of, list_of_arms};
 ghost use Rattle.gcl_core.specs.Value.{value_of, Reads};
+ghost use Rattle.gcl_core.specs.WeightedEnds.{class_weight};
 ghost use Rattle.mass_tables.specs.Tables.{statement_flow, block_flow, loop_flow};
 ghost use Rattle.mass_tables.specs.Reached.{statement_draws, block_draws, loop_draws};
-ghost use Rattle.mass_fold.specs.Fold.{FoldsTo, FoldBlames, FoldsOne, OneBlames};
-ghost use Rattle.mass_fold.specs.Metering.{Meters, MetersOne};
+ghost use Rattle.mass_fold.specs.declared.meter.Meter.{Meter};
+ghost use Rattle.mass_fold.specs.Fold.{FoldsTo, FoldBlames, FoldsOne, OneBlames, AfterUndecided};
+ghost use Rattle.mass_fold.specs.Metering.{CountsDraws, Meters, MetersOne};
 
-use crate::choosing::sides;
+use crate::choosing::{sides, total, undecided, weighed};
 use crate::draws::draw;
 use crate::ended::{Ended, Gone};
 use crate::error::MassError;
-use crate::meter::{Meter, count_choice, count_uniform};
+use crate::meter::{Meter, count_arms, count_choice, count_uniform};
 use crate::steps::{assign, end_all, merge, split};
 use crate::table::Table;
-use gcl_core::{Block, Expr, Stmt};
+use frac128::Frac;
+use gcl_core::{Arms, Block, Expr, Stmt};
 use std::alloc::Global;
 
 /// The table after a block; what ended is added, and the bits of the draws that are reached.
@@ -131,7 +139,60 @@ fn fold_stmt(
                 Err(error) => Err(error),
             }
         }
+        Stmt::Choose(arms) => {
+            *meter = count_arms(*meter, arms, attempts, &table);
+            match undecided(total(arms), attempts, &table, ended) {
+                Ok(part) => {
+                    match fold_arms(alloc, arms, &part, turns, attempts, &table, ended, meter) {
+                        Ok(next) => Ok(next),
+                        Err(error) => Err(error),
+                    }
+                }
+                Err(error) => Err(error),
+            }
+        }
     }
+}
+
+// The arms of a choice among several, one after the other, each by its part. What no attempt decides has ended before.
+#[cycle(fold)]
+fn fold_arms(
+    alloc: Global,
+    arms: &Arms,
+    part: &Frac,
+    turns: u64,
+    attempts: Option<u64>,
+    table: &Table,
+    ended: &mut Ended,
+    meter: &mut Meter,
+) -> Result<Table, MassError>
+    requires below { ArmsBelow table.now.vars (list_of_arms arms.now) }
+    requires parts { AreParts (parts_of (list_of_arms arms.now)) }
+    requires weights { ArmsAreWeighed (list_of_arms arms.now) }
+    requires above { 1 ≤ part.now.0 }
+    requires equal { IsEqual part.now (class_weight (sum (parts_of (list_of_arms arms.now))) attempts 1) }
+    requires some { IfSome attempts (λ r. 1 ≤ r) }
+    requires any { 1 ≤ length table.now.states.entries }
+    ensures ok { IfOk result (λ t. AfterUndecided (sum (parts_of (list_of_arms arms.now))) attempts table.now.states.entries ended.old (λ E. FoldsOne (statement_flow turns attempts (choice_among (list_of_arms arms.now))) table.now.states.entries E t.states.entries ended.new)) }
+    ensures bits { IfOk result (λ t. AfterUndecided (sum (parts_of (list_of_arms arms.now))) attempts table.now.states.entries ended.old (λ E. (m : Meter) → CountsDraws attempts (sum (parts_of (list_of_arms arms.now))) (partial_sums (parts_of (list_of_arms arms.now))) table.now.states.entries m meter.old → MetersOne attempts (statement_flow turns attempts (choice_among (list_of_arms arms.now))) (statement_draws turns attempts (choice_among (list_of_arms arms.now))) table.now.states.entries E m meter.new)) }
+    ensures vars { IfOk result (λ t. t.vars ≡ table.now.vars) }
+    ensures cause { IfErr result (λ e. AfterUndecided (sum (parts_of (list_of_arms arms.now))) attempts table.now.states.entries ended.old (λ E. OneBlames (statement_flow turns attempts (choice_among (list_of_arms arms.now))) table.now.states.entries E e)) }
+{
+    let mut out = Table::new(alloc, table.vars);
+    for (count, block) in &arms.arms {
+        match weighed(alloc, part, *count, table) {
+            Err(error) => return Err(error),
+            Ok(side) => match fold_block(alloc, block, turns, attempts, side, ended, meter) {
+                Err(error) => return Err(error),
+                Ok(left) => {
+                    if let Err(error) = merge(&mut out, left) {
+                        return Err(error);
+                    }
+                }
+            },
+        }
+    }
+    Ok(out)
 }
 
 #[cycle(fold)]

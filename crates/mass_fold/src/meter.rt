@@ -1,19 +1,24 @@
 // A count of the bits that draws read on average.
 
 ghost use Rattle.std.specs.Prelude.{◌≡◌, ◌≤◌, ◌<◌, ◌*◌, ◌^◌, ℕ, [], ◌∷◌, length, IfSome, IfNone};
+ghost use Rattle.std.specs.List.{sum};
+ghost use Rattle.cost_law.specs.ExpectedBits.{attempt_bits};
+ghost use Rattle.gcl_core.specs.Arms.{parts_of};
 ghost use Rattle.gcl_core.specs.Blocks.{choice_ends};
 ghost use Rattle.gcl_core.specs.Bounds.{IsWeight};
+ghost use Rattle.gcl_core.specs.Parts.{AreParts, partial_sums};
 ghost use Rattle.gcl_core.specs.Value.{value_of, Reads};
-ghost use Rattle.gcl_core.specs.Views.{expression_of};
+ghost use Rattle.gcl_core.specs.Views.{expression_of, list_of_arms};
 ghost use Rattle.mass_tables.specs.Scale.{whole, Whole};
-ghost use Rattle.mass_fold.specs.Metering.{CountedOn, AddsBits, IsPrice, PriceBlames, IsPriced, price, bound_price, IsBoundPriced, CountsAll};
+ghost use Rattle.mass_fold.specs.Metering.{CountedOn, AddsBits, IsPrice, PriceBlames, bound_price, IsBoundPriced, CountsAll, CountsDraws};
 
+use crate::choosing::total;
 use crate::draws::parts;
 use crate::state::State;
 use crate::table::Table;
-use draw_cost::{choice_bits, uniform_bits};
+use draw_cost::{arms_bits, choice_bits, uniform_bits};
 use frac128::Frac;
-use gcl_core::{Expr, Weight, eval};
+use gcl_core::{Arms, Expr, MOST_ARMS, Weight, eval};
 
 /// How many bits the draws that are reached read on average, each by the weight with which it is reached.
 #[derive(Clone, Copy)]
@@ -90,12 +95,45 @@ pub fn count_choice(meter: Meter, p: Weight, attempts: Option<u64>, table: &Tabl
     requires weight { IsWeight p }
     requires some { IfSome attempts (λ r. 1 ≤ r) }
     requires table { 1 ≤ length table.now.states.entries }
-    ensures { CountsAll (λ M s. IsPriced attempts M p.den) (λ M s. price attempts M (choice_ends p)) table.now.states.entries meter result }
+    ensures { CountsDraws attempts p.den (choice_ends p) table.now.states.entries meter result }
 {
     match meter {
         Meter::Off => Meter::Off,
         Meter::TooWide => Meter::TooWide,
         Meter::Bits(_) => match price(choice_bits(p), p.den, attempts) {
+            None => Meter::TooWide,
+            Some(bits) => add_each(meter, &bits, table),
+        },
+    }
+}
+
+// The bits that one attempt of a choice among several reads on average, times 2^k for numbers of k bits. It takes no memory.
+fn attempt_of(arms: &Arms) -> u128
+    requires { AreParts (parts_of (list_of_arms arms.now)) }
+    ensures { result ≡ (attempt_bits (partial_sums (parts_of (list_of_arms arms.now)))).0 }
+{
+    let mut ends = [0u64; MOST_ARMS];
+    let mut end = 0;
+    let mut count = 0;
+    for (part, _) in &arms.arms {
+        end += *part;
+        ends[count] = end;
+        count += 1;
+    }
+    arms_bits(&ends[..count])
+}
+
+/// The meter, with the draw of a choice among several for each entry.
+pub fn count_arms(meter: Meter, arms: &Arms, attempts: Option<u64>, table: &Table) -> Meter
+    requires parts { AreParts (parts_of (list_of_arms arms.now)) }
+    requires some { IfSome attempts (λ r. 1 ≤ r) }
+    requires table { 1 ≤ length table.now.states.entries }
+    ensures { CountsDraws attempts (sum (parts_of (list_of_arms arms.now))) (partial_sums (parts_of (list_of_arms arms.now))) table.now.states.entries meter result }
+{
+    match meter {
+        Meter::Off => Meter::Off,
+        Meter::TooWide => Meter::TooWide,
+        Meter::Bits(_) => match price(attempt_of(arms), total(arms), attempts) {
             None => Meter::TooWide,
             Some(bits) => add_each(meter, &bits, table),
         },

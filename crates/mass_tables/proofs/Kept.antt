@@ -115,29 +115,29 @@ choice_kept N a b r I h b0 w x y z =
 -- ---- choices among several
 
 -- a table by each of these parts of a draw with b
-abbrev pub PartsWhole : ℕ → ℕ → Option ℕ → List ℕ → Table → Type 0
-PartsWhole N b r [] I = Unit {0}
-PartsWhole N b r (p ∷ ps) I = Wholes N (scaled (class_weight b r p) I) × PartsWhole N b r ps I
+abbrev pub ArmsWhole : ℕ → ℕ → Option ℕ → List ℕ → Table → Type 0
+ArmsWhole N b r [] I = Unit {0}
+ArmsWhole N b r (p ∷ ps) I = Wholes N (scaled (class_weight b r p) I) × ArmsWhole N b r ps I
 
-abbrev pub parts_weight : ℕ → ℕ → Option ℕ → List ℕ → Table → ℕ
-parts_weight N b r [] I = 0
-parts_weight N b r (p ∷ ps) I = weight N (scaled (class_weight b r p) I) + parts_weight N b r ps I
+abbrev pub arms_weight : ℕ → ℕ → Option ℕ → List ℕ → Table → ℕ
+arms_weight N b r [] I = 0
+arms_weight N b r (p ∷ ps) I = weight N (scaled (class_weight b r p) I) + arms_weight N b r ps I
 
-parts_weigh : (N b : ℕ) (r : Option ℕ) (ps : List ℕ) (I : Table) → 0 < b → Wholes N I → PartsWhole N b r ps I → all_parts b r * parts_weight N b r ps I ≡ sum ps * each_part b r * weight N I
-parts_weigh N b r [] I b0 w x = omega arith
-parts_weigh N b r (p ∷ ps) I b0 w x =
+arms_weigh : (N b : ℕ) (r : Option ℕ) (ps : List ℕ) (I : Table) → 0 < b → Wholes N I → ArmsWhole N b r ps I → all_parts b r * arms_weight N b r ps I ≡ sum ps * each_part b r * weight N I
+arms_weigh N b r [] I b0 w x = omega arith
+arms_weigh N b r (p ∷ ps) I b0 w x =
     let a = amount_scaled N (λ s. 1) (class_weight b r p) (p * each_part b r) (all_parts b r) I (class_pos b r p b0) (class_share b r p) w x.0 in
-    more (all_parts b r) (each_part b r) (weight N I) p (sum ps) (sum (p ∷ ps)) _ _ (sum_by-cons (λ x. x) p ps) a (parts_weigh N b r ps I b0 w x.1)
+    more (all_parts b r) (each_part b r) (weight N I) p (sum ps) (sum (p ∷ ps)) _ _ (sum_by-cons (λ x. x) p ps) a (arms_weigh N b r ps I b0 w x.1)
   where
     more : (D S W p q t A B : ℕ) → t ≡ p + q → D * A ≡ p * S * W → D * B ≡ q * S * W → D * (A + B) ≡ t * S * W
     more D S W p q t A B e x y = rw e (omega arith)
 
-pub choose_kept : (N : ℕ) (r : Option ℕ) (ps : List ℕ) (I : Table) → 1 ≤ sum ps → Wholes N I → PartsWhole N (sum ps) r ps I → Wholes N (scaled (no_class_weight (sum ps) r) I) →
-    weight N (scaled (no_class_weight (sum ps) r) I) + parts_weight N (sum ps) r ps I ≡ weight N I
+pub choose_kept : (N : ℕ) (r : Option ℕ) (ps : List ℕ) (I : Table) → 1 ≤ sum ps → Wholes N I → ArmsWhole N (sum ps) r ps I → Wholes N (scaled (no_class_weight (sum ps) r) I) →
+    weight N (scaled (no_class_weight (sum ps) r) I) + arms_weight N (sum ps) r ps I ≡ weight N I
 choose_kept N r ps I least w x z =
     let b = sum ps in
     let b0 : 0 < b = omega arith in
-    added b (each_part b r) (no_part b r) (all_parts b r) _ _ (weight N I) (all_parts_pos b r b0) (parts_add_up b r) (parts_weigh N b r ps I b0 w x)
+    added b (each_part b r) (no_part b r) (all_parts b r) _ _ (weight N I) (all_parts_pos b r b0) (parts_add_up b r) (arms_weigh N b r ps I b0 w x)
     (amount_scaled N (λ s. 1) (no_class_weight b r) (no_part b r) (all_parts b r) I (no_class_pos b r) (no_class_share b r) w z)
   where
     added : (b S Q D A L W : ℕ) → 0 < D → b * S + Q ≡ D → D * A ≡ b * S * W → D * L ≡ Q * W → L + A ≡ W
@@ -190,17 +190,17 @@ module _ (n : ℕ) (r : Option ℕ) (N L : ℕ) where
   pub other_arms : (b p : ℕ) (a : Statements) (arms : ArmList) (I : Table) → Within N L (arms_flow n r b (arm p a arms) I) → Within N L (arms_flow n r b arms I)
   other_arms b p a arms I s = both_second N L [] (block_flow n r a (scaled (class_weight b r p) I)) (arms_flow n r b arms I) s
 
-  pub parts_whole : (b : ℕ) (arms : ArmList) (I : Table) → Within N L (arms_flow n r b arms I) → PartsWhole N b r (parts_of arms) I
-  parts_whole b no_arm I s = tt
-  parts_whole b (arm p a arms) I s = (head_whole a (scaled (class_weight b r p) I) (first_arm b p a arms I s).tables, parts_whole b arms I (other_arms b p a arms I s))
+  pub arms_whole : (b : ℕ) (arms : ArmList) (I : Table) → Within N L (arms_flow n r b arms I) → ArmsWhole N b r (parts_of arms) I
+  arms_whole b no_arm I s = tt
+  arms_whole b (arm p a arms) I s = (head_whole a (scaled (class_weight b r p) I) (first_arm b p a arms I s).tables, arms_whole b arms I (other_arms b p a arms I s))
 
   pub arms_kept : (arms : ArmList) (I : Table) → AreParts (parts_of arms) → Wholes N I → Within N L (statement_flow n r (choice_among arms) I) →
-      weight N (all_end (limit Attempts) (scaled (no_class_weight (sum (parts_of arms)) r) I)) + parts_weight N (sum (parts_of arms)) r (parts_of arms) I ≡ weight N I
+      weight N (all_end (limit Attempts) (scaled (no_class_weight (sum (parts_of arms)) r) I)) + arms_weight N (sum (parts_of arms)) r (parts_of arms) I ≡ weight N I
   arms_kept arms I p w s =
       let b = sum (parts_of arms) in
       let Z = scaled (no_class_weight b r) I in
       let z = all_end_weight N (limit Attempts) Z in
-      let k = choose_kept N r (parts_of arms) I p.positive w (parts_whole b arms I (choose_inside arms I s)) (ends_whole N (limit Attempts) Z (ends_first N (all_end (limit Attempts) Z) (arms_flow n r b arms I).ended s.ended)) in
+      let k = choose_kept N r (parts_of arms) I p.positive w (arms_whole b arms I (choose_inside arms I s)) (ends_whole N (limit Attempts) Z (ends_first N (all_end (limit Attempts) Z) (arms_flow n r b arms I).ended s.ended)) in
       omega arith
 
   abbrev pub KeepsAll : Statements → Type 0
@@ -293,7 +293,7 @@ module _ (n : ℕ) (r : Option ℕ) (N L : ℕ) where
 
     -- each arm weighs what its part of the table does
     pub kept_arms : (b : ℕ) (arms : ArmList) → ArmsAreWeighed arms → (I : Table) → Within N L (arms_flow n r b arms I) →
-        weight N (arms_flow n r b arms I).next + weight N (arms_flow n r b arms I).ended ≡ parts_weight N b r (parts_of arms) I
+        weight N (arms_flow n r b arms I).next + weight N (arms_flow n r b arms I).ended ≡ arms_weight N b r (parts_of arms) I
     kept_arms b no_arm p I s = refl
     kept_arms b (arm q a arms) p I s =
         let A = scaled (class_weight b r q) I in

@@ -13,7 +13,7 @@ use Rattle.mass_tables.specs.Tables.{Table, holds, fails, only, faults, all_end,
 use Rattle.mass_tables.specs.Reached.{drawn_each, drawn_bound, loop_draws, statement_draws, block_draws, arms_draws}
 use Rattle.mass_tables.specs.Scale.{whole, amount, weight, Wholes, Within}
 use Rattle.mass_tables.proofs.Amounts.{amount_append, both_first, both_second, draws_second, tables_first, tables_second, ends_first, ends_second, draws_first}
-use Rattle.mass_tables.proofs.Kept.{guard_weight, ends_whole, choice_kept, head_whole, parts_weight, choose_inside, first_arm, other_arms, arms_kept, kept_one, kept_all}
+use Rattle.mass_tables.proofs.Kept.{guard_weight, ends_whole, choice_kept, head_whole, arms_weight, choose_inside, first_arm, other_arms, arms_kept, kept_one, kept_all}
 
 -- ---- what draws count, by the states that they are made from
 pub amount_drawn_each : (N : ℕ) (H : List ℕ → ℕ) (ends : List ℕ) (I : Table) → amount N H (drawn_each ends I) ≡ amount N (λ s. H ends) I
@@ -122,7 +122,7 @@ module _ (n : ℕ) (r : Option ℕ) (N L : ℕ) (H : List ℕ → ℕ) where
         let o = amount_append N H (statement_draws n r st I) (block_draws n r b f.next) in
         omega arith
 
-    none_arms : (b : ℕ) (arms : ArmList) → ArmsAreWeighed arms → (I : Table) → Within N L (arms_flow n r b arms I) → parts_weight N b r (parts_of arms) I ≡ 0 → amount N H (arms_draws n r b arms I) ≡ 0
+    none_arms : (b : ℕ) (arms : ArmList) → ArmsAreWeighed arms → (I : Table) → Within N L (arms_flow n r b arms I) → arms_weight N b r (parts_of arms) I ≡ 0 → amount N H (arms_draws n r b arms I) ≡ 0
     none_arms b no_arm p I s z = refl
     none_arms b (arm q a arms) p I s z =
         let A = scaled (class_weight b r q) I in

@@ -1,12 +1,19 @@
-use Rattle.std.proofs.Common.{rules, ◌≡◌, ◌+◌, ◌-◌, suc, arith, refl, sym, ap, ◌∙◌, subst, length}
+use Rattle.std.proofs.Common.{rules, ◌≡◌, ◌+◌, ◌-◌, suc, arith, refl, sym, ap, ◌∙◌, ◌≤◌, drop, subst, length}
+use Rattle.std.specs.List.{sum}
+use Rattle.gcl_core.specs.Arms.{parts_of}
 use Rattle.gcl_core.specs.declared.syntax.Stmt.{the_lemmas}
-use Rattle.gcl_core.specs.Bounds.{StatementBelow, BlockBelow}
-use Rattle.gcl_core.specs.Views.{expression_of, statement_of, statements_of, list_of}
+use Rattle.gcl_core.specs.Bounds.{StatementBelow, BlockBelow, ArmsBelow, ArmsAreWeighed}
+use Rattle.gcl_core.specs.Views.{expression_of, statement_of, statements_of, list_of, arm_list_of, list_of_arms}
+use Rattle.gcl_core.specs.WeightedEnds.{class_weight}
+use Rattle.frac128.specs.Fraction.{IsEqual}
 use Rattle.gcl_core.specs.Value.{value_of, Reads}
 use Rattle.mass_tables.specs.Tables.{block_flow, loop_flow}
-use Rattle.gcl_core.proofs.ViewLemmas.{skip_view, set_view, observe_view, if_view, while_view, choice_view, uniform_view}
-use Rattle.mass_fold.specs.Fold.{FoldBlames}
-use Rattle.mass_fold.proofs.Fitting.{below_as, weights_as, folds_as, blames_as, list_step, below_next, weights_next, along_list, below_list, empty_of}
+use Rattle.gcl_core.proofs.ViewLemmas.{skip_view, set_view, observe_view, if_view, while_view, choice_view, choose_view, uniform_view}
+use Rattle.mass_fold.specs.Fold.{FoldBlames, UndecidedTo, UndecidedBlames}
+use Rattle.mass_fold.proofs.Fitting.{below_as, weights_as, folds_as, blames_as, list_step, below_next, weights_next, along_list, below_list, empty_of, some_states}
+use Rattle.mass_fold.proofs.ArmsLeft.{arms_done, sum_next, arms_next}
+use Rattle.mass_fold.proofs.ArmFolds.{undecided_blames, arms_start, arms_as, weighed_blames, block_blames, arm_blames, arm_turn, arms_end}
+use Rattle.mass_fold.proofs.ArmMeters.{metered_start, metered_as, metered_turn, metered_end}
 use Rattle.mass_fold.proofs.Folds.{rest_next, blames_next, blames_here, rest_none, fold_empty, fold_skip, fold_assign, assign_blames, fold_observe, observe_blames, failed_blames, fold_branch, fold_draw, draw_blames}
 use Rattle.mass_fold.proofs.Folds as branches
 use Rattle.mass_fold.proofs.Loops.{loop_start, loop_dry, loop_turn, loop_end, guard_blames, exits_blame, body_blames, turns_blame, loops_at}
@@ -259,8 +266,8 @@ fold_stmt-returns-in-Ok-sides-clause-cause t c =
     blames_as c.args.turns c.args.attempts _ _ _ _ _ (ap statement_of c.in-Choice.is ∙ choice_view c.in-Choice.p c.in-Choice.a c.in-Choice.c)
     (let ws = weights_as _ _ (ap statement_of c.in-Choice.is ∙ choice_view c.in-Choice.p c.in-Choice.a c.in-Choice.c) c.requires.weights in choices.first_blames c.args.turns c.args.attempts c.in-Choice.p (statements_of c.in-Choice.a) (statements_of c.in-Choice.c) ws.0 c.args.table.states.entries c.args.ended.now _ _ _ c.in-Ok-sides.ensures.ok _ c.in-Err-fold_block-3.ensures.cause)
 
-pub fold_stmt-returns-clause-cause : goal.fold_stmt-returns-clause-cause
-fold_stmt-returns-clause-cause t c =
+pub fold_stmt-returns-in-Choice-clause-cause : goal.fold_stmt-returns-in-Choice-clause-cause
+fold_stmt-returns-in-Choice-clause-cause t c =
     blames_as c.args.turns c.args.attempts _ _ _ _ _ (ap statement_of c.in-Choice.is ∙ choice_view c.in-Choice.p c.in-Choice.a c.in-Choice.c)
     (let ws = weights_as _ _ (ap statement_of c.in-Choice.is ∙ choice_view c.in-Choice.p c.in-Choice.a c.in-Choice.c) c.requires.weights in sides_blame c.args.turns c.args.attempts c.in-Choice.p (statements_of c.in-Choice.a) (statements_of c.in-Choice.c) ws.0 c.args.table.states.entries c.args.ended.now _ (λ e. c.if-len-eq0.false (c.len.ensures.len ∙ ap length e)) c.in-Err-sides.ensures.cause)
 
@@ -288,3 +295,109 @@ fold_stmt-returns-in-Ok-merge-2-clause-bits t c =
     meters_as c.args.turns c.args.attempts _ _ _ _ _ _ (ap statement_of c.in-Choice.is ∙ choice_view c.in-Choice.p c.in-Choice.a c.in-Choice.c)
     (let ws = weights_as _ _ (ap statement_of c.in-Choice.is ∙ choice_view c.in-Choice.p c.in-Choice.a c.in-Choice.c) c.requires.weights in
     choice_meters c.args.turns c.args.attempts c.in-Choice.p (statements_of c.in-Choice.a) (statements_of c.in-Choice.c) ws.0 c.args.table.states.entries c.args.ended.now _ _ _ c.in-Ok-sides.ensures.ok _ _ _ _ _ _ c.count_choice.ensures c.in-Ok-fold_block-3.ensures.ok c.in-Ok-fold_block-3.ensures.bits c.in-Ok-fold_block-4.ensures.bits)
+
+-- ---- choices among several
+pub fold_stmt-count_arms-requires-clause-parts : goal.fold_stmt-count_arms-requires-clause-parts
+fold_stmt-count_arms-requires-clause-parts t c = (weights_as _ _ (ap statement_of c.in-Choose.is ∙ choose_view c.in-Choose.arms) c.requires.weights).0
+
+pub fold_stmt-total-requires : goal.fold_stmt-total-requires
+fold_stmt-total-requires t c = (weights_as _ _ (ap statement_of c.in-Choose.is ∙ choose_view c.in-Choose.arms) c.requires.weights).0.coarse
+
+pub fold_stmt-undecided-requires : goal.fold_stmt-undecided-requires
+fold_stmt-undecided-requires t c =
+    let w = weights_as _ _ (ap statement_of c.in-Choose.is ∙ choose_view c.in-Choose.arms) c.requires.weights in
+    record { least = omega (arith, c.total.ensures, w.0.positive); most = omega (arith, c.total.ensures, w.0.coarse); some = c.requires.some }
+
+pub fold_stmt-fold_arms-requires : goal.fold_stmt-fold_arms-requires
+fold_stmt-fold_arms-requires t c =
+    let q = (ap statement_of c.in-Choose.is ∙ choose_view c.in-Choose.arms) in
+    let w = weights_as _ _ q c.requires.weights in
+    let some : 1 ≤ length c.args.table.states.entries = omega (arith, c.if-len-eq0.false, c.len.ensures.len) in
+    let equal = subst (λ b. IsEqual c.in-Ok-undecided.part (class_weight b c.args.attempts 1)) c.total.ensures c.in-Ok-undecided.ensures.equal in
+    (search (rules, the_lemmas), (below_as _ _ _ q c.requires.below, (w.0, (w.1, (c.in-Ok-undecided.ensures.above, (equal, (c.requires.some, some)))))))
+
+pub fold_stmt-returns-in-Ok-fold_arms-clause-ok : goal.fold_stmt-returns-in-Ok-fold_arms-clause-ok
+fold_stmt-returns-in-Ok-fold_arms-clause-ok t c = folds_as c.args.turns c.args.attempts _ _ _ _ _ _ (ap statement_of c.in-Choose.is ∙ choose_view c.in-Choose.arms) (c.in-Ok-fold_arms.ensures.ok c.args.ended.now (subst (λ b. UndecidedTo b c.args.attempts c.args.table.states.entries c.args.ended.now c.undecided.new.ended) c.total.ensures c.in-Ok-undecided.ensures.ok))
+
+pub fold_stmt-returns-in-Ok-fold_arms-clause-bits : goal.fold_stmt-returns-in-Ok-fold_arms-clause-bits
+fold_stmt-returns-in-Ok-fold_arms-clause-bits t c =
+    meters_as c.args.turns c.args.attempts _ _ _ _ _ _ (ap statement_of c.in-Choose.is ∙ choose_view c.in-Choose.arms)
+    (c.in-Ok-fold_arms.ensures.bits c.args.ended.now (subst (λ b. UndecidedTo b c.args.attempts c.args.table.states.entries c.args.ended.now c.undecided.new.ended) c.total.ensures c.in-Ok-undecided.ensures.ok) c.args.meter.now c.count_arms.ensures)
+
+pub fold_stmt-returns-in-Ok-undecided-clause-cause : goal.fold_stmt-returns-in-Ok-undecided-clause-cause
+fold_stmt-returns-in-Ok-undecided-clause-cause t c =
+    blames_as c.args.turns c.args.attempts _ _ _ _ _ (ap statement_of c.in-Choose.is ∙ choose_view c.in-Choose.arms) (c.in-Err-fold_arms.ensures.cause c.args.ended.now (subst (λ b. UndecidedTo b c.args.attempts c.args.table.states.entries c.args.ended.now c.undecided.new.ended) c.total.ensures c.in-Ok-undecided.ensures.ok))
+
+pub fold_stmt-returns-clause-cause : goal.fold_stmt-returns-clause-cause
+fold_stmt-returns-clause-cause t c =
+    let w = weights_as _ _ (ap statement_of c.in-Choose.is ∙ choose_view c.in-Choose.arms) c.requires.weights in
+    blames_as c.args.turns c.args.attempts _ _ _ _ _ (ap statement_of c.in-Choose.is ∙ choose_view c.in-Choose.arms)
+    (undecided_blames c.args.turns c.args.attempts (list_of_arms c.in-Choose.arms) w.0 c.args.table.states.entries c.args.ended.now c.in-Err-undecided.error (λ e. c.if-len-eq0.false (c.len.ensures.len ∙ ap length e))
+    (subst (λ b. UndecidedBlames b c.args.attempts c.args.table.states.entries c.args.ended.now c.in-Err-undecided.error) c.total.ensures c.in-Err-undecided.ensures.cause))
+
+pub fold_arms-loop-count-init : goal.fold_arms-loop-count-init
+fold_arms-loop-count-init t c =
+    let same = ap arm_list_of c.deref-count-items.ensures.value in
+    record {
+      vars = c.new-out.ensures.vars;
+      below = subst (ArmsBelow c.args.table.now.vars) (sym same) c.requires.below;
+      weights = subst ArmsAreWeighed (sym same) c.requires.weights;
+      few = let e = ap (λ a. sum (parts_of a)) same in omega (arith, e);
+      so_far = λ E u. arms_as c.args.turns c.args.attempts (list_of_arms c.args.arms.now) c.requires.parts c.args.table.now.states.entries E _ _ c.new-out.result.states.entries c.args.ended.now (sym same) (arms_start c.args.turns c.args.attempts (list_of_arms c.args.arms.now) c.requires.parts c.args.table.now.states.entries E c.args.ended.now c.new-out.result.states.entries u c.new-out.ensures.empty);
+      bits = λ E u m k. metered_as c.args.turns c.args.attempts (list_of_arms c.args.arms.now) c.requires.parts c.args.table.now.states.entries E m _ _ c.args.meter.now (sym same) (metered_start c.args.turns c.args.attempts (list_of_arms c.args.arms.now) c.requires.parts c.args.table.now.states.entries E m c.args.meter.now k);
+    }
+
+pub fold_arms-returns-in-Err-clause-cause : goal.fold_arms-returns-in-Err-clause-cause
+fold_arms-returns-in-Err-clause-cause t c E u =
+    let next = arms_next c.deref-count-items.result.now c.loop-count.count-index c.loop-count-item.result c.loop-count-test.true c.loop-count-item.is in
+    let e = ap (λ a. sum (parts_of a)) next in
+    weighed_blames c.args.turns c.args.attempts (list_of_arms c.args.arms.now) c.requires.parts c.args.table.now.states.entries E c.loop-count-item.result.0 (statements_of c.loop-count-item.result.1) (arm_list_of (drop (c.loop-count.count-index + 1) c.deref-count-items.result.now)) c.loop-count.out.states.entries c.loop-count.ended (arms_as c.args.turns c.args.attempts (list_of_arms c.args.arms.now) c.requires.parts c.args.table.now.states.entries E _ _ c.loop-count.out.states.entries c.loop-count.ended next (c.loop-count.invariant.so_far E u)) c.args.part.now c.requires.equal c.in-Err.error (λ e. some_states c.args.table.now.states.entries c.requires.any e) c.requires.weights (subst ArmsAreWeighed next c.loop-count.invariant.weights)
+    (omega (arith, e, c.loop-count.invariant.few)) c.in-Err.ensures.cause
+
+pub fold_arms-fold_block-requires : goal.fold_arms-fold_block-requires
+fold_arms-fold_block-requires t c =
+    let next = arms_next c.deref-count-items.result.now c.loop-count.count-index c.loop-count-item.result c.loop-count-test.true c.loop-count-item.is in (
+      search (rules, the_lemmas),
+      (
+        subst (λ m. BlockBelow m (statements_of c.loop-count-item.result.1)) (sym c.in-Ok.ensures.vars) (subst (ArmsBelow c.args.table.now.vars) next c.loop-count.invariant.below).0,
+        ((subst ArmsAreWeighed next c.loop-count.invariant.weights).0, c.requires.some),
+      ),
+    )
+
+pub fold_arms-returns-in-Err-fold_block-clause-cause : goal.fold_arms-returns-in-Err-fold_block-clause-cause
+fold_arms-returns-in-Err-fold_block-clause-cause t c E u =
+    let next = arms_next c.deref-count-items.result.now c.loop-count.count-index c.loop-count-item.result c.loop-count-test.true c.loop-count-item.is in
+    block_blames c.args.turns c.args.attempts (list_of_arms c.args.arms.now) c.requires.parts c.args.table.now.states.entries E c.loop-count-item.result.0 (statements_of c.loop-count-item.result.1) (arm_list_of (drop (c.loop-count.count-index + 1) c.deref-count-items.result.now)) c.loop-count.out.states.entries c.loop-count.ended (arms_as c.args.turns c.args.attempts (list_of_arms c.args.arms.now) c.requires.parts c.args.table.now.states.entries E _ _ c.loop-count.out.states.entries c.loop-count.ended next (c.loop-count.invariant.so_far E u)) c.args.part.now c.requires.equal _ c.in-Ok.ensures.ok c.in-Err-fold_block.error c.requires.weights (subst ArmsAreWeighed next c.loop-count.invariant.weights) c.in-Err-fold_block.ensures.cause
+
+pub fold_arms-merge-requires : goal.fold_arms-merge-requires
+fold_arms-merge-requires t c = c.in-Ok-fold_block.ensures.vars ∙ c.in-Ok.ensures.vars ∙ sym c.loop-count.invariant.vars
+
+pub fold_arms-returns-in-Err-merge-clause-cause : goal.fold_arms-returns-in-Err-merge-clause-cause
+fold_arms-returns-in-Err-merge-clause-cause t c E u =
+    let next = arms_next c.deref-count-items.result.now c.loop-count.count-index c.loop-count-item.result c.loop-count-test.true c.loop-count-item.is in
+    arm_blames c.args.turns c.args.attempts (list_of_arms c.args.arms.now) c.requires.parts c.args.table.now.states.entries E c.loop-count-item.result.0 (statements_of c.loop-count-item.result.1) (arm_list_of (drop (c.loop-count.count-index + 1) c.deref-count-items.result.now)) c.loop-count.out.states.entries c.loop-count.ended (arms_as c.args.turns c.args.attempts (list_of_arms c.args.arms.now) c.requires.parts c.args.table.now.states.entries E _ _ c.loop-count.out.states.entries c.loop-count.ended next (c.loop-count.invariant.so_far E u)) c.args.part.now c.requires.equal _ c.in-Ok.ensures.ok _ _ c.in-Ok-fold_block.ensures.ok c.in-Err-merge.error c.requires.weights c.in-Err-merge.ensures.cause
+
+pub fold_arms-loop-count-preserved : goal.fold_arms-loop-count-preserved
+fold_arms-loop-count-preserved t c =
+    let next = arms_next c.deref-count-items.result.now c.loop-count.count-index c.loop-count-item.result c.loop-count-test.true c.loop-count-item.is in
+    record {
+      vars = c.merge.ensures.vars ∙ c.loop-count.invariant.vars;
+      below = (subst (ArmsBelow c.args.table.now.vars) next c.loop-count.invariant.below).1;
+      weights = (subst ArmsAreWeighed next c.loop-count.invariant.weights).1;
+      few = let s = sum_next c.deref-count-items.result.now c.loop-count.count-index c.loop-count-item.result c.loop-count-test.true c.loop-count-item.is in omega (arith, s, c.loop-count.invariant.few);
+      so_far = λ E u. arm_turn c.args.turns c.args.attempts (list_of_arms c.args.arms.now) c.requires.parts c.args.table.now.states.entries E c.loop-count-item.result.0 (statements_of c.loop-count-item.result.1) (arm_list_of (drop (c.loop-count.count-index + 1) c.deref-count-items.result.now)) c.loop-count.out.states.entries c.loop-count.ended (arms_as c.args.turns c.args.attempts (list_of_arms c.args.arms.now) c.requires.parts c.args.table.now.states.entries E _ _ c.loop-count.out.states.entries c.loop-count.ended next (c.loop-count.invariant.so_far E u)) c.args.part.now c.requires.equal _ c.in-Ok.ensures.ok _ _ c.in-Ok-fold_block.ensures.ok _ c.in_default.ensures.ok;
+      bits = λ E u m k. metered_turn c.args.turns c.args.attempts (list_of_arms c.args.arms.now) c.requires.parts c.args.table.now.states.entries E m c.loop-count-item.result.0 (statements_of c.loop-count-item.result.1) (arm_list_of (drop (c.loop-count.count-index + 1) c.deref-count-items.result.now)) c.loop-count.out.states.entries c.loop-count.ended (arms_as c.args.turns c.args.attempts (list_of_arms c.args.arms.now) c.requires.parts c.args.table.now.states.entries E _ _ c.loop-count.out.states.entries c.loop-count.ended next (c.loop-count.invariant.so_far E u)) c.args.part.now c.requires.equal _ c.in-Ok.ensures.ok c.loop-count.meter _ (metered_as c.args.turns c.args.attempts (list_of_arms c.args.arms.now) c.requires.parts c.args.table.now.states.entries E m _ _ c.loop-count.meter next (c.loop-count.invariant.bits E u m k)) c.in-Ok-fold_block.ensures.bits;
+    }
+
+pub fold_arms-returns-clause-ok : goal.fold_arms-returns-clause-ok
+fold_arms-returns-clause-ok t c E u =
+    let none = arms_done c.deref-count-items.result.now c.loop-count.count-index (omega (arith, c.loop-count-test.false)) in
+    arms_end c.args.turns c.args.attempts (list_of_arms c.args.arms.now) c.requires.parts c.args.table.now.states.entries E c.loop-count.out.states.entries c.loop-count.ended (arms_as c.args.turns c.args.attempts (list_of_arms c.args.arms.now) c.requires.parts c.args.table.now.states.entries E _ _ c.loop-count.out.states.entries c.loop-count.ended none (c.loop-count.invariant.so_far E u))
+
+pub fold_arms-returns-clause-bits : goal.fold_arms-returns-clause-bits
+fold_arms-returns-clause-bits t c E u m k =
+    let none = arms_done c.deref-count-items.result.now c.loop-count.count-index (omega (arith, c.loop-count-test.false)) in
+    metered_end c.args.turns c.args.attempts (list_of_arms c.args.arms.now) c.requires.parts c.args.table.now.states.entries E m c.loop-count.meter (metered_as c.args.turns c.args.attempts (list_of_arms c.args.arms.now) c.requires.parts c.args.table.now.states.entries E m _ _ c.loop-count.meter none (c.loop-count.invariant.bits E u m k))
+
+pub fold_arms-returns-clause-vars : goal.fold_arms-returns-clause-vars
+fold_arms-returns-clause-vars t c = c.loop-count.invariant.vars

@@ -1,13 +1,22 @@
-use Rattle.std.proofs.Common.{◌≡◌, ◌-◌, ℕ, drop}
-use Rattle.gcl_core.specs.Bounds.{BlockIsWeighed, BlockBelow}
-use Rattle.gcl_core.specs.Views.{list_of, expression_of, statements_of}
+use Rattle.std.proofs.Common.{◌≡◌, ◌-◌, ◌≤◌, ℕ, drop}
+use Rattle.std.specs.List.{sum}
+use Rattle.gcl_core.specs.Arms.{parts_of}
+use Rattle.gcl_core.specs.Parts.{partial_sums}
+use Rattle.gcl_core.specs.Syntax.{choice_among}
+use Rattle.gcl_core.specs.Bounds.{BlockIsWeighed, ArmsAreWeighed, BlockBelow, ArmsBelow}
+use Rattle.gcl_core.specs.Views.{list_of, arm_list_of, list_of_arms, expression_of, statements_of}
 use Rattle.gcl_core.specs.Value.{value_of}
-use Rattle.mass_tables.specs.Tables.{block_flow, loop_flow}
-use Rattle.mass_fold.specs.Fold.{LoopsOn}
-use Rattle.mass_tables.specs.Reached.{block_draws, loop_draws}
+use Rattle.mass_tables.specs.Tables.{statement_flow, block_flow, arms_flow, loop_flow}
+use Rattle.mass_fold.specs.declared.meter.Meter.{Meter}
+use Rattle.mass_fold.specs.Fold.{LoopsOn, AfterUndecided}
+use Rattle.mass_fold.specs.Metering.{CountsDraws}
+use Rattle.mass_tables.specs.Reached.{statement_draws, block_draws, arms_draws, loop_draws}
 use Rattle.mass_fold.proofs.Folds.{FoldsOn, BlamesOn}
 use Rattle.mass_fold.proofs.MeterFolds.{MetersOn}
 use Rattle.mass_fold.proofs.MeterLoops.{MetersLoop}
+use Rattle.mass_fold.proofs.ArmFolds.{ArmsOn}
+use Rattle.mass_fold.proofs.ArmMeters.{ArmsMetered}
+use Rattle.mass_fold.proofs.ArmsLeft.{parts_left}
 use Rattle.mass_fold.proofs.fold.+fold.Given as goal
 
 abbrev pub invariant-fold_block-loop-s : goal.invariant-fold_block-loop-s
@@ -26,4 +35,17 @@ invariant-fold_loop-loop l = record {
   exits_vars : l.exits.vars ≡ l.fn.table.vars;
   so_far : LoopsOn (loop_flow (value_of (expression_of l.e)) (block_flow l.turns l.attempts (statements_of l.body))) l.turns (l.turns - l.counter) l.fn.table.states.entries l.fn.ended l.now.states.entries l.exits.states.entries l.ended;
   bits : MetersLoop l.attempts (loop_flow (value_of (expression_of l.e)) (block_flow l.turns l.attempts (statements_of l.body))) (loop_draws (value_of (expression_of l.e)) (block_draws l.turns l.attempts (statements_of l.body)) (block_flow l.turns l.attempts (statements_of l.body))) l.turns (l.turns - l.counter) l.fn.table.states.entries l.fn.ended l.now.states.entries l.exits.states.entries l.ended l.fn.meter l.meter;
+}
+
+abbrev pub invariant-fold_arms-loop-count : goal.invariant-fold_arms-loop-count
+invariant-fold_arms-loop-count l = record {
+  vars : l.out.vars ≡ l.table.vars;
+  below : ArmsBelow l.table.vars (arm_list_of (drop l.count-index l.count-items));
+  weights : ArmsAreWeighed (arm_list_of (drop l.count-index l.count-items));
+  few : sum (parts_left l.count-items l.count-index) ≤ sum (parts_of (list_of_arms l.arms));
+  so_far : AfterUndecided (sum (parts_of (list_of_arms l.arms))) l.attempts l.table.states.entries l.fn.ended
+      (λ E. ArmsOn (statement_flow l.turns l.attempts (choice_among (list_of_arms l.arms))) (arms_flow l.turns l.attempts (sum (parts_of (list_of_arms l.arms))) (arm_list_of (drop l.count-index l.count-items))) l.table.states.entries E l.out.states.entries l.ended);
+  bits : AfterUndecided (sum (parts_of (list_of_arms l.arms))) l.attempts l.table.states.entries l.fn.ended
+      (λ E. (m : Meter) → CountsDraws l.attempts (sum (parts_of (list_of_arms l.arms))) (partial_sums (parts_of (list_of_arms l.arms))) l.table.states.entries m l.fn.meter →
+      ArmsMetered l.attempts (statement_flow l.turns l.attempts (choice_among (list_of_arms l.arms))) (statement_draws l.turns l.attempts (choice_among (list_of_arms l.arms))) (arms_draws l.turns l.attempts (sum (parts_of (list_of_arms l.arms))) (arm_list_of (drop l.count-index l.count-items))) l.table.states.entries E m l.meter);
 }
