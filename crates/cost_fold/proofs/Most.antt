@@ -3,25 +3,29 @@ use Rattle.std.proofs.Common.{◌≡◌, ℕ, zero, suc, ◌+◌, ◌-◌, ◌*�
 use Rattle.std.proofs.Math.Nat.{mul-le-mul_left, mul-le-mul_right}
 use Rattle.std.proofs.lemmas.Bool.{ltb-true}
 use Rattle.gcl_core.specs.declared.answers.Limit.TheVariants.{Attempts}
-use Rattle.gcl_core.specs.Syntax.{Expression, Statement, skip, assign, branch, loop, choice, uniform, observe, Statements, done, ◌▸◌}
-use Rattle.gcl_core.specs.Bounds.{StatementIsWeighed, BlockIsWeighed, ExpressionFits, StatementFits, BlockFits}
+use Rattle.gcl_core.specs.Syntax.{Expression, Statement, skip, assign, branch, loop, choice, choice_among, uniform, observe, Statements, done, ◌▸◌, ArmList, no_arm, arm}
+use Rattle.std.specs.List.{sum}
+use Rattle.gcl_core.specs.Arms.{parts_of}
+use Rattle.gcl_core.specs.Parts.{partial_sums}
+use Rattle.gcl_core.specs.Bounds.{StatementIsWeighed, BlockIsWeighed, ArmsAreWeighed, ExpressionFits, StatementFits, BlockFits, ArmsFit}
 use Rattle.gcl_core.specs.Draw.{bits_for, last_end}
 use Rattle.gcl_core.specs.Fitting.{state_fits}
-use Rattle.gcl_core.specs.Longest.{longest_statement, longest}
+use Rattle.gcl_core.specs.Longest.{longest_statement, longest, longest_arm}
 use Rattle.gcl_core.specs.Value.{State, Value, value_of, fits_64}
 use Rattle.gcl_core.specs.Blocks.{End, on, failed, fault, limit, by_value, by_bound, choice_ends, uniform_ends}
 use Rattle.gcl_core.specs.WeightedEnds.{Weighted, scaled, taken_on, class_weight, no_class_weight, statement_weighted}
+use Rattle.gcl_core.proofs.PartialSums.{last_is}
 use Rattle.gcl_core.proofs.Classes.{bits_le}
 use Rattle.gcl_core.proofs.FittingValues.{end_fits, value_fits}
 use Rattle.weighing_law.proofs.BlockMatching.{statement_matches}
 use Rattle.weighing_law.proofs.WeightedLists.{EachEntry, each-append, each-scaled, each_taken_on}
 use Rattle.cost_law.specs.ExpectedBits.{number_bits}
-use Rattle.mass_tables.specs.Tables.{Table, going_on, holds, fails, only, faults, all_end, both, loop_flow, statement_flow, block_flow, draws_each, draw_weights}
-use Rattle.mass_tables.specs.Reached.{Reached, drawn_each, drawn_bound, loop_draws, statement_draws, block_draws}
+use Rattle.mass_tables.specs.Tables.{Table, going_on, holds, fails, only, faults, all_end, both, loop_flow, statement_flow, block_flow, arms_flow, draws_each, draw_weights}
+use Rattle.mass_tables.specs.Reached.{Reached, drawn_each, drawn_bound, loop_draws, statement_draws, block_draws, arms_draws}
 use Rattle.mass_tables.specs.Scale.{whole, amount, weight, Wholes, Within}
 use Rattle.mass_tables.proofs.Amounts.{amount_append, both_first, both_second, draws_second, tables_first, tables_second, ends_first, ends_second, draws_first}
 use Rattle.mass_tables.proofs.Draws.{uniform_last}
-use Rattle.mass_tables.proofs.Kept.{guard_weight, ends_whole, choice_kept, head_whole, kept_one, kept_all}
+use Rattle.mass_tables.proofs.Kept.{guard_weight, ends_whole, choice_kept, head_whole, arms_weight, choose_inside, first_arm, other_arms, arms_kept, kept_one, kept_all}
 use Rattle.mass_fold.specs.Metering.{IsPriced, Priced, price}
 use Rattle.mass_fold.proofs.MeterFolds.{priced_first, priced_second}
 use Rattle.cost_fold.proofs.Prices.{price_most}
@@ -216,6 +220,16 @@ module _ (n r N L M : ℕ) where
         let e = most_up r N M E (weight N C) (weight N C) (longest n r q) m (omega arith) (omega arith) z.0 in
         let both_sides = most_up r N M (D ++ E) (weight N A + weight N C) (weight N I) m m (omega arith) (omega arith) (most_beside r N M D E (weight N A) (weight N C) m d e) in
         (most_after r N M B (D ++ E) (weight N I) (bits_for c.den * r) m (most_each r N M (choice_ends c) I wi (priced_first (Some r) M B (D ++ E) k)) both_sides, each-append state_fits F.next G.next y.1 z.1)
+    statement_most (choice_among arms) w f I wi a x s k =
+        let b = sum (parts_of arms) in
+        let ends = partial_sums (parts_of arms) in
+        let B = drawn_each ends I in
+        let D = arms_draws n (Some r) b arms I in
+        let kept = arms_kept n (Some r) N L arms I w.0 wi s in
+        let y = arms_most b arms w.1 f I wi a (choose_inside n (Some r) N L arms I s) (priced_second (Some r) M B D k) in
+        let d = most_up r N M D (arms_weight N b (Some r) (parts_of arms) I) (weight N I) (longest_arm n r arms) (longest_arm n r arms) (omega arith) (omega arith) y.0 in
+        let each = most_each r N M ends I wi (priced_first (Some r) M B D k) in
+        (most_after r N M B D (weight N I) (bits_for b * r) (longest_arm n r arms) (subst (λ b. DrawsMost r N M B (weight N I) (bits_for b * r)) (last_is (parts_of arms)) each) d, y.1)
     statement_most (loop e p) w f I wi a x s k = turns_most (value_of e) p w (block_most p w f.1) n I wi a s k
 
     pub block_most : (b : Statements) → BlockIsWeighed b → BlockFits b → (I : Table) → Wholes N I → AllFit I → Within N L (block_flow n (Some r) b I) → Priced (Some r) M (block_draws n (Some r) b I) →
@@ -234,3 +248,23 @@ module _ (n r N L M : ℕ) where
         let z = block_most b w.1 f.1 F.next wn y.1 sg (priced_second (Some r) M D E k) in
         let e = most_up r N M E (weight N F.next) (weight N I) (longest n r b) (longest n r b) (omega arith) (omega arith) z.0 in
         (most_after r N M D E (weight N I) (longest_statement n r st) (longest n r b) y.0 e, z.1)
+
+    -- the arms of a draw with b parts
+    arms_most : (b : ℕ) (arms : ArmList) → ArmsAreWeighed arms → ArmsFit arms → (I : Table) → Wholes N I → AllFit I → Within N L (arms_flow n (Some r) b arms I) → Priced (Some r) M (arms_draws n (Some r) b arms I) →
+        DrawsMost r N M (arms_draws n (Some r) b arms I) (arms_weight N b (Some r) (parts_of arms) I) (longest_arm n r arms) × AllFit (arms_flow n (Some r) b arms I).next
+    arms_most b no_arm w f I wi a s k = (none_most r N M 0 0, tt)
+    arms_most b (arm q p arms) w f I wi a s k =
+        let u = class_weight b (Some r) q in
+        let A = scaled u I in
+        let F = block_flow n (Some r) p A in
+        let G = arms_flow n (Some r) b arms I in
+        let sf = first_arm n (Some r) N L b q p arms I s in
+        let D = block_draws n (Some r) p A in
+        let E = arms_draws n (Some r) b arms I in
+        let m = max (longest n r p) (longest_arm n r arms) in
+        let V = arms_weight N b (Some r) (parts_of arms) I in
+        let y = block_most p w.0 f.0 A (head_whole n (Some r) N L p A sf.tables) (each-scaled state_fits u I a) sf (priced_first (Some r) M D E k) in
+        let z = arms_most b arms w.1 f.1 I wi a (other_arms n (Some r) N L b q p arms I s) (priced_second (Some r) M D E k) in
+        let d = most_up r N M D (weight N A) (weight N A) (longest n r p) m (omega arith) (omega arith) y.0 in
+        let e = most_up r N M E V V (longest_arm n r arms) m (omega arith) (omega arith) z.0 in
+        (most_beside r N M D E (weight N A) V m d e, each-append state_fits F.next G.next y.1 z.1)

@@ -1,20 +1,25 @@
 -- The bits of the draws that a table reaches are those that the statements let expect.
 use Rattle.std.proofs.Common.{◌≡◌, ℕ, zero, suc, ◌+◌, ◌-◌, ◌*◌, ◌<◌, ℤ, pos, negsuc, Bool, true, false, cond, List, [], ◌∷◌, ◌++◌, Ok, Err, Option, Some, None, refl, sym, ap, ◌∙◌, subst, arith}
-use Rattle.gcl_core.specs.Syntax.{Statement, skip, assign, branch, loop, choice, uniform, observe, Statements, done, ◌▸◌}
+use Rattle.gcl_core.specs.Syntax.{Statement, skip, assign, branch, loop, choice, choice_among, uniform, observe, Statements, done, ◌▸◌, ArmList, no_arm, arm}
+use Rattle.std.specs.List.{sum}
+use Rattle.gcl_core.specs.Arms.{parts_of}
+use Rattle.gcl_core.specs.Draw.{last_end}
+use Rattle.gcl_core.specs.Parts.{sums_from, partial_sums}
 use Rattle.gcl_core.specs.Value.{State, Value, value_of, is_zero}
 use Rattle.gcl_core.specs.Blocks.{End, on, failed, fault, limit, by_value, by_truth, by_bound, by_class, by_side, by_end, choice_ends, uniform_ends}
-use Rattle.gcl_core.specs.Bounds.{StatementIsWeighed, BlockIsWeighed}
+use Rattle.gcl_core.specs.Bounds.{StatementIsWeighed, BlockIsWeighed, ArmsAreWeighed}
 use Rattle.gcl_core.specs.Fractions.{Fraction, nothing, plus, times}
-use Rattle.gcl_core.specs.WeightedEnds.{Weighted, scaled, class_weight, no_class_weight, weighted_classes, statement_weighted, weighted_ends}
-use Rattle.cost_law.specs.ExpectedBits.{draw_bits, on_average, loop_bits, statement_bits, block_bits}
+use Rattle.gcl_core.specs.WeightedEnds.{Weighted, scaled, class_weight, no_class_weight, classes_from, weighted_classes, statement_weighted, weighted_ends}
+use Rattle.cost_law.specs.ExpectedBits.{draw_bits, on_average, loop_bits, statement_bits, block_bits, arm_bits}
+use Rattle.gcl_core.proofs.PartialSums.{last_is}
 use Rattle.cost_law.proofs.DrawBits.{draw_bits_pos}
 use Rattle.frac128.specs.Fraction.{IsEqual}
 use Rattle.frac128.proofs.Divisors.{product_pos}
 use Rattle.mass_tables.specs.Tables.{Table, holds, fails, only, statement_flow, block_flow}
-use Rattle.mass_tables.specs.Reached.{drawn_each, drawn_bound, loop_draws, statement_draws, block_draws}
+use Rattle.mass_tables.specs.Reached.{drawn_each, drawn_bound, loop_draws, statement_draws, block_draws, arms_draws}
 use Rattle.mass_tables.proofs.Draws.{class_pos, no_class_pos}
 use Rattle.mass_tables.proofs.Paths.{statement_positive, ends_positive}
-use Rattle.mass_tables.proofs.Positive.{Positive, p_scaled, p_only, p_one, p_all}
+use Rattle.mass_tables.proofs.Positive.{Positive, p_draw, p_scaled, p_only, p_one, p_all}
 use Rattle.cost_fold.proofs.Equal.{equal_trans, equal_plus, equal_times, average_positive, average_append, average_equal, average_nothing, average_scaled, average_within, average_sum, average_guard}
 use Rattle.cost_fold.proofs.Transfer.{next_statement, next_block}
 
@@ -75,6 +80,10 @@ by_end_positive failed g h = omega arith
 by_end_positive (fault f) g h = omega arith
 by_end_positive (limit l) g h = omega arith
 
+by_class_positive : (class : Option ℕ) (g : ℕ → Fraction) → ((i : ℕ) → 0 < (g i).1) → 0 < (by_class nothing class g).1
+by_class_positive None g h = omega arith
+by_class_positive (Some i) g h = h i
+
 plus_positive : (p q : Fraction) → 0 < p.1 → 0 < q.1 → 0 < (plus p q).1
 plus_positive p q h k = product_pos p.1 q.1 h k
 
@@ -107,6 +116,12 @@ module _ (n r : ℕ) where
         (plus_positive u (plus k (plus o nothing)) (product_pos (class_weight p.den (Some r) (p.num - 0)).1 (block_bits n r a s).1 (class_pos p.den (Some r) (p.num - 0) h) x)
         (plus_positive k (plus o nothing) (product_pos (class_weight p.den (Some r) (p.den - p.num)).1 (block_bits n r b s).1 (class_pos p.den (Some r) (p.den - p.num) h) y)
         (plus_positive o nothing (product_pos (no_class_weight p.den (Some r)).1 1 (no_class_pos p.den (Some r)) (omega arith)) (omega arith))))
+    statement_bits_positive (choice_among arms) w s =
+        let ends = partial_sums (parts_of arms) in
+        let go = λ (class : Option ℕ). by_class nothing class (λ i. arm_bits n r arms i s) in
+        let h : 0 < last_end ends = let o = w.0.positive in let e = last_is (parts_of arms) in omega arith in
+        plus_positive (c ends) (on_average (weighted_classes ends (Some r)) go) (draw_bits_pos ends r)
+        (average_positive (weighted_classes ends (Some r)) go (p_draw ends (Some r) h) (λ class. by_class_positive class (λ i. arm_bits n r arms i s) (λ i. arm_bits_positive arms w.1 i s)))
     statement_bits_positive (uniform x e) w s = by_value_positive (value_of e s) (λ z. by_bound z nothing (λ m. draw_bits (uniform_ends m) r)) (λ z. by_bound_positive z (λ m. draw_bits (uniform_ends m) r) (λ m. draw_bits_pos (uniform_ends m) r))
     statement_bits_positive (loop e a) w s = turns_positive (value_of e) a w (block_bits_positive a w) n s
 
@@ -116,6 +131,57 @@ module _ (n r : ℕ) where
         let go = λ (e : End). by_end (λ e. nothing) e (block_bits n r b) in
         plus_positive (statement_bits n r st s) (on_average (statement_weighted n (Some r) st s) go) (statement_bits_positive st w.0 s)
         (average_positive (statement_weighted n (Some r) st s) go (statement_positive n (Some r) st s w.0) (λ e. by_end_positive e (block_bits n r b) (block_bits_positive b w.1)))
+
+    arm_bits_positive : (arms : ArmList) → ArmsAreWeighed arms → (i : ℕ) (s : State) → 0 < (arm_bits n r arms i s).1
+    arm_bits_positive no_arm w i s = omega arith
+    arm_bits_positive (arm p b arms) w zero s = block_bits_positive b w.0 s
+    arm_bits_positive (arm p b arms) w (suc i) s = arm_bits_positive arms w.1 i s
+
+  -- ---- the arms of a choice among several, where the parts are b together
+  abbrev bits_of_arms : ℕ → ArmList → State → Fraction
+  bits_of_arms b no_arm s = nothing
+  bits_of_arms b (arm p a arms) s = plus (times (class_weight b (Some r) p) (block_bits n r a s)) (bits_of_arms b arms s)
+
+  bits_of_arms_positive : (b : ℕ) → 0 < b → (arms : ArmList) → ArmsAreWeighed arms → (s : State) → 0 < (bits_of_arms b arms s).1
+  bits_of_arms_positive b h no_arm w s = omega arith
+  bits_of_arms_positive b h (arm p a arms) w s =
+      let u = class_weight b (Some r) p in
+      plus_positive (times u (block_bits n r a s)) (bits_of_arms b arms s) (product_pos u.1 (block_bits n r a s).1 (class_pos b (Some r) p h) (block_bits_positive a w.0 s)) (bits_of_arms_positive b h arms w.1 s)
+
+  -- classes that are numbered from one more
+  classes_shifted : (weight : ℕ → Fraction) (i d : ℕ) (ends : List ℕ) (k : ℕ → Fraction) →
+      on_average (classes_from weight (i + 1) d ends) (λ class. by_class nothing class k) ≡ on_average (classes_from weight i d ends) (λ class. by_class nothing class (λ j. k (suc j)))
+  classes_shifted weight i d [] k = refl
+  classes_shifted weight i d (e ∷ ends) k =
+      let next : i + 1 ≡ suc i = omega arith in
+      ap (λ j. plus (times (weight (e - d)) (k j)) (on_average (classes_from weight (i + 1 + 1) e ends) (λ class. by_class nothing class k))) next
+      ∙ ap (plus (times (weight (e - d)) (k (suc i)))) (classes_shifted weight (i + 1) e ends k)
+
+  arm_by_arm : (b d : ℕ) (arms : ArmList) (s : State) →
+      on_average (classes_from (class_weight b (Some r)) 0 d (sums_from d (parts_of arms))) (λ class. by_class nothing class (λ i. arm_bits n r arms i s)) ≡ bits_of_arms b arms s
+  arm_by_arm b d no_arm s = refl
+  arm_by_arm b d (arm p a arms) s =
+      let size : d + p - d ≡ p = omega arith in
+      let rest = classes_shifted (class_weight b (Some r)) 0 (d + p) (sums_from (d + p) (parts_of arms)) (λ i. arm_bits n r (arm p a arms) i s) in
+      ap (λ k. plus (times (class_weight b (Some r) k) (block_bits n r a s)) (on_average (classes_from (class_weight b (Some r)) 1 (d + p) (sums_from (d + p) (parts_of arms))) (λ class. by_class nothing class (λ i. arm_bits n r (arm p a arms) i s)))) size
+      ∙ ap (plus (times (class_weight b (Some r) p) (block_bits n r a s))) (rest ∙ arm_by_arm b (d + p) arms s)
+
+  -- with what no attempt decides, which reads nothing more
+  choose_bits : (arms : ArmList) (s : State) → IsEqual (plus (c (partial_sums (parts_of arms))) (bits_of_arms (sum (parts_of arms)) arms s)) (statement_bits n r (choice_among arms) s)
+  choose_bits arms s =
+      let ends = partial_sums (parts_of arms) in
+      let b = sum (parts_of arms) in
+      let go = λ (class : Option ℕ). by_class nothing class (λ i. arm_bits n r arms i s) in
+      let X = bits_of_arms b arms s in
+      let o = no_class_weight b (Some r) in
+      let all : on_average (weighted_classes ends (Some r)) go ≡ plus X (plus (times o nothing) nothing)
+      = ap (λ b. on_average (classes_from (class_weight b (Some r)) 0 0 ends ++ (no_class_weight b (Some r), None) ∷ []) go) (last_is (parts_of arms))
+      ∙ average_append (classes_from (class_weight b (Some r)) 0 0 ends) ((no_class_weight b (Some r), None) ∷ []) go
+      ∙ ap (λ x. plus x (plus (times o nothing) nothing)) (arm_by_arm b 0 arms s) in
+      equal_plus (c ends) (c ends) X (on_average (weighted_classes ends (Some r)) go) refl (subst (IsEqual X) (sym all) (none_more X.0 X.1 o.0 o.1))
+    where
+      none_more : (x0 x1 n0 n1 : ℕ) → IsEqual (x0, x1) (plus (x0, x1) (plus (times (n0, n1) nothing) nothing))
+      none_more x0 x1 n0 n1 = omega arith
 
   -- ---- one way of going on after another
   -- first f, and then g on what goes on
@@ -233,6 +299,23 @@ module _ (n r : ℕ) where
             let e : q.num ≡ q.num - 0 = omega arith in
             subst (λ m. IsEqual (plus x (plus (times u y) (times k z))) (plus x (plus (times (class_weight q.den (Some r) m) y) (plus (times k z) (plus (times o nothing) nothing))))) e
             (ring x.0 x.1 u.0 u.1 y.0 y.1 k.0 k.1 z.0 z.1 o.0 o.1)
+    statement_reached (choice_among arms) w I p =
+        let b = sum (parts_of arms) in
+        let h : 0 < b = let o = w.0.positive in omega arith in
+        let ends = partial_sums (parts_of arms) in
+        let C = drawn_each ends I in
+        let D = arms_draws n (Some r) b arms I in
+        let cost = λ (s : State). c ends in
+        let pc = λ (s : State). draw_bits_pos ends r in
+        let all = bits_of_arms b arms in
+        let pall = bits_of_arms_positive b h arms w.1 in
+        let one : IsEqual (on_average C c) (on_average I cost) = subst (λ x. IsEqual x (on_average I cost)) (sym (average_each c ends I)) refl in
+        let both = in_turn I cost all (on_average C c) (on_average D c) p pc pall one (arms_reached b h arms w.1 I p) in
+        let made = λ (s : State). plus (cost s) (all s) in
+        let whole = on_average I (statement_bits n r (choice_among arms)) in
+        let each = average_equal I made (statement_bits n r (choice_among arms)) (λ s. choose_bits arms s) in
+        subst (λ x. IsEqual x whole) (sym (average_append C D c))
+        (equal_trans (plus (on_average C c) (on_average D c)) (on_average I made) whole (average_positive I made p (λ s. plus_positive (cost s) (all s) (pc s) (pall s))) both each)
     statement_reached (loop e a) w I p = turns_reached (value_of e) a w (block_reached a w) n I p
 
     pub block_reached : (b : Statements) → BlockIsWeighed b → (I : Table) → Positive I → IsEqual (on_average (block_draws n (Some r) b I) c) (on_average I (block_bits n r b))
@@ -249,3 +332,15 @@ module _ (n r : ℕ) where
         let y = equal_trans (on_average E c) (on_average f.next more) (on_average I rest) (average_positive f.next more pf pm) (block_reached b w.1 f.next pf) (next_statement n (Some r) I p more pm st w.0) in
         subst (λ q. IsEqual q (on_average I (block_bits n r (st ▸ b)))) (sym (average_append D E c))
         (in_turn I (statement_bits n r st) rest (on_average D c) (on_average E c) p (statement_bits_positive st w.0) prest (statement_reached st w.0 I p) y)
+
+    arms_reached : (b : ℕ) → 0 < b → (arms : ArmList) → ArmsAreWeighed arms → (I : Table) → Positive I → IsEqual (on_average (arms_draws n (Some r) b arms I) c) (on_average I (bits_of_arms b arms))
+    arms_reached b h no_arm w I p = none_on_average I (λ s. nothing) (λ s. refl)
+    arms_reached b h (arm q a arms) w I p =
+        let u = class_weight b (Some r) q in
+        let pu = class_pos b (Some r) q h in
+        let A = λ (s : State). times u (block_bits n r a s) in
+        let pA = λ (s : State). product_pos u.1 (block_bits n r a s).1 pu (block_bits_positive a w.0 s) in
+        let D = block_draws n (Some r) a (scaled u I) in
+        let E = arms_draws n (Some r) b arms I in
+        subst (λ x. IsEqual x (on_average I (bits_of_arms b (arm q a arms)))) (sym (average_append D E c))
+        (in_turn I A (bits_of_arms b arms) (on_average D c) (on_average E c) p pA (bits_of_arms_positive b h arms w.1) (side_reached u a I p pu w.0 (block_reached a w.0)) (arms_reached b h arms w.1 I p))
