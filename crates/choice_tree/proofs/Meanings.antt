@@ -2,14 +2,16 @@
 use Rattle.std.proofs.Common.{◌≡◌, ℕ, zero, suc, ℤ, Bool, List, Option, Some, None, Ok, Err, refl, ap, ◌∙◌}
 use Rattle.gcl_core.specs.declared.answers.Fault.{Fault}
 use Rattle.gcl_core.specs.declared.answers.Limit.TheVariants.{Attempts}
-use Rattle.gcl_core.specs.Syntax.{Statement, skip, assign, branch, loop, choice, uniform, observe, Statements, done, ◌▸◌}
+use Rattle.gcl_core.specs.Arms.{parts_of}
+use Rattle.gcl_core.specs.Syntax.{Statement, skip, assign, branch, loop, choice, choice_among, uniform, observe, Statements, done, ◌▸◌, ArmList, no_arm, arm}
 use Rattle.gcl_core.specs.Value.{State, Value, value_of}
 use Rattle.gcl_core.specs.Reading.{Reading, gives, more_bits, after}
 use Rattle.gcl_core.specs.Draw.{draw_on}
-use Rattle.gcl_core.specs.Blocks.{End, on, failed, fault, limit, by_value, by_truth, by_class, by_side, by_end, choice_ends, loop_on, statement_on, block_on}
+use Rattle.gcl_core.specs.Parts.{partial_sums}
+use Rattle.gcl_core.specs.Blocks.{End, on, failed, fault, limit, by_value, by_truth, by_class, by_side, by_end, choice_ends, loop_on, statement_on, block_on, arm_on}
 use Rattle.choice_tree.specs.Tree.{ChoiceTree, ChoiceTrees}
-use Rattle.choice_tree.specs.TreeOf.{in_front, member_of, members_of, tree_of}
-use Rattle.choice_tree.specs.Meaning.{choice_tree_on, choice_row_on}
+use Rattle.choice_tree.specs.TreeOf.{in_front, member_of, members_of, arm_trees, tree_of}
+use Rattle.choice_tree.specs.Meaning.{choice_tree_on, choice_row_on, choice_arm_on}
 
 -- ---- going on alike
 
@@ -69,6 +71,8 @@ module _ (n r : ℕ) where
     member_means (choice p a c) s w =
         after_same (draw_on (choice_ends p) r w) _ _ (λ class rest. class_same (gives (limit Attempts) rest) class _ _ (λ i.
         side_same i _ _ _ _ (members_mean a s rest) (members_mean c s rest)))
+    member_means (choice_among arms) s w =
+        after_same (draw_on (partial_sums (parts_of arms)) r w) _ _ (λ class rest. class_same (gives (limit Attempts) rest) class _ _ (λ i. arm_means arms i s rest))
     member_means (uniform x e) s w = refl
     member_means (observe e) s w = refl
 
@@ -78,6 +82,11 @@ module _ (n r : ℕ) where
         row_in_front (member_of st) (members_of b) s w
         ∙ ap (λ x. after x (λ e rest. by_end (λ e. gives e rest) e (λ s. choice_row_on n r (members_of b) s rest))) (member_means st s w)
         ∙ after_same (statement_on n r st s w) _ _ (λ e rest. end_same (λ e. gives e rest) e _ _ (λ s. members_mean b s rest))
+
+    arm_means : (arms : ArmList) (i : ℕ) (s : State) (w : List Bool) → choice_arm_on n r (arm_trees arms) i s w ≡ arm_on n r arms i s w
+    arm_means no_arm i s w = refl
+    arm_means (arm p b arms) zero s w = members_mean b s w
+    arm_means (arm p b arms) (suc i) s w = arm_means arms i s w
 
   pub tree_means : (b : Statements) (s : State) (w : List Bool) → choice_tree_on n r (tree_of b) s w ≡ block_on n r b s w
   tree_means b s w = members_mean b s w

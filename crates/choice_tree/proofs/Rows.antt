@@ -1,13 +1,13 @@
--- Rows that grow at their end while statements are read.
-use Rattle.std.proofs.Common.{◌≡◌, ◌∙◌, ℕ, ◌+◌, ◌<◌, ◌≤◌, List, [], ◌∷◌, ◌++◌, length, get_or, drop, Some, None, refl, sym, ap}
-use Rattle.std.proofs.lemmas.List.{at_drop_more, at_drop_all}
-use Rattle.std.specs.Option.{option_map}
+-- Rows that grow at their end while statements, or arms, are read.
+use Rattle.std.proofs.Common.{◌≡◌, ◌∙◌, ℕ, ◌+◌, ◌<◌, List, [], ◌∷◌, ◌++◌, length, get_or, drop, Option, sym, refl, ap}
+use Rattle.std.proofs.lemmas.List.{at_drop_more}
+use Rattle.gcl_core.specs.declared.syntax.Block.{Block}
 use Rattle.gcl_core.specs.declared.syntax.Stmt.{Stmt}
 use Rattle.gcl_core.specs.Views as statements
-use Rattle.gcl_core.specs.Views.{statement_of}
+use Rattle.gcl_core.specs.Views.{statement_of, statements_of, arm_list_of}
 use Rattle.choice_tree.specs.declared.tree.Cf.{Cf}
-use Rattle.choice_tree.specs.Tree.{ChoiceTrees, no_tree, ◌▹◌}
-use Rattle.choice_tree.specs.TreeOf.{in_front, member_of, members_of}
+use Rattle.choice_tree.specs.Tree.{ChoiceTree, ChoiceTrees, no_tree, ◌▹◌}
+use Rattle.choice_tree.specs.TreeOf.{in_front, member_of, members_of, arm_trees, tree_of}
 use Rattle.choice_tree.specs.Views.{choice_tree_of, list_of}
 
 -- one row behind the other
@@ -23,30 +23,33 @@ followed_push : (xs : List Cf) (x : Cf) (us : ChoiceTrees) → followed (list_of
 followed_push [] x us = refl
 followed_push (y ∷ xs) x us = ap (λ ts. choice_tree_of y ▹ ts) (followed_push xs x us)
 
+-- what was built, and then what the rest gives, is what all give
+pub record Built (ts : List Cf) (rest all : ChoiceTrees) : Type 0 where
+  pub whole : followed (list_of ts) rest ≡ all
+
+module _ (ts : List Cf) (rest all : ChoiceTrees) (b : Built ts rest all) where
+  pub built_all : rest ≡ no_tree → list_of ts ≡ all
+  built_all none = sym (followed_none (list_of ts)) ∙ ap (followed (list_of ts)) (sym none) ∙ b.whole
+
+  pub built_one : (more : ChoiceTrees) (us : List Cf) (t : Cf) → us ≡ ts ++ t ∷ [] → rest ≡ choice_tree_of t ▹ more → Built us more all
+  built_one more us t u e = record { whole = ap (λ l. followed (list_of l) more) u ∙ followed_push ts t more ∙ ap (followed (list_of ts)) (sym e) ∙ b.whole }
+
 -- the trees of the statements from the i-th on
-abbrev pub rest_from : ℕ → List Stmt → ChoiceTrees
-rest_from i ss = members_of (statements.list_of (drop i ss))
+abbrev pub members_from : ℕ → List Stmt → ChoiceTrees
+members_from i ss = members_of (statements.list_of (drop i ss))
 
--- what was built of statements and what the rest gives are what all give
-pub record Built (ts : List Cf) (i : ℕ) (ss : List Stmt) : Type 0 where
-  pub whole : followed (list_of ts) (rest_from i ss) ≡ members_of (statements.list_of ss)
+pub next_member : (i : ℕ) (ss : List Stmt) (s : Stmt) → i < length ss → s ≡ get_or ss i s → (o : Option ChoiceTree) → o ≡ member_of (statement_of s) →
+    members_from i ss ≡ in_front o (members_from (i + 1) ss)
+next_member i ss s lt is o e =
+    at_drop_more (λ l. members_of (statements.list_of l)) ss i s lt ∙ ap (λ x. in_front (member_of (statement_of x)) (members_from (i + 1) ss)) (sym is)
+    ∙ ap (λ m. in_front m (members_from (i + 1) ss)) (sym e)
 
-pub built_all : (ts : List Cf) (i : ℕ) (ss : List Stmt) → length ss ≤ i → Built ts i ss → list_of ts ≡ members_of (statements.list_of ss)
-built_all ts i ss le b =
-    sym (followed_none (list_of ts)) ∙ ap (followed (list_of ts)) (sym (at_drop_all (λ l. members_of (statements.list_of l)) ss i le)) ∙ b.whole
+-- the trees of the arms from the i-th on
+abbrev pub arms_from : ℕ → List (ℕ × Block) → ChoiceTrees
+arms_from i arms = arm_trees (arm_list_of (drop i arms))
 
-module _ (ts : List Cf) (i : ℕ) (ss : List Stmt) (s : Stmt) (lt : i < length ss) (is : s ≡ get_or ss i s) (b : Built ts i ss) where
-  next : rest_from i ss ≡ in_front (member_of (statement_of s)) (rest_from (i + 1) ss)
-  next = at_drop_more (λ l. members_of (statements.list_of l)) ss i s lt ∙ ap (λ x. in_front (member_of (statement_of x)) (rest_from (i + 1) ss)) (sym is)
-
-  pub built_one : (us : List Cf) (t : Cf) → us ≡ ts ++ t ∷ [] → option_map choice_tree_of (Some t) ≡ member_of (statement_of s) → Built us (i + 1) ss
-  built_one us t u e = record {
-    whole = ap (λ l. followed (list_of l) (rest_from (i + 1) ss)) u ∙ followed_push ts t (rest_from (i + 1) ss)
-        ∙ ap (λ o. followed (list_of ts) (in_front o (rest_from (i + 1) ss))) e
-        ∙ ap (followed (list_of ts)) (sym next) ∙ b.whole;
-  }
-
-  pub built_none : option_map choice_tree_of None ≡ member_of (statement_of s) → Built ts (i + 1) ss
-  built_none e = record {
-    whole = ap (λ o. followed (list_of ts) (in_front o (rest_from (i + 1) ss))) e ∙ ap (followed (list_of ts)) (sym next) ∙ b.whole;
-  }
+pub next_arm : (i : ℕ) (arms : List (ℕ × Block)) (a : ℕ × Block) → i < length arms → a ≡ get_or arms i a → (t : ChoiceTree) → t ≡ tree_of (statements_of a.1) →
+    arms_from i arms ≡ t ▹ arms_from (i + 1) arms
+next_arm i arms a lt is t e =
+    at_drop_more (λ l. arm_trees (arm_list_of l)) arms i a lt ∙ ap (λ x. tree_of (statements_of x.1) ▹ arms_from (i + 1) arms) (sym is)
+    ∙ ap (λ x. x ▹ arms_from (i + 1) arms) (sym e)

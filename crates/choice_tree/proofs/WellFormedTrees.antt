@@ -1,9 +1,10 @@
--- The tree of a block with such weights is well formed.
-use Rattle.std.proofs.Common.{Option, Some, None}
-use Rattle.gcl_core.specs.Bounds.{StatementIsWeighed, BlockIsWeighed}
-use Rattle.gcl_core.specs.Syntax.{Statement, skip, assign, branch, loop, choice, uniform, observe, Statements, done, ◌▸◌}
-use Rattle.choice_tree.specs.Tree.{ChoiceTree, ChoiceTrees}
-use Rattle.choice_tree.specs.TreeOf.{in_front, member_of, members_of}
+-- The tree of a block with such weights and parts is well formed.
+use Rattle.std.proofs.Common.{◌≡◌, length, Option, Some, None, refl, arith}
+use Rattle.gcl_core.specs.Arms.{parts_of}
+use Rattle.gcl_core.specs.Bounds.{StatementIsWeighed, BlockIsWeighed, ArmsAreWeighed}
+use Rattle.gcl_core.specs.Syntax.{Statement, skip, assign, branch, loop, choice, choice_among, uniform, observe, Statements, done, ◌▸◌, ArmList, no_arm, arm}
+use Rattle.choice_tree.specs.Tree.{ChoiceTree, ChoiceTrees, count}
+use Rattle.choice_tree.specs.TreeOf.{in_front, member_of, members_of, arm_trees}
 use Rattle.choice_tree.specs.WellFormed.{IsWellFormed, AreWellFormed}
 
 abbrev MemberIsWellFormed : Option ChoiceTree → Type 0
@@ -14,6 +15,11 @@ well_formed_front : (o : Option ChoiceTree) (ts : ChoiceTrees) → MemberIsWellF
 well_formed_front None ts a b = b
 well_formed_front (Some t) ts a b = (a, b)
 
+-- one part for each tree of an arm
+pub tree_for_each : (arms : ArmList) → length (parts_of arms) ≡ count (arm_trees arms)
+tree_for_each no_arm = refl
+tree_for_each (arm p b arms) = let e = tree_for_each arms in omega (arith, e)
+
 mutual
   member_well_formed : (s : Statement) → StatementIsWeighed s → MemberIsWellFormed (member_of s)
   member_well_formed skip h = tt
@@ -21,9 +27,14 @@ mutual
   member_well_formed (branch e a c) h = (members_well_formed a h.0, members_well_formed c h.1)
   member_well_formed (loop e a) h = members_well_formed a h
   member_well_formed (choice p a c) h = (h.0, members_well_formed a h.1, members_well_formed c h.2)
+  member_well_formed (choice_among arms) h = (h.0, tree_for_each arms, arms_well_formed arms h.1)
   member_well_formed (uniform x e) h = tt
   member_well_formed (observe e) h = (tt, tt)
 
   pub members_well_formed : (b : Statements) → BlockIsWeighed b → AreWellFormed (members_of b)
   members_well_formed done h = tt
   members_well_formed (s ▸ b) h = well_formed_front (member_of s) (members_of b) (member_well_formed s h.0) (members_well_formed b h.1)
+
+  arms_well_formed : (arms : ArmList) → ArmsAreWeighed arms → AreWellFormed (arm_trees arms)
+  arms_well_formed no_arm h = tt
+  arms_well_formed (arm p b arms) h = (members_well_formed b h.0, arms_well_formed arms h.1)

@@ -2,17 +2,19 @@
 
 ghost use Rattle.std.specs.Prelude.{◌≡◌, ℕ, Bool, List, IfOk};
 ghost use Rattle.std.specs.Option.{option_map};
+ghost use Rattle.gcl_core.specs.Arms.{parts_of};
 ghost use Rattle.gcl_core.specs.Value.{State};
 ghost use Rattle.gcl_core.specs.Blocks.{block_on};
-ghost use Rattle.gcl_core.specs.Views.{expression_of, statement_of, statements_of};
+ghost use Rattle.gcl_core.specs.Views.{expression_of, statement_of, statements_of, list_of_arms};
 ghost use Rattle.choice_tree.specs.Meaning.{choice_tree_on};
 ghost use Rattle.choice_tree.specs.Tree.{fails, tests, in_order, no_tree};
-ghost use Rattle.choice_tree.specs.TreeOf.{member_of, members_of, tree_of};
+ghost use Rattle.choice_tree.specs.TreeOf.{member_of, members_of, arm_trees, tree_of};
 ghost use Rattle.choice_tree.specs.Views.{choice_tree_of, choice_trees_of};
 ghost use Rattle.choice_tree.specs.WellFormed.{IsWellFormed};
 
+use crate::parts::Parts;
 use crate::tree::{Cf, CfRow};
-use gcl_core::{Block, Checked, Expr, Stmt};
+use gcl_core::{Arms, Block, Checked, Expr, Stmt};
 use std::alloc::{AllocError, Global};
 
 // The trees of a block's statements.
@@ -36,6 +38,30 @@ fn boxed_row(alloc: Global, b: &Block) -> Result<Box<Cf>, AllocError>
     ensures { IfOk result (λ t. choice_tree_of t.value ≡ tree_of (statements_of b.now)) }
 {
     Ok(Box::new(alloc, Cf::Row(row(alloc, b)?))?)
+}
+
+// The parts of the arms, in their order.
+fn parts(alloc: Global, arms: &Arms) -> Result<Parts, AllocError>
+    ensures { IfOk result (λ ps. ps ≡ parts_of (list_of_arms arms.now)) }
+{
+    let mut parts = Vec::new(alloc);
+    for i in 0..arms.count() {
+        parts.push(arms.part(i))?;
+    }
+    Ok(Parts::of(parts))
+}
+
+// The trees of the arms' blocks, in their order.
+#[cycle(building)]
+#[tactic(auto, using(crate::proofs::ViewLemmas::views))]
+fn arm_row(alloc: Global, arms: &Arms) -> Result<CfRow, AllocError>
+    ensures { IfOk result (λ r. choice_trees_of r ≡ arm_trees (list_of_arms arms.now)) }
+{
+    let mut members = Vec::new(alloc);
+    for (_, block) in &arms.arms {
+        members.push(Cf::Row(row(alloc, block)?))?;
+    }
+    Ok(CfRow { members })
 }
 
 // The test that fails where the value is 0, and else does nothing.
@@ -69,6 +95,10 @@ fn member(alloc: Global, s: &Stmt) -> Result<Option<Cf>, AllocError>
             let first = boxed_row(alloc, a)?;
             let second = boxed_row(alloc, c)?;
             Ok(Some(Cf::Choice(*weight, first, second)))
+        }
+        Stmt::Choose(arms) => {
+            let parts = parts(alloc, arms)?;
+            Ok(Some(Cf::Choose(parts, arm_row(alloc, arms)?)))
         }
         Stmt::While(e, a) => {
             let body = boxed_row(alloc, a)?;
