@@ -1,41 +1,40 @@
-// A choice among three arms with the parts 3, 2 and 1, worked by hand: its draw has the ends 3, 5 and 6, over numbers of three bits.
+// The program `choose { 6: { x := 1; } | 4: { x := 2; } | 2: { x := 3; } } return x;`, on its way to a tied tree. In lowest terms its
+// parts are 3, 2 and 1, and its draw has the ends 3, 5 and 6, over numbers of three bits.
 
-ghost use Rattle.std.specs.Prelude.{◌≡◌, ◌∷◌, [], IfOk};
-ghost use Rattle.choice_tree.specs.Tree.{count};
-ghost use Rattle.choice_tree.specs.Views.{choice_tree_of, choice_trees_of};
-ghost use Rattle.choice_tree.specs.WellFormed.{IsWellFormed, AreWellFormed};
+ghost use Rattle.std.specs.Prelude.{◌≡◌, pos, IfOk};
+ghost use Rattle.gcl_core.specs.Syntax.{number, assign, choice_among, done, ◌▸◌, no_arm, arm};
+ghost use Rattle.gcl_core.specs.Views.{statement_of};
 
-use crate::{Bt, debias};
-use choice_tree::{Cf, CfRow, Parts};
+use crate::tests::{one, set, sets_in_pick};
+use crate::{Bt, debias, tie};
+use choice_tree::to_tree;
 use draw_tree::{Attempt, Draw, attempt};
-use gcl_core::Expr;
+use gcl_check::check;
+use gcl_core::{Arms, Checked, Expr, Names, Program, Stmt};
 use std::alloc::{AllocError, Global};
 use std::test::Fail;
 
-fn parts(alloc: Global) -> Result<Parts, AllocError>
-    ensures { IfOk result (λ ps. ps ≡ 3 ∷ (2 ∷ (1 ∷ []))) }
+fn choose(alloc: Global) -> Result<Stmt, AllocError>
+    ensures { IfOk result (λ s. statement_of s ≡ choice_among (arm 6 (assign 0 (number (pos 1)) ▸ done) (arm 4 (assign 0 (number (pos 2)) ▸ done) (arm 2 (assign 0 (number (pos 3)) ▸ done) no_arm)))) }
 {
-    Ok(Parts::of(vec![in alloc; 3, 2, 1]?))
+    let first = set(alloc, 1)?;
+    let second = set(alloc, 2)?;
+    let third = set(alloc, 3)?;
+    let arms = vec![in alloc; (6, first), (4, second), (2, third)]?;
+    Ok(Stmt::Choose(Arms { arms }))
 }
 
-// The arms `x := 1;`, `x := 2;` and `x := 3;`.
-#[tactic(auto, using(choice_tree::proofs::ViewLemmas::views))]
-fn arms(alloc: Global) -> Result<CfRow, AllocError>
-    ensures formed { IfOk result (λ r. AreWellFormed (choice_trees_of r)) }
-    ensures count { IfOk result (λ r. count (choice_trees_of r) ≡ 3) }
-{
-    let mut members = Vec::new(alloc);
-    members.push(Cf::Set(0, Expr::Num(1)))?;
-    members.push(Cf::Set(0, Expr::Num(2)))?;
-    members.push(Cf::Set(0, Expr::Num(3)))?;
-    Ok(CfRow { members })
-}
-
-#[tactic(auto, using(choice_tree::proofs::ViewLemmas::views))]
-fn choice(alloc: Global) -> Result<Cf, AllocError>
-    ensures { IfOk result (λ t. IsWellFormed (choice_tree_of t)) }
-{
-    Ok(Cf::Choose(parts(alloc)?, arms(alloc)?))
+#[tactic(auto, using(gcl_core::proofs::ViewLemmas::views))]
+fn program(alloc: Global) -> Result<Option<Checked>, AllocError> {
+    let mut names = Names::new(alloc);
+    names.add(b"x")?;
+    let body = one(alloc, choose(alloc)?)?;
+    Ok(check(Program {
+        names,
+        body,
+        result: Expr::Var(0),
+    })
+    .ok())
 }
 
 // The numbers 0 to 2 are of class 0, 3 and 4 of class 1, and 5 of class 2; 6 and 7 are called again.
@@ -56,12 +55,16 @@ fn is_draw(draw: &Draw) -> bool {
 
 fn is_pick(tree: &Bt) -> bool {
     match tree {
-        Bt::Pick(draw, arms) => match arms.members.as_slice() {
-            [
-                Bt::Set(0, Expr::Num(1)),
-                Bt::Set(0, Expr::Num(2)),
-                Bt::Set(0, Expr::Num(3)),
-            ] => { is_draw(draw) }
+        Bt::Row(row) => match row.members.as_slice() {
+            [Bt::Pick(draw, arms)] => match arms.members.as_slice() {
+                [first, second, third] => {
+                    is_draw(draw)
+                        && sets_in_pick(first, 1)
+                        && sets_in_pick(second, 2)
+                        && sets_in_pick(third, 3)
+                }
+                _ => false,
+            },
             _ => false,
         },
         _ => false,
@@ -69,8 +72,14 @@ fn is_pick(tree: &Bt) -> bool {
 }
 
 #[test]
-fn a_choice_among_three_is_a_pick(rt: HostRuntime) -> Result<(), Fail> {
-    let tree = debias(rt.alloc(), &choice(rt.alloc())?)?;
-    assert!(rt; is_pick(&tree));
+fn from_a_choice_among_three_to_a_tied_tree(rt: HostRuntime) -> Result<(), Fail> {
+    let alloc = rt.alloc();
+    match program(alloc)? {
+        Some(p) => {
+            let body = debias(alloc, &to_tree(alloc, &p)?)?;
+            assert!(rt; is_pick(&tie(alloc, &p, body)?.body));
+        }
+        None => assert!(rt; false),
+    }
     Ok(())
 }
