@@ -2,12 +2,12 @@
 
 ghost use Rattle.std.specs.Prelude.{◌≡◌, pos, IfOk};
 ghost use Rattle.gcl_core.specs.declared.syntax.BinOp.TheVariants.{Add};
-ghost use Rattle.gcl_core.specs.Syntax.{number, variable, binary, assign, choice, done, ◌▸◌};
+ghost use Rattle.gcl_core.specs.Syntax.{number, variable, binary, assign, choice, choice_among, done, ◌▸◌, no_arm, arm};
 ghost use Rattle.gcl_core.specs.Views.{expression_of, statement_of, statements_of};
 
 use crate::{FracRows, MassError, mass, round};
 use gcl_check::check;
-use gcl_core::{BinOp, Block, Checked, Expr, Limit, Names, Outcome, Program, Stmt, Weight};
+use gcl_core::{Arms, BinOp, Block, Checked, Expr, Limit, Names, Outcome, Program, Stmt, Weight};
 use std::alloc::{AllocError, Global};
 use std::test::Fail;
 
@@ -62,6 +62,33 @@ fn two_thirds(alloc: Global) -> Result<Option<Checked>, AllocError> {
     let first = set(alloc, 0, Expr::Num(1))?;
     let second = set(alloc, 0, Expr::Num(2))?;
     let body = one(alloc, Stmt::Choice(weight, first, second))?;
+    Ok(check(Program {
+        names,
+        body,
+        result: Expr::Var(0),
+    })
+    .ok())
+}
+
+// `choose { a: { x := 1; } | b: { x := 2; } | c: { x := 3; } }`
+#[tactic(auto, using(gcl_core::proofs::ViewLemmas::views))]
+fn choose(alloc: Global, a: u64, b: u64, c: u64) -> Result<Stmt, AllocError>
+    ensures { IfOk result (λ s. statement_of s
+        ≡ choice_among (arm a (assign 0 (number (pos 1)) ▸ done) (arm b (assign 0 (number (pos 2)) ▸ done) (arm c (assign 0 (number (pos 3)) ▸ done) no_arm)))) }
+{
+    let first = set(alloc, 0, Expr::Num(1))?;
+    let second = set(alloc, 0, Expr::Num(2))?;
+    let third = set(alloc, 0, Expr::Num(3))?;
+    let arms = vec![in alloc; (a, first), (b, second), (c, third)]?;
+    Ok(Stmt::Choose(Arms { arms }))
+}
+
+// `choose { a: { x := 1; } | b: { x := 2; } | c: { x := 3; } } return x;`
+#[tactic(auto, using(gcl_core::proofs::ViewLemmas::views))]
+fn among(alloc: Global, a: u64, b: u64, c: u64) -> Result<Option<Checked>, AllocError> {
+    let mut names = Names::new(alloc);
+    names.add(b"x")?;
+    let body = one(alloc, choose(alloc, a, b, c)?)?;
     Ok(check(Program {
         names,
         body,
@@ -256,6 +283,50 @@ const TWO_THIRDS: [Case; 3] = [
     },
 ];
 
+// Of the eight numbers of one attempt three, two and one are of a class, and two are called again.
+const THREE_TWO_ONE: [Case; 3] = [
+    Case {
+        turns: 30,
+        attempts: Some(1),
+        rounds: None,
+        want: Ok(&[
+            (Outcome::Value(1), 3, 8),
+            (Outcome::Value(2), 1, 4),
+            (Outcome::Value(3), 1, 8),
+            (Outcome::Limit(Limit::Attempts), 1, 4),
+        ]),
+    },
+    Case {
+        turns: 30,
+        attempts: Some(2),
+        rounds: None,
+        want: Ok(&[
+            (Outcome::Value(1), 15, 32),
+            (Outcome::Value(2), 5, 16),
+            (Outcome::Value(3), 5, 32),
+            (Outcome::Limit(Limit::Attempts), 1, 16),
+        ]),
+    },
+    Case {
+        turns: 30,
+        attempts: None,
+        rounds: None,
+        want: Ok(&[
+            (Outcome::Value(1), 1, 2),
+            (Outcome::Value(2), 1, 3),
+            (Outcome::Value(3), 1, 6),
+        ]),
+    },
+];
+
+// An arm of part 0 has no row.
+const ONE_NONE_ONE: [Case; 1] = [Case {
+    turns: 30,
+    attempts: Some(1),
+    rounds: None,
+    want: Ok(&[(Outcome::Value(1), 1, 2), (Outcome::Value(3), 1, 2)]),
+}];
+
 const SOME_ONE: [Case; 3] = [
     Case {
         turns: 30,
@@ -343,6 +414,8 @@ const ONE_STATE_MORE: [Case; 1] = [Case {
 fn masses_of_programs(rt: HostRuntime) -> Result<(), Fail> {
     let alloc = rt.alloc();
     assert!(rt; all_come(alloc, two_thirds(alloc), &TWO_THIRDS)?);
+    assert!(rt; all_come(alloc, among(alloc, 3, 2, 1), &THREE_TWO_ONE)?);
+    assert!(rt; all_come(alloc, among(alloc, 1, 0, 1), &ONE_NONE_ONE)?);
     assert!(rt; all_come(alloc, some_one(alloc), &SOME_ONE)?);
     assert!(rt; all_come(alloc, geometric(alloc), &GEOMETRIC)?);
     assert!(rt; all_come(alloc, never(alloc), &NEVER)?);
