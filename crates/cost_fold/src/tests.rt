@@ -20,6 +20,12 @@ const DIE: &str = "face ~ uniform(6); return face;";
 const BRANCHES: &str =
     "c ~ uniform(2); if c = 1 { x ~ uniform(3); x := 0; c := 0; } else { skip; } return x;";
 
+const AMONG: &str = "choose { 3: { x := 1; } | 2: { x := 2; } | 1: { x := 3; } } return x;";
+
+// An arm of part 0 is never reached.
+const UNREACHED: &str =
+    "choose { 1: { x ~ uniform(2); } | 0: { x ~ uniform(3); } | 1: { skip; } } return x;";
+
 // The limits of turns, attempts and rounds.
 struct Case {
     text: &'static str,
@@ -28,8 +34,9 @@ struct Case {
 }
 
 // At 2/3 an attempt reads 1 + 1/2 bits, and is made again with 1/4; at a die 1 + 1 + 3/4, again with 1/4. A round of two coins reads
-// 2, and fails with 1/4. The first turn of the geometric loop reads 1, and the second 1 with 1/2.
-const CASES: [Case; 12] = [
+// 2, and fails with 1/4. The first turn of the geometric loop reads 1, and the second 1 with 1/2. With the parts 3, 2 and 1 all numbers
+// have one class behind 00 and 11 alone: 1 + 1 + 1/2, again with 1/4. With 1, 0 and 1 an attempt reads 1, and a coin follows with 1/2.
+const CASES: [Case; 15] = [
     Case {
         text: TWO_THIRDS,
         limits: (30, 1, 1),
@@ -44,6 +51,21 @@ const CASES: [Case; 12] = [
         text: TWO_THIRDS,
         limits: (30, 100, 1),
         want: Err(CostError::TooWide),
+    },
+    Case {
+        text: AMONG,
+        limits: (30, 1, 1),
+        want: Ok((5, 2)),
+    },
+    Case {
+        text: AMONG,
+        limits: (30, 2, 1),
+        want: Ok((25, 8)),
+    },
+    Case {
+        text: UNREACHED,
+        limits: (30, 1, 1),
+        want: Ok((3, 2)),
     },
     Case {
         text: TWO_COINS,
