@@ -70,25 +70,31 @@ fn two_thirds(alloc: Global) -> Result<Option<Checked>, AllocError> {
     .ok())
 }
 
-// `choose { a: { x := 1; } | b: { x := 2; } | c: { x := 3; } }`
+// A choice among three arms with these parts.
 #[tactic(auto, using(gcl_core::proofs::ViewLemmas::views))]
-fn choose(alloc: Global, a: u64, b: u64, c: u64) -> Result<Stmt, AllocError>
-    ensures { IfOk result (λ s. statement_of s
-        ≡ choice_among (arm a (assign 0 (number (pos 1)) ▸ done) (arm b (assign 0 (number (pos 2)) ▸ done) (arm c (assign 0 (number (pos 3)) ▸ done) no_arm)))) }
+fn choose(
+    alloc: Global,
+    parts: (u64, u64, u64),
+    first: Block,
+    second: Block,
+    third: Block,
+) -> Result<Stmt, AllocError>
+    ensures { IfOk result (λ s. statement_of s ≡ choice_among (arm parts.0 (statements_of first) (arm parts.1 (statements_of second) (arm parts.2 (statements_of third) no_arm)))) }
 {
-    let first = set(alloc, 0, Expr::Num(1))?;
-    let second = set(alloc, 0, Expr::Num(2))?;
-    let third = set(alloc, 0, Expr::Num(3))?;
+    let (a, b, c) = parts;
     let arms = vec![in alloc; (a, first), (b, second), (c, third)]?;
     Ok(Stmt::Choose(Arms { arms }))
 }
 
 // `choose { a: { x := 1; } | b: { x := 2; } | c: { x := 3; } } return x;`
 #[tactic(auto, using(gcl_core::proofs::ViewLemmas::views))]
-fn among(alloc: Global, a: u64, b: u64, c: u64) -> Result<Option<Checked>, AllocError> {
+fn among(alloc: Global, parts: (u64, u64, u64)) -> Result<Option<Checked>, AllocError> {
     let mut names = Names::new(alloc);
     names.add(b"x")?;
-    let body = one(alloc, choose(alloc, a, b, c)?)?;
+    let first = set(alloc, 0, Expr::Num(1))?;
+    let second = set(alloc, 0, Expr::Num(2))?;
+    let third = set(alloc, 0, Expr::Num(3))?;
+    let body = one(alloc, choose(alloc, parts, first, second, third)?)?;
     Ok(check(Program {
         names,
         body,
@@ -414,8 +420,8 @@ const ONE_STATE_MORE: [Case; 1] = [Case {
 fn masses_of_programs(rt: HostRuntime) -> Result<(), Fail> {
     let alloc = rt.alloc();
     assert!(rt; all_come(alloc, two_thirds(alloc), &TWO_THIRDS)?);
-    assert!(rt; all_come(alloc, among(alloc, 3, 2, 1), &THREE_TWO_ONE)?);
-    assert!(rt; all_come(alloc, among(alloc, 1, 0, 1), &ONE_NONE_ONE)?);
+    assert!(rt; all_come(alloc, among(alloc, (3, 2, 1)), &THREE_TWO_ONE)?);
+    assert!(rt; all_come(alloc, among(alloc, (1, 0, 1)), &ONE_NONE_ONE)?);
     assert!(rt; all_come(alloc, some_one(alloc), &SOME_ONE)?);
     assert!(rt; all_come(alloc, geometric(alloc), &GEOMETRIC)?);
     assert!(rt; all_come(alloc, never(alloc), &NEVER)?);

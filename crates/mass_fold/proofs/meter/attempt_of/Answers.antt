@@ -1,12 +1,7 @@
-use Rattle.std.proofs.Common.{◌≡◌, ◌∙◌, ◌≤◌, ◌<◌, ◌+◌, length, slice_set, sym, ap, subst, arith}
+use Rattle.std.proofs.Common.{◌∙◌, ◌+◌, slice_set, sym, ap, subst, arith}
 use Rattle.std.proofs.lemmas.List.{length-take-le}
 use Rattle.cost_law.specs.ExpectedBits.{attempt_bits}
-use Rattle.gcl_core.specs.declared.rules.TheConstants.{MOST_ARMS, GREATEST_DENOMINATOR}
-use Rattle.gcl_core.specs.Arms.{parts_of}
-use Rattle.gcl_core.specs.Draw.{last_end}
-use Rattle.gcl_core.specs.Parts.{partial_sums}
-use Rattle.gcl_core.specs.Views.{arm_list_of, list_of_arms}
-use Rattle.gcl_core.proofs.PartialSums.{last_is}
+use Rattle.gcl_core.specs.declared.rules.TheConstants.{GREATEST_DENOMINATOR}
 use Rattle.mass_fold.proofs.ArmsLeft.{EndsAt, few_arms, ends_next, ends_all, ends_within}
 use Rattle.mass_fold.proofs.meter.attempt_of.Goals as goal
 

@@ -1,7 +1,5 @@
-use Rattle.std.proofs.Common.{◌≡◌, ◌∙◌, sym}
 use Rattle.std.specs.List.{sum}
 use Rattle.gcl_core.specs.Arms.{parts_of}
-use Rattle.gcl_core.specs.Draw.{last_end}
 use Rattle.gcl_core.specs.Parts.{partial_sums}
 use Rattle.gcl_core.specs.Views.{list_of_arms}
 use Rattle.gcl_core.proofs.PartialSums.{last_is}
