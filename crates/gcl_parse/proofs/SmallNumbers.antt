@@ -1,8 +1,7 @@
 -- The numbers that a text's expressions have are below 2 ^ 63, as those of its tokens are. So a program that a text spells is checked.
-use Rattle.std.proofs.Common.{◌≡◌, ℕ, ◌+◌, ◌^◌, pos, Bool, true, false, ◌&&◌, nat_lt, List, [], ◌∷◌, map, length, Option, Some, None, refl, sym, ap, subst}
+use Rattle.std.proofs.Common.{◌≡◌, ℕ, ◌+◌, ◌^◌, Bool, true, false, ◌&&◌, nat_lt, List, [], ◌∷◌, map, length, Option, Some, None, refl, sym, subst}
 use Rattle.std.specs.Prelude.{IsTrue, option_map}
 use Rattle.std.specs.List.{list_all, cons_option}
-use Rattle.std.specs.Str.Parse.{digits_value}
 use Rattle.gcl_core.specs.declared.tokens.Key.TheVariants as k
 use Rattle.gcl_core.specs.declared.tokens.Key.{Key}
 use Rattle.gcl_core.specs.declared.tokens.PieceKind.{PieceKind}
@@ -16,15 +15,15 @@ use Rattle.gcl_core.specs.declared.words.Word.TheVariants as w
 use Rattle.gcl_core.specs.declared.levels.Level.{Level}
 use Rattle.gcl_core.specs.Bounds.{ExpressionFits, StatementFits, BlockFits, ArmsFit, NumbersFit}
 use Rattle.gcl_core.specs.Derivation.{Derives}
-use Rattle.gcl_core.specs.Grammar.{leaf, ReadsPhrase, ReadsMore, a_leaf, in_brackets, with_sign, without_sign, a_comparison, no_comparison, with_not, without_not, a_row, no_more, one_more, ReadsStatement, ReadsStatements, ReadsBlock, ReadsElse, a_skip, an_assignment, a_uniform, an_observation, an_if, a_while, a_choice, a_choose, ReadsArms, last_arm, one_more_arm, no_statement, a_statement, in_braces, no_else, an_else, ReadsProgram}
+use Rattle.gcl_core.specs.Grammar.{leaf, ReadsPhrase, ReadsMore, a_leaf, in_brackets, with_sign, without_sign, a_comparison, no_comparison, with_not, without_not, a_row, no_more, one_more, ReadsStatement, ReadsStatements, ReadsBlock, ReadsElse, a_skip, an_assignment, a_uniform, an_observation, an_if, a_while, a_choice, a_choose, ReadsArms, last_arm, one_more_arm, no_statement, a_statement, in_braces, no_else, an_else}
 use Rattle.gcl_core.specs.Keeping.{IsChecked}
-use Rattle.gcl_core.specs.Lexing.{may_stand, stands, IsLexed}
+use Rattle.gcl_core.specs.Lexing.{may_stand, stands}
 use Rattle.gcl_core.specs.Names.{Name, number_of}
 use Rattle.gcl_core.specs.Pieces.{Piece}
 use Rattle.gcl_core.specs.Syntax.{Expression, Statement, Statements, ArmList, Source}
 use Rattle.gcl_core.specs.Texts.{Spells}
 use Rattle.gcl_core.specs.Tokens.{named_kind, key_of, kind_of, tokens_from}
-use Rattle.gcl_core.specs.Words.{as_word, slice_of, names_of, word_of, words_of}
+use Rattle.gcl_core.specs.Words.{as_word, slice_of, names_of, word_of}
 use Rattle.gcl_core.proofs.Accepted.{lowest_checked}
 use Rattle.gcl_parse.proofs.Programs.{variables_below, arms_counted}
 
