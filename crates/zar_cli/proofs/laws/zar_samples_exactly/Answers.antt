@@ -7,7 +7,7 @@ use Rattle.zar_io.specs.FileBits.{file_bits}
 use Rattle.zar_cli.specs.declared.command.Command.TheVariants.{Sample}
 use Rattle.zar_cli.specs.declared.command.Source.TheVariants.{File}
 use Rattle.zar_cli.specs.declared.said.Said.TheVariants.{Answered}
-use Rattle.zar_cli.specs.Output.{Output, IsOutput, says, reading, on_bits, spelled}
+use Rattle.zar_cli.specs.Output.{Output, IsOutput, reading, on_bits, spelled}
 use Rattle.zar_cli.specs.Words.{Word}
 use Rattle.zar_cli.proofs.laws.zar_samples_exactly.Goals as goal
 
