@@ -15,14 +15,14 @@ use Rattle.gcl_core.proofs.SameOutcomes.{key_itself}
 use Rattle.tally_range.proofs.InRows.{both, join, before_all_from, counted_itself}
 use Rattle.tally_range.proofs.Exact.{not_counted, none_counted}
 
-counted_add : (key : TallyKey) (a n : ℕ) (other : TallyKey) → counted_at key (a + n) other ≡ counted_at key a other + counted_at key n other
+pub counted_add : (key : TallyKey) (a n : ℕ) (other : TallyKey) → counted_at key (a + n) other ≡ counted_at key a other + counted_at key n other
 counted_add key a n other = by (same_key key other)
   where
     by : (b : Bool) → (if b then a + n else 0) ≡ (if b then a else 0) + (if b then n else 0)
     by true = refl
     by false = refl
 
-counted_none : (key : TallyKey) (n : ℕ) (other : TallyKey) → n ≡ 0 → counted_at key n other ≡ 0
+pub counted_none : (key : TallyKey) (n : ℕ) (other : TallyKey) → n ≡ 0 → counted_at key n other ≡ 0
 counted_none key n other e = by (same_key key other)
   where
     by : (b : Bool) → (if b then n else 0) ≡ 0

@@ -6,3 +6,4 @@ pub mod Shares
 pub mod Tallied
 pub mod Exact
 pub mod Entries
+pub mod SmallRows

@@ -5,6 +5,7 @@ mod laws;
 mod range;
 mod share;
 mod sharing;
+mod small_counts;
 mod streams;
 mod table;
 mod tallying;

@@ -4,11 +4,12 @@ ghost use Rattle.std.specs.Prelude.{◌≡◌, ◌+◌, ◌-◌, ◌*◌, ◌<�
 ghost use Rattle.gcl_core.specs.declared.answers.Answer.{Answer};
 ghost use Rattle.gcl_core.specs.declared.answers.TallyKey.{TallyKey};
 ghost use Rattle.sampler_run.specs.Held.{IsRestOf, set_back};
-ghost use Rattle.tally_range.specs.Rows.{count_in};
+ghost use Rattle.tally_range.specs.Rows.{count_in, counted_at};
 ghost use Rattle.tally_range.specs.Counts.{key_of, key_on, count_over, blocks_over};
 ghost use Rattle.tally_range.specs.Shares.{count_block};
 
 use crate::range::SeedRange;
+use crate::small_counts::SmallCounts;
 use crate::table::Tally;
 use gcl_core::{Answer, TallyKey};
 use sampler_run::{State, go_on};
@@ -38,6 +39,19 @@ pub fn run_on_stream(state: &mut State<'_>, seed: u64, stream: u64, budget: u64)
     }
 }
 
+// Counts one more for the key, in the table only where it is no small value. An error comes only where memory is wanting.
+#[inline]
+fn count_key(small: &mut SmallCounts, table: &mut Tally, key: TallyKey) -> Result<(), AllocError>
+    requires { count_in table.old key + count_in small.old key + 1 < 2 ^ 64 }
+    ensures { IfOk result (λ _. (other : TallyKey) →
+        count_in table.new other + count_in small.new other ≡ count_in table.old other + count_in small.old other + counted_at key 1 other) }
+{
+    if small.count(key) {
+        return Ok(());
+    }
+    table.add(key, 1)
+}
+
 // Runs on some streams that follow one another, and counts the keys of the runs. An error comes only where memory is wanting.
 pub(crate) fn count_streams(
     state: &mut State<'_>,
@@ -54,12 +68,14 @@ pub(crate) fn count_streams(
     ensures few { IfOk result (λ _. (key : TallyKey) → count_in table.new key ≤ count_in table.old key + (end - first)) }
     ensures same_start { set_back state.new ≡ set_back state.old }
 {
+    let mut small = SmallCounts::new();
     let mut at = first;
     while at < end {
-        table.add(run_on_stream(state, range.seed, at, range.budget), 1)?;
+        let key = run_on_stream(state, range.seed, at, range.budget);
+        count_key(&mut small, table, key)?;
         at += 1;
     }
-    Ok(())
+    small.add_to(table)
 }
 
 // Where a block of the range ends.

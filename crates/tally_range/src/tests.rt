@@ -20,15 +20,15 @@ const LIMITS: Limits = Limits {
     rounds: 1000,
 };
 
-// `return 7;`
+// The program that returns this number.
 #[tactic(auto, using(gcl_core::proofs::ViewLemmas::views))]
-fn seven(alloc: Global) -> Result<Option<Checked>, AllocError> {
+fn constant(alloc: Global, n: i64) -> Result<Option<Checked>, AllocError> {
     Ok(check(Program {
         names: Names::new(alloc),
         body: Block {
             stmts: Vec::new(alloc),
         },
-        result: Expr::Num(7),
+        result: Expr::Num(n),
     })
     .ok())
 }
@@ -111,12 +111,31 @@ fn counts_draws<R: Threads + Sync>(rt: &R, alloc: Global, s: &Sampler) -> Result
 #[test]
 fn rows_of_streams(rt: HostRuntime) -> Result<(), Fail> {
     let alloc = rt.alloc();
-    match (seven(alloc)?, die(alloc)?) {
+    match (constant(alloc, 7)?, die(alloc)?) {
         (Some(seven), Some(die)) => {
             assert!(rt; counts_sevens(&rt, alloc, &compile(alloc, &seven)?)?);
             assert!(rt; counts_draws(&rt, alloc, &compile(alloc, &die)?)?);
         }
         _ => assert!(rt; false),
+    }
+    Ok(())
+}
+
+// Values on both sides of where small ones end.
+fn counts_one_value<R: Threads + Sync>(rt: &R, alloc: Global, n: i64) -> Result<bool, AllocError> {
+    let Some(program) = constant(alloc, n)? else {
+        return Ok(false);
+    };
+    let key = TallyKey::Outcome(Outcome::Value(n));
+    let s = compile(alloc, &program)?;
+    counts_just(rt, alloc, &s, &streams(0, 100, 10, 2), key, 100)
+}
+
+#[test]
+fn rows_of_small_values_and_others(rt: HostRuntime) -> Result<(), Fail> {
+    let alloc = rt.alloc();
+    for n in [-1, 0, 63, 64] {
+        assert!(rt; counts_one_value(&rt, alloc, n)?);
     }
     Ok(())
 }
