@@ -22,7 +22,7 @@ use Rattle.sampler_run.proofs.Words.{needs_rest, silent_most}
 
 -- ---- numbers and their bits
 
-pow_sum : (j k : ℕ) → 2 ^ k * 2 ^ j ≡ 2 ^ (j + k)
+pub pow_sum : (j k : ℕ) → 2 ^ k * 2 ^ j ≡ 2 ^ (j + k)
 pow_sum j k = sym (pow-add 2 k j) ∙ ap (λ i. 2 ^ i) (let e : k + j ≡ j + k = omega arith in e)
 
 -- the first bits of some, and the others
@@ -42,7 +42,7 @@ bit_of (suc zero) lt = refl
 bit_of (suc (suc n)) lt = absurd (omega arith)
 
 -- the number that is spelled by one bit more
-spelled_more : (low k n : ℕ) → (2 * low + bit (n / 2 ^ k % 2 == 1)) * 2 ^ k + n % 2 ^ k ≡ low * 2 ^ suc k + n % 2 ^ suc k
+pub spelled_more : (low k n : ℕ) → (2 * low + bit (n / 2 ^ k % 2 == 1)) * 2 ^ k + n % 2 ^ k ≡ low * 2 ^ suc k + n % 2 ^ suc k
 spelled_more low k n =
     let p = 2 ^ k in
     let d = n / p % 2 in
@@ -70,17 +70,17 @@ module _ (code : List Instruction) (l : Limits) (x : ℕ) (e : Expression) (b : 
   abbrev pub drawn : Machine → ℕ → ℕ → Machine
   drawn m k v = stored (record m { used = used_after k m.used }) x (pos v)
 
-  step_draws : (m : Machine) (k low : ℕ) → slice_get code m.index ≡ Some (Range x e) → m.drawing ≡ below b k low → step code l m ≡ draws m x b k low
+  pub step_draws : (m : Machine) (k low : ℕ) → slice_get code m.index ≡ Some (Range x e) → m.drawing ≡ below b k low → step code l m ≡ draws m x b k low
   step_draws m k low at is = ap (λ o. act l o m) at ∙ ap (λ d. ranges l x e m d) is
 
-  stores : (m : Machine) (low : ℕ) → low < b → draws m x b zero low ≡ goes (stored m x (pos low))
+  pub stores : (m : Machine) (low : ℕ) → low < b → draws m x b zero low ≡ goes (stored m x (pos low))
   stores m low lt = ap (λ (c : Bool). if c then goes (stored m x (pos low)) else retry m b m.tries) (lt-ltb low b lt)
 
-  asks_more : (m : Machine) (k low : ℕ) → low * 2 ^ suc k < b → draws m x b (suc k) low ≡ asks (narrowed m b k (2 * low)) (narrowed m b k (2 * low + 1))
+  pub asks_more : (m : Machine) (k low : ℕ) → low * 2 ^ suc k < b → draws m x b (suc k) low ≡ asks (narrowed m b k (2 * low)) (narrowed m b k (2 * low + 1))
   asks_more m k low lt =
       ap (λ (c : Bool). if c then asks (narrowed m b k (2 * low)) (narrowed m b k (2 * low + 1)) else retry m b m.tries) (lt-ltb (low * 2 ^ suc k) b lt)
 
-  side_narrowed : (m : Machine) (k low : ℕ) (c : Bool) → side (asks (narrowed m b k (2 * low)) (narrowed m b k (2 * low + 1))) c m ≡ narrowed m b k (2 * low + bit c)
+  pub side_narrowed : (m : Machine) (k low : ℕ) (c : Bool) → side (asks (narrowed m b k (2 * low)) (narrowed m b k (2 * low + 1))) c m ≡ narrowed m b k (2 * low + bit c)
   side_narrowed m k low false = let e : 2 * low ≡ 2 * low + 0 = omega arith in ap (λ n. narrowed m b k n) e
   side_narrowed m k low true = refl
 

@@ -5,3 +5,4 @@ pub mod Coming
 pub mod Going
 pub mod Taken
 pub mod Ran
+pub mod Tried

@@ -1,0 +1,101 @@
+-- A draw below a bound, from registers to registers.
+use Rattle.std.proofs.Common.{◌≡◌, ℕ, ◌<◌, ◌≤◌, pos, List, length, refl, sym, ap, ◌∙◌, subst, arith}
+use Rattle.std.specs.Prelude.{◌^◌, slice_get, Some}
+use Rattle.gcl_core.specs.declared.answers.Fault.TheVariants.{BadBound}
+use Rattle.gcl_core.specs.declared.answers.Limits.{Limits}
+use Rattle.gcl_core.specs.declared.answers.Outcome.{Outcome}
+use Rattle.gcl_core.specs.declared.answers.Outcome.TheVariants as outcome
+use Rattle.gcl_core.specs.Blocks.{by_bound}
+use Rattle.gcl_core.specs.Draw.{bits_for}
+use Rattle.gcl_core.specs.Syntax.{Expression}
+use Rattle.gcl_core.specs.Value.{value_of}
+use Rattle.zar_io.specs.FileBits.{low_bits}
+use Rattle.sampler_code.specs.Depths.{greatest_depth}
+use Rattle.sampler_code.specs.Instruction.{Instruction, Range}
+use Rattle.sampler_code.specs.Machine.{idle, below, Machine, goes, ends, act, step, stored, begun, ranges, with_value}
+use Rattle.sampler_code.specs.Sound.{Sound}
+use Rattle.sampler_code.specs.inner.Bounded.{rest_of, Answered}
+use Rattle.sampler_run.specs.declared.machine.Registers.{Registers}
+use Rattle.sampler_run.specs.declared.stepping.Move.{Move}
+use Rattle.sampler_run.specs.declared.stepping.Move.TheVariants as move
+use Rattle.sampler_run.specs.declared.trials.Came.TheVariants as came
+use Rattle.sampler_run.specs.declared.trials.Trial.{Trial}
+use Rattle.sampler_run.specs.Views.{machine_of}
+use Rattle.sampler_run.specs.inner.Going.{to_go}
+use Rattle.sampler_run.specs.inner.Ran.{CanRun, HasMoved, MovedTo}
+use Rattle.sampler_run.specs.inner.Resting.{Asks, IsSmall}
+use Rattle.sampler_run.specs.inner.Taken.{Takes}
+use Rattle.sampler_run.specs.inner.Tried.{at_trial, HasTried, HasBegun, Went}
+use Rattle.sampler_run.proofs.Rejections.{step_went, went_answered}
+use Rattle.sampler_run.proofs.Takes.{takes_join}
+
+-- ---- registers that stand for the same machine
+
+module _ (code : List Instruction) (l : Limits) (old new : Registers) where
+  pub can_same : (count : ℕ) → machine_of new ≡ machine_of old → new.stack ≡ old.stack → CanRun code l old count → CanRun code l new count
+  can_same count same stack can = record {
+    room = subst (λ n. greatest_depth code ≤ n) (sym stack) can.room;
+    sound = subst (λ (m : Machine). Sound code (length m.turns) (length m.vars)) (sym same) can.sound;
+    answered = subst (λ m. Answered code l m) (sym same) can.answered;
+    small = subst (λ (m : Machine). IsSmall m.drawing) (sym same) can.small;
+    bits = can.bits;
+  }
+
+  then_moved : (next : Registers) (before after : ℕ) (p : Move) → machine_of new ≡ machine_of old → MovedTo code l new next before after p → MovedTo code l old next before after p
+  then_moved next before after (move.On read) same moved = subst (λ m. to_go code l after (machine_of next) < to_go code l before m) same moved
+  then_moved next before after move.NeedBit same moved = moved
+  then_moved next before after (move.Ended o) same moved = moved
+
+  pub moved_same : (next : Registers) (word before after : ℕ) (p : Move) → machine_of new ≡ machine_of old → new.stack ≡ old.stack → HasMoved code l new next word before after p →
+      HasMoved code l old next word before after p
+  moved_same next word before after p same stack moved = record {
+    takes = subst (λ m. Takes (rest_of code l m) (rest_of code l (machine_of next)) (low_bits before word) (low_bits after word)) same moved.takes;
+    moved = then_moved next before after p same moved.moved;
+    turns = moved.turns ∙ ap (λ (m : Machine). length m.turns) same;
+    vars = moved.vars ∙ ap (λ (m : Machine). length m.vars) same;
+    stack = moved.stack ∙ stack;
+    small = moved.small;
+  }
+
+-- ---- the attempt at which it begins
+
+module _ (code : List Instruction) (l : Limits) (x : ℕ) (e : Expression) (m : Machine) (at : slice_get code m.index ≡ Some (Range x e)) (idles : m.drawing ≡ idle) where
+  -- the step of a draw that is not under way
+  step_idle : step code l m ≡ with_value (value_of e m.vars) (λ v. by_bound v (ends (outcome.Fault BadBound)) (λ b. goes (begun l m b)))
+  step_idle = ap (λ o. act l o m) at ∙ ap (λ d. ranges l x e m d) idles
+
+  pub idle_ends : (o : Outcome) → with_value (value_of e m.vars) (λ v. by_bound v (ends (outcome.Fault BadBound)) (λ b. goes (begun l m b))) ≡ ends o → step code l m ≡ ends o
+  idle_ends o none = step_idle ∙ none
+
+  pub idle_begins : (word left b need : ℕ) → Answered code l m → with_value (value_of e m.vars) (λ v. by_bound v (ends (outcome.Fault BadBound)) (λ b. goes (begun l m b))) ≡ goes (begun l m b) →
+      (b < 2 ^ 63) × (0 < b) → need < 64 → need ≡ bits_for b → HasBegun code l m word left b (record { need = need; low = 0; tries = l.attempts; used = m.used; left = left })
+  idle_begins word left b need h some small few is =
+      let first : begun l m b ≡ at_trial m b (record { need = need; low = 0; tries = l.attempts; used = m.used; left = left }) =
+      ap (λ (need : ℕ). record m { tries = l.attempts; drawing = below b need 0 }) (sym is) in
+      record { went = step_went code l m _ word left h (step_idle ∙ some ∙ ap goes first); bound = small; need = few; within = omega arith }
+
+-- ---- from there on
+
+module _ (code : List Instruction) (l : Limits) (x b : ℕ) (m : Machine) (word left : ℕ) (t u : Trial) (h : HasBegun code l m word left b t) where
+  join_takes : (n : Machine) → Takes (rest_of code l (at_trial m b t)) (rest_of code l n) (low_bits t.left word) (low_bits u.left word) →
+      Takes (rest_of code l m) (rest_of code l n) (low_bits left word) (low_bits u.left word)
+  join_takes n tried = takes_join _ _ _ _ _ _ h.went.takes tried
+
+  pub number_takes : (n : Machine) (v : ℕ) → n ≡ stored (at_trial m b u) x (pos v) → HasTried code l x b m word t u (came.Number v) →
+      Takes (rest_of code l m) (rest_of code l n) (low_bits left word) (low_bits u.left word)
+  number_takes n v is tried = join_takes n (subst (λ n. Takes (rest_of code l (at_trial m b t)) (rest_of code l n) (low_bits t.left word) (low_bits u.left word)) (sym is) tried.0)
+
+  pub number_less : (n : Machine) (v : ℕ) → n ≡ stored (at_trial m b u) x (pos v) → HasTried code l x b m word t u (came.Number v) → to_go code l u.left n < to_go code l left m
+  number_less n v is tried =
+      let less = h.went.less in
+      let fewer = subst (λ n. to_go code l u.left n < to_go code l t.left (at_trial m b t)) (sym is) tried.1 in
+      omega (arith, less, fewer)
+
+  pub need_takes : HasTried code l x b m word t u came.NeedBit → Takes (rest_of code l m) (rest_of code l (at_trial m b u)) (low_bits left word) (low_bits u.left word)
+  need_takes tried = join_takes (at_trial m b u) tried.0
+
+  pub out_takes : HasTried code l x b m word t u came.TriedOut → Takes (rest_of code l m) (rest_of code l (at_trial m b u)) (low_bits left word) (low_bits u.left word)
+  out_takes tried = join_takes (at_trial m b u) tried.0
+
+  pub begun_answered : Answered code l m → Answered code l (at_trial m b t)
+  begun_answered a = went_answered code l m (at_trial m b t) word left t.left a h.went
