@@ -4,6 +4,7 @@ use Rattle.std.specs.Prelude.{slice_range}
 use Rattle.std.proofs.lemmas.List.{append-nil, length-take-le}
 use Rattle.zar_io.specs.FileBits.{low_bits, file_bits, bits_left}
 use Rattle.zar_io.specs.FileReader.{ReadsBehind}
+use Rattle.zar_io.specs.declared.file_bits.TheConstants.{BUFFER_BYTES}
 use Rattle.zar_io.proofs.FileBitsLemmas.{bits_left-end, bits_left-done}
 
 -- no bit is at hand where all bytes are used up
@@ -30,7 +31,7 @@ reads_end done k byte start end n buffer read old new used_up empty none taken =
     (sym (taken ∙ ap (λ m. take m read ++ new) none))
 
 -- n bytes are read
-pub reads_some : (done : Bool) (k byte start end n : ℕ) (buffer read old new : List ℕ) → k ≡ 0 → start ≡ end → n ≤ length read → length read ≤ 4096 → old ≡ take n read ++ new
+pub reads_some : (done : Bool) (k byte start end n : ℕ) (buffer read old new : List ℕ) → k ≡ 0 → start ≡ end → n ≤ length read → length read ≤ BUFFER_BYTES → old ≡ take n read ++ new
     → ReadsBehind (bits_left done k byte (slice_range buffer start end) []) (bits_left false k byte (slice_range read 0 n) []) old new
 unfolding bits_left low_bits
 reads_some done k byte start end n buffer read old new used_up empty within few taken = record {

@@ -4,6 +4,7 @@ use Rattle.std.specs.Prelude.{◌≡◌, ◌≤◌, ◌++◌, List, ℕ, Bool, [
 use Rattle.zar_io.specs.FileBits.{bits_left, file_bits}
 use Rattle.zar_io.specs.declared.outside.Files.{Ghosts}
 use Rattle.zar_io.specs.declared.file_bits.FileBits.{FileBits}
+use Rattle.zar_io.specs.declared.file_bits.TheConstants.{BUFFER_BYTES}
 
 -- the files
 abbrev pub files_of : {F : Type 0} {told : Ghosts F} → FileBits F told → F
@@ -32,9 +33,9 @@ has_failed reader = reader.broken
 abbrev pub source_of : {F : Type 0} {told : Ghosts F} → FileBits F told → ℕ
 source_of reader = reader.files.ghost_name
 
--- At most 4096 bytes of those that were left are read, and their bits come behind the bits at hand.
+-- At most BUFFER_BYTES bytes of those that were left are read, and their bits come behind the bits at hand.
 pub record ReadsBehind (hand after : List Bool) (left rest : List ℕ) : Type 0 where
   pub bytes : List ℕ
-  pub few : length bytes ≤ 4096
+  pub few : length bytes ≤ BUFFER_BYTES
   pub front : left ≡ bytes ++ rest
   pub behind : after ≡ hand ++ file_bits bytes

@@ -19,7 +19,7 @@ mod stream_bits;
 mod writing;
 
 pub use faulty_bits::FaultyBits;
-pub use file_bits::FileBits;
+pub use file_bits::{BUFFER_BYTES, FileBits};
 pub use gate::{Gate, Open};
 pub use host::{HostFiles, HostSink};
 pub use list_bits::ListBits;
@@ -29,7 +29,7 @@ pub use null_sink::NullSink;
 pub use one_file::OneFile;
 pub use outside::{Bits, Failed, Files, OpenError, Ready, Sink};
 pub use source::{MOST_BYTES, SourceError, read_source};
-pub use stream_bits::{StreamBits, streams_begin_as_published};
+pub use stream_bits::{MOST_BUDGET, StreamBits, streams_begin_as_published};
 pub use writing::put;
 
 #[cfg(test)]

@@ -4,11 +4,15 @@ ghost use Rattle.std.proofs.Common.{rules};
 ghost use Rattle.rand_chacha.specs.ChaCha.{word_at};
 ghost use Rattle.zar_io.specs.FileBits.{low_bits};
 ghost use Rattle.zar_io.specs.StreamBits.{stream_bits, stream_word, word_bits};
+ghost use Rattle.zar_io.specs.declared.stream_bits.TheConstants.{MOST_BUDGET};
 
 use crate::{Bits, Failed, Ready};
 use rand_chacha::ChaCha20Rng;
 use rand_core::SeedableRng;
 use rand_core::utils::NextWord;
+
+/// The most bits that are read of a stream.
+pub const MOST_BUDGET: u64 = 1_000_000_000;
 
 /// The first bits of the stream that a seed and a number name, as many as the budget says. No fault is ever
 /// counted.
@@ -24,7 +28,7 @@ pub struct StreamBits {
     // How many are left.
     left: u64,
     ended: bool,
-    ghost few: { given + left ≤ 10 ^ 9 },
+    ghost few: { given + left ≤ MOST_BUDGET },
     ghost in_word: { waiting ≤ 32 },
     ghost place: { given + waiting ≡ 32 * words.word_pos },
     ghost held: { 0 < waiting → word ≡ word_at 10 words.key words.stream (given / 32) },
@@ -34,7 +38,7 @@ pub struct StreamBits {
 impl StreamBits {
     /// The first `budget` bits of this stream of this seed.
     pub fn new(seed: u64, stream: u64, budget: u64) -> StreamBits
-        requires { budget ≤ 10 ^ 9 }
+        requires { budget ≤ MOST_BUDGET }
         ensures told { IsTrue ⟦<StreamBits as Bits>⟧.told }
         ensures left { ⟦<StreamBits as Bits>⟧.left result ≡ stream_bits seed stream budget }
         ensures faults { ⟦<StreamBits as Bits>⟧.faults result ≡ 0 }
