@@ -1,7 +1,7 @@
 // Decided draws, straight from the ends.
 
 ghost use Rattle.std.specs.Prelude.{◌≡◌, ◌≤◌, ◌+◌, ◌*◌, ◌^◌, true, false, Bool, List, length, IfOk, IfNone, MatchOption};
-ghost use Rattle.gcl_core.specs.declared.rules.TheConstants.{GREATEST_DENOMINATOR};
+ghost use Rattle.gcl_core.specs.declared.rules.TheConstants.{GREATEST_DENOMINATOR, MOST_ARMS};
 ghost use Rattle.gcl_core.specs.Draw.{last_end, bits_for, class_of, have_one_class, attempt_on};
 ghost use Rattle.draw_tree.specs.Coalescing.{IsCoalesced, coalesced};
 ghost use Rattle.draw_tree.specs.Decided.{decided_from, decided_draw};
@@ -19,7 +19,7 @@ use std::alloc::{AllocError, Global};
 
 // The leaf of the 2^depth numbers from `first` on, where they have one class. A single number always has.
 fn decided_leaf(ends: &[u64], depth: u32, first: u64) -> Option<Draw>
-    requires ends { length ends.now ≤ 16 }
+    requires ends { length ends.now ≤ MOST_ARMS }
     requires depth { depth ≤ 63 }
     requires fits { first + 2 ^ depth ≤ 2 ^ 63 }
     ensures decides { MatchOption result (have_one_class ends.now first (2 ^ depth) ≡ false)
@@ -32,7 +32,7 @@ fn decided_leaf(ends: &[u64], depth: u32, first: u64) -> Option<Draw>
 
 // The decided draw over the 2^depth numbers from `first` on.
 fn decided(alloc: Global, depth: u32, ends: &[u64], first: u64) -> Result<Draw, AllocError>
-    requires ends { length ends.now ≤ 16 }
+    requires ends { length ends.now ≤ MOST_ARMS }
     requires depth { depth ≤ 63 }
     requires fits { first + 2 ^ depth ≤ 2 ^ 63 }
     ensures { IfOk result (λ d. flips_of d ≡ decided_from ends.now depth first) }
@@ -45,11 +45,11 @@ fn decided(alloc: Global, depth: u32, ends: &[u64], first: u64) -> Result<Draw, 
     Ok(Draw::Flip(Box::new(alloc, left)?, Box::new(alloc, right)?))
 }
 
-/// The decided draw of some ends, at most 16, of which the last is at most 2^62: the one draw without a flip of two equal leaves in
+/// The decided draw of some ends, at most [`gcl_core::MOST_ARMS`], of which the last is at most 2^62: the one draw without a flip of two equal leaves in
 /// which each number leads to its class. It is built from the ends, without the perfect draw, which coalesces to it, and has at most
 /// m * k flips for m ends and numbers of k bits. An attempt at it is the attempt among the classes. It refuses where memory is wanting.
 pub fn direct(alloc: Global, ends: &[u64]) -> Result<Draw, AllocError>
-    requires few { length ends.now ≤ 16 }
+    requires few { length ends.now ≤ MOST_ARMS }
     requires low { last_end ends.now ≤ GREATEST_DENOMINATOR }
     ensures tree { IfOk result (λ d. flips_of d ≡ decided_draw ends.now) }
     ensures apart { IfOk result (λ d. IsCoalesced (flips_of d)) }

@@ -12,7 +12,7 @@ mod tree;
 mod walking;
 mod widths;
 
-pub use complete::perfect;
+pub use complete::{LAST_END_OF_COMPLETE, perfect};
 pub use deciding::direct;
 pub use laws::{decided_draws_are_small, one_decided_draw, shortest_string_decides};
 pub use merging::coalesce;

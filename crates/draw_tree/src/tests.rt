@@ -1,10 +1,10 @@
 // Attempts and widths that were worked by hand.
 
 ghost use Rattle.std.specs.Prelude.{◌≤◌, ◌<◌, length};
-ghost use Rattle.gcl_core.specs.declared.rules.TheConstants.{GREATEST_DENOMINATOR};
+ghost use Rattle.gcl_core.specs.declared.rules.TheConstants.{GREATEST_DENOMINATOR, MOST_ARMS};
 ghost use Rattle.gcl_core.specs.Draw.{last_end};
 
-use crate::{Attempt, Draw, attempt, bits_for, coalesce, direct, perfect};
+use crate::{Attempt, Draw, LAST_END_OF_COMPLETE, attempt, bits_for, coalesce, direct, perfect};
 use std::alloc::{AllocError, Global};
 use std::test::Fail;
 
@@ -15,8 +15,8 @@ const SIX: &[u64] = &[1, 2, 3, 4, 5, 6];
 const NEVER: &[u64] = &[0, 1];
 
 fn coalesced(alloc: Global, ends: &[u64]) -> Result<Draw, AllocError>
-    requires few { length ends.now ≤ 16 }
-    requires low { last_end ends.now ≤ 256 }
+    requires few { length ends.now ≤ MOST_ARMS }
+    requires low { last_end ends.now ≤ LAST_END_OF_COMPLETE }
 {
     let mut draw = perfect(alloc, ends)?;
     coalesce(&mut draw);
@@ -67,7 +67,7 @@ fn same(a: &Draw, b: &Draw) -> bool {
 
 // Both ways to the draw of a choice give the same.
 fn agree(alloc: Global, a: u64, b: u64) -> Result<bool, AllocError>
-    requires { b ≤ 256 }
+    requires { b ≤ LAST_END_OF_COMPLETE }
 {
     let ends = [a, b];
     Ok(same(&direct(alloc, &ends)?, &coalesced(alloc, &ends)?))
@@ -75,7 +75,7 @@ fn agree(alloc: Global, a: u64, b: u64) -> Result<bool, AllocError>
 
 #[test]
 fn direct_draws_are_coalesced_perfect_draws(rt: HostRuntime) -> Result<(), Fail> {
-    for b in 0..257 {
+    for b in 0..LAST_END_OF_COMPLETE + 1 {
         for a in 0..b + 1 {
             assert!(rt; agree(rt.alloc(), a, b)?);
         }
