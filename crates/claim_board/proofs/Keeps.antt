@@ -10,6 +10,7 @@ use Rattle.std.proofs.lemmas.Bool.Decides.{nat_tests}
 use Rattle.atomic_table.proofs.Lists.{at_set, at_snoc}
 use Rattle.claim_board.specs.declared.hand.Hand.{Hand}
 use Rattle.claim_board.specs.declared.hand.Terms.{Terms}
+use Rattle.claim_board.specs.declared.pass.TheConstants.{MOST_BLOCKS, MOST_PASSES}
 use Rattle.number_lists.specs.Total.{total}
 use Rattle.number_lists.specs.Numbers.{times, once_below, is_above}
 use Rattle.claim_board.specs.Deal.{Worker, Deal, fresh, start, worker_at, draws, Runs}
@@ -283,7 +284,7 @@ all_dealt blocks workers n views id v kept at whole =
       (λ some_none. let le = total_at (λ (z : Hand). length z.ended) views id v at in let w = kept.word in omega arith),
     )
 
-pub claims : (t : Terms) (slots id : ℕ) (m : Me (Unit {0}) Hand) (p : ℕ) → t.blocks ≤ 4611686018427387904 → t.workers ≤ 64 → m.0.blocks ≡ t.blocks → m.0.numbers ≡ p ∷ [] → m.0.ended ≡ []
+pub claims : (t : Terms) (slots id : ℕ) (m : Me (Unit {0}) Hand) (p : ℕ) → t.blocks ≤ MOST_BLOCKS → t.workers ≤ MOST_PASSES → m.0.blocks ≡ t.blocks → m.0.numbers ≡ p ∷ [] → m.0.ended ≡ []
     → Allows (Holds t) slots id m 0 (λ n. (n + 1) % 2 ^ 64) (drawing (step slots 0 1 0 none) m)
 claims t slots id m p few_blocks few_workers blocks_is one no_end s h _ at _ =
     let n : ℕ = get_or s.words 0 0 in

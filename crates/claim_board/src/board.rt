@@ -1,6 +1,7 @@
 //! Making a board, claiming and closing.
-ghost use Rattle.std.specs.Prelude.{◌≡◌, ◌^◌, ◌<◌, ◌≤◌, true, false, [], ◌∷◌, ◌++◌, All, Any, None, IfOk, IfSome, vec_len};
+ghost use Rattle.std.specs.Prelude.{◌≡◌, ◌<◌, ◌≤◌, true, false, [], ◌∷◌, ◌++◌, All, Any, None, IfOk, IfSome, vec_len};
 ghost use Rattle.number_lists.specs.Numbers.{is_above, ascends};
+ghost use Rattle.claim_board.specs.declared.pass.TheConstants.{MOST_BLOCKS, MOST_PASSES};
 ghost use Rattle.claim_board.specs.Board.{blocks_of, workers_of, dealt_to, had_none, numbers_of, IsPassOf, IsSamePass, IsNew, AreAllPasses, AreDealtTo, Claimed};
 
 use crate::hand::{Claiming, Joining, Making, Terms};
@@ -11,8 +12,8 @@ use std::alloc::{AllocError, Global};
 impl Board {
     /// A board of the blocks 0 to `blocks - 1`, and a pass for each worker, which was dealt nothing yet. An `Err` comes only for want of memory.
     pub fn new(alloc: Global, blocks: u64, workers: u32) -> Result<(Board, Vec<Pass>), AllocError>
-        requires blocks { blocks ≤ 2 ^ 62 }
-        requires workers { (0 < workers) × (workers ≤ 64) }
+        requires blocks { blocks ≤ MOST_BLOCKS }
+        requires workers { (0 < workers) × (workers ≤ MOST_PASSES) }
         ensures board { IfOk result (λ r. (blocks_of r.0 ≡ blocks) × (workers_of r.0 ≡ workers)) }
         ensures count { IfOk result (λ r. vec_len r.1 ≡ workers) }
         ensures passes { IfOk result (λ r. AreAllPasses r.0 r.1.items) }

@@ -9,4 +9,4 @@ mod pass;
 mod tests;
 
 pub use deal::{board_shows_a_dealing, deals_fairly};
-pub use pass::{Board, Dealt, Pass};
+pub use pass::{Board, Dealt, MOST_BLOCKS, MOST_PASSES, Pass};

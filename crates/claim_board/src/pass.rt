@@ -1,10 +1,16 @@
 //! The board and its passes.
-ghost use Rattle.std.specs.Prelude.{◌≡◌, ℕ, ◌^◌, ◌<◌, ◌≤◌, true, [], ◌∷◌, cond, slice_index};
+ghost use Rattle.std.specs.Prelude.{◌≡◌, ℕ, ◌<◌, ◌≤◌, true, [], ◌∷◌, cond, slice_index};
+ghost use Rattle.claim_board.specs.declared.pass.TheConstants.{MOST_BLOCKS, MOST_PASSES};
 ghost use Rattle.number_lists.specs.Numbers.{ascends};
 
 use crate::hand::{Dealing, Hand, Terms};
 use atomic_table::{Seat, Table};
 use std::alloc::Global;
+
+/// The most blocks of a board.
+pub const MOST_BLOCKS: u64 = 1 << 62;
+/// The most passes of a board.
+pub const MOST_PASSES: u32 = 64;
 
 /// One shared word, the number that is drawn next. What each pass was dealt is known of it, and takes no memory. It may be lent to threads.
 #[derive(Drop)]
@@ -15,7 +21,7 @@ pub struct Board {
     ghost one_word: { table.shared.table_id.words ≡ 1 },
     ghost no_slots: { table.shared.table_id.slots ≡ 0 },
     ghost told: { (table.shared.key.blocks ≡ blocks) × (table.shared.key.workers ≡ workers) },
-    ghost few: { (blocks ≤ 4611686018427387904) × (0 < workers) × (workers ≤ 64) },
+    ghost few: { (blocks ≤ MOST_BLOCKS) × (0 < workers) × (workers ≤ MOST_PASSES) },
 }
 
 /// The right to claim for one worker. A contract sees the list of numbers dealt to it, which takes no memory, and whether it had `None`. It may cross threads.
