@@ -4,9 +4,9 @@ ghost use Rattle.std.specs.Prelude.{◌≡◌, ℕ, ◌+◌, ◌≤◌, List, []
 ghost use Rattle.gcl_core.specs.Views.{expression_of};
 ghost use Rattle.draw_tree.specs.Flips.{ClassesBelow};
 ghost use Rattle.draw_tree.specs.Views.{flips_of};
-ghost use Rattle.bit_tree.specs.Tree.{BitTrees, pick};
+ghost use Rattle.bit_tree.specs.Tree.{BitTrees, pick, count};
 ghost use Rattle.bit_tree.specs.Views.{bit_tree_of, bit_trees_of, tied_tree_of};
-ghost use Rattle.bit_tree.specs.Fine.{LabelsHaveArms, RowHasArms, TiedIsFine, count};
+ghost use Rattle.bit_tree.specs.Sampleable.{LabelsHaveArms, RowHasArms, TiedIsSampleable};
 ghost use Rattle.sampler_code.specs.Instruction.{Instruction};
 ghost use Rattle.sampler_code.specs.Code.{tree_code, row_code, arms_code, arms_size, loops, row_loops};
 ghost use Rattle.sampler_code.specs.Assemble.{between, starts_of};
@@ -191,7 +191,7 @@ fn close(code: &mut Instructions, starts: &[usize], i: usize, end: usize)
 /// Each draw of the tree is coalesced, each label has its arm, and variables are below their number. An error comes only where
 /// memory is wanting.
 pub fn assemble(alloc: Global, t: &Tied) -> Result<Code, AllocError>
-    requires fine { TiedIsFine (tied_tree_of t.now) }
+    requires sampleable { TiedIsSampleable (tied_tree_of t.now) }
     ensures code { IfOk result (λ c. c ≡ assembled (tied_tree_of t.now)) }
     ensures follows { IfOk result (λ c. Follows (tied_tree_of t.now) c) }
 {

@@ -2,17 +2,17 @@ use Rattle.std.proofs.Common.{sym, subst, ◌∙◌}
 use Rattle.bit_tree.specs.Views.{tied_tree_of}
 use Rattle.sampler_code.specs.Assembled.{Assembled, Follows}
 use Rattle.sampler_code.proofs.SoundCode.{tied_follows}
-use Rattle.sampler_code.proofs.Written.{has_arms, numbers_of, written}
+use Rattle.sampler_code.proofs.Written.{numbers_of, written}
 use Rattle.gcl_core.specs.Bounds.{ExpressionFits}
 use Rattle.sampler_code.proofs.assembling.assemble.Goals as goal
 
 pub emit-requires-clause-arms : goal.emit-requires-clause-arms
-emit-requires-clause-arms c = has_arms _ _ c.requires.fine.body
+emit-requires-clause-arms c = c.requires.sampleable.arms
 
 pub of-requires-2 : goal.of-requires-2
 of-requires-2 c = record {
   tree = tied_tree_of c.args.t.now;
-  fine = c.requires.fine;
+  sampleable = c.requires.sampleable;
   numbers = numbers_of (tied_tree_of c.args.t.now) _ c.in_ok-emit.ensures.fits c.in_ok-result.ensures.stands (subst ExpressionFits (sym c.in_ok-result.ensures.stands) c.in_ok-result.ensures.fits);
   same = written (tied_tree_of c.args.t.now) _ _ _ _ _ c.new-instrs.ensures c.in_ok-emit.ensures.code c.in_ok-result.ensures.stands c.in_ok-put.ensures c.in_ok-emit.ensures.loops;
 }
@@ -21,4 +21,4 @@ pub returns-clause-follows : goal.returns-clause-follows
 returns-clause-follows c =
     let t = tied_tree_of c.args.t.now in
     let e = c.of-2.ensures ∙ written t _ _ _ _ _ c.new-instrs.ensures c.in_ok-emit.ensures.code c.in_ok-result.ensures.stands c.in_ok-put.ensures c.in_ok-emit.ensures.loops in
-    subst (λ (p : Assembled). Follows t p) (sym e) (tied_follows t c.requires.fine (numbers_of t _ c.in_ok-emit.ensures.fits c.in_ok-result.ensures.stands (subst ExpressionFits (sym c.in_ok-result.ensures.stands) c.in_ok-result.ensures.fits)))
+    subst (λ (p : Assembled). Follows t p) (sym e) (tied_follows t c.requires.sampleable (numbers_of t _ c.in_ok-emit.ensures.fits c.in_ok-result.ensures.stands (subst ExpressionFits (sym c.in_ok-result.ensures.stands) c.in_ok-result.ensures.fits)))
