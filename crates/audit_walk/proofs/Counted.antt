@@ -7,6 +7,7 @@ use Rattle.sampler_code.specs.Running.{Reached}
 use Rattle.sampler_run.specs.declared.machine.Progress.TheVariants as progress
 use Rattle.sampler_run.specs.Held.{Held, Ahead, StandsAfter}
 use Rattle.sampler_run.specs.Telling.{Tells}
+use Rattle.audit_walk.specs.declared.auditing.TheConstants.{MOST_DEPTH}
 use Rattle.audit_walk.specs.Rows.{Rows, sum_of_counts}
 use Rattle.audit_walk.specs.inner.Sums.{AddsUp}
 use Rattle.audit_walk.specs.inner.Counts.{IsCountFrom}
@@ -46,10 +47,10 @@ sides_count s z o h k a b c m n u told e f g p q sums =
     subst (λ h. IsCountFrom s h c u) (sym e) (subst (λ u. IsCountFrom s (suc k) c u) (sym sums.1) (more_counts s z o k a b c m n told f g p q sums.0))
 
 -- the counts of both sides fit
-pub both_fit : (s t : Held) (h : ℕ) (a b : Rows) (m n : ℕ) → h ≤ 20 → IsCountFrom s h a m → IsCountFrom t h b n →
+pub both_fit : (s t : Held) (h : ℕ) (a b : Rows) (m n : ℕ) → h ≤ MOST_DEPTH → IsCountFrom s h a m → IsCountFrom t h b n →
     sum_of_counts a + m + (sum_of_counts b + n) < 2 ^ 64
 both_fit s t h a b m n le c d =
-    let e = pow_mono {i = h} {j = 20} le in
+    let e = pow_mono {i = h} {j = MOST_DEPTH} le in
     let p = c.all in
     let q = d.all in
     omega arith

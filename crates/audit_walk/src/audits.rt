@@ -14,12 +14,13 @@ pub struct Audit {
 
 impl Audit {
     ghost use Rattle.std.specs.Prelude.{◌≡◌, ◌+◌, ◌≤◌, ◌<◌, ◌^◌, [], ◌∷◌, IfOk};
+    ghost use Rattle.audit_walk.specs.declared.auditing.TheConstants.{MOST_DEPTH};
     ghost use Rattle.audit_walk.specs.Rows.{sum_of_counts};
     ghost use Rattle.audit_walk.specs.inner.Sums.{AddsUp};
 
     // All strings end in one outcome.
     pub(crate) fn ended(alloc: Global, outcome: Outcome, left: u32) -> Result<Audit, AllocError>
-        requires { left ≤ 20 }
+        requires { left ≤ MOST_DEPTH }
         ensures rows { IfOk result (λ a. a.rows ≡ (outcome, 2 ^ left) ∷ []) }
         ensures undecided { IfOk result (λ a. a.undecided ≡ 0) }
     {

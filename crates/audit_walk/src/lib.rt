@@ -9,7 +9,7 @@ mod rows;
 mod tests;
 mod walking;
 
-pub use auditing::audit;
+pub use auditing::{MOST_DEPTH, audit};
 pub use audits::Audit;
 pub use laws::audits_show_masses;
 pub use rows::AuditRows;

@@ -1,6 +1,6 @@
 // Audits of programs, and what threads are lent.
 
-use crate::{Audit, AuditRows, audit};
+use crate::{Audit, AuditRows, MOST_DEPTH, audit};
 use gcl_check::check;
 use gcl_core::{Checked, Limit, Limits, Outcome};
 use gcl_lex::lex;
@@ -177,7 +177,7 @@ fn audit_of<R: Threads + Sync>(
     l: Limits,
     depth: u32,
 ) -> Result<Option<Audit>, AllocError> {
-    if l.turns > 1000 || l.attempts > 1000 || l.rounds > 1000 || depth > 20 {
+    if l.turns > 1000 || l.attempts > 1000 || l.rounds > 1000 || depth > MOST_DEPTH {
         return Ok(None);
     }
     if l.attempts == 0 || l.rounds == 0 {
@@ -226,7 +226,7 @@ fn sum_of_counts(rows: &AuditRows) -> u64 {
 // An audit at the greatest depth counts each of its 2^20 strings once.
 #[test]
 fn audits_at_the_greatest_depth(rt: HostRuntime) -> Result<(), Fail> {
-    match audit_of(&rt, rt.alloc(), EIGHT_AND_HEADS, ALL, 20)? {
+    match audit_of(&rt, rt.alloc(), EIGHT_AND_HEADS, ALL, MOST_DEPTH)? {
         Some(a) => assert!(rt; sum_of_counts(&a.rows).saturating_add(a.undecided) == 1_048_576),
         None => assert!(rt; false),
     }

@@ -5,6 +5,7 @@ ghost use Rattle.std.specs.Thread.{IsSync};
 ghost use Rattle.sampler_run.specs.declared.machine.Progress.TheVariants.{NeedBit};
 ghost use Rattle.sampler_run.specs.Held.{StandsAfter};
 ghost use Rattle.sampler_run.specs.Telling.{Tells};
+ghost use Rattle.audit_walk.specs.declared.auditing.TheConstants.{MOST_DEPTH};
 ghost use Rattle.audit_walk.specs.inner.Counts.{IsCountFrom};
 
 use crate::audits::Audit;
@@ -15,7 +16,7 @@ use std::thread::{Threads, join};
 
 // The audit of a run that has ended, or that may read no further bit.
 fn decided(alloc: Global, state: &State<'_>, left: u32) -> Result<Option<Audit>, AllocError>
-    requires left { left ≤ 20 }
+    requires left { left ≤ MOST_DEPTH }
     ensures some { IfOk result (λ o. IfSome o (λ a. IsCountFrom state.now left a.rows a.undecided)) }
     ensures needs { IfOk result (λ o. IfNone o (Tells state.now NeedBit)) }
     ensures more { IfOk result (λ o. IfNone o (0 < left)) }
@@ -43,7 +44,7 @@ fn sides<'s>(alloc: Global, state: State<'s>) -> Result<(State<'s>, State<'s>), 
 // The audit of a run over the strings of so many further bits. Where the run needs a bit it is forked; where it has ended it is not
 // continued.
 fn walk(alloc: Global, state: State<'_>, left: u32) -> Result<Audit, AllocError>
-    requires left { left ≤ 20 }
+    requires left { left ≤ MOST_DEPTH }
     ensures { IfOk result (λ a. IsCountFrom state.entry left a.rows a.undecided) }
 {
     if let Some(audit) = decided(alloc, &state, left)? {
@@ -64,7 +65,7 @@ pub(crate) fn spread<R: Threads + Sync>(
     left: u32,
     forks: u32,
 ) -> Result<Audit, AllocError>
-    requires left { left ≤ 20 }
+    requires left { left ≤ MOST_DEPTH }
     ensures { IfOk result (λ a. IsCountFrom state.now left a.rows a.undecided) }
 {
     if forks == 0 {
@@ -80,11 +81,11 @@ pub(crate) fn spread<R: Threads + Sync>(
     let fewer = forks - 1;
     let (lower, upper) = (&zero, &one);
     let front = move || -> Result<Audit, AllocError>
-        requires { IsSync R.row × (rest ≤ 20) }
+        requires { IsSync R.row × (rest ≤ MOST_DEPTH) }
         ensures { IfOk result (λ a. IsCountFrom lower.entry.now rest a.rows a.undecided) }
     { spread(rt, alloc, lower, rest, fewer) };
     let back = move || -> Result<Audit, AllocError>
-        requires { IsSync R.row × (rest ≤ 20) }
+        requires { IsSync R.row × (rest ≤ MOST_DEPTH) }
         ensures { IfOk result (λ a. IsCountFrom upper.entry.now rest a.rows a.undecided) }
     { spread(rt, alloc, upper, rest, fewer) };
     let (first, second) = join(rt, front, back);
