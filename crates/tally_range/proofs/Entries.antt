@@ -9,7 +9,8 @@ use Rattle.std.proofs.lemmas.Bool.Decides.{nat_tests}
 use Rattle.gcl_core.specs.declared.answers.TallyKey.{TallyKey}
 use Rattle.gcl_core.specs.Order.{is_key_before}
 use Rattle.gcl_core.specs.Outcomes.{same_key}
-use Rattle.tally_range.specs.Rows.{Rows, counted_at, count_in, is_before_all, keys_ascend, counts_are_above_zero, IsTally}
+use Rattle.tally_range.specs.Rows.{Rows, counted_at, is_before_all, keys_ascend, counts_are_above_zero, IsTally}
+use Rattle.tally_range.specs.Sums.{count_in}
 use Rattle.gcl_core.proofs.OutcomeOrder.{key_before_differs, key_after_differs, key_before_trans}
 use Rattle.gcl_core.proofs.SameOutcomes.{key_itself}
 use Rattle.tally_range.proofs.InRows.{both, join, before_all_from, counted_itself}

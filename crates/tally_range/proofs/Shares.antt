@@ -14,9 +14,10 @@ use Rattle.claim_board.specs.declared.pass.Pass.{Pass}
 use Rattle.claim_board.specs.Board.{blocks_of, workers_of, numbers_of, dealt_to, had_none, IsPassOf, IsNew, AreAllPasses}
 use Rattle.tally_range.specs.declared.range.SeedRange.{SeedRange}
 use Rattle.tally_range.specs.declared.share.Entry.{Entry}
-use Rattle.tally_range.specs.Counts.{blocks_over}
-use Rattle.tally_range.specs.Rows.{Rows, count_in}
-use Rattle.tally_range.specs.Shares.{count_block, IsReady, IsCounted}
+use Rattle.tally_range.specs.Blocks.{blocks_over, count_block}
+use Rattle.tally_range.specs.Rows.{Rows}
+use Rattle.tally_range.specs.Sums.{count_in}
+use Rattle.tally_range.specs.Shares.{IsReady, IsCounted}
 use Rattle.tally_range.specs.inner.Worked.{entry_pass, entry_table, IsWorked}
 use Rattle.tally_range.proofs.Backwards.{total_backwards, all_forth, all_back}
 

@@ -2,7 +2,8 @@
 use Rattle.std.proofs.Common.{◌≡◌, ℕ, zero, suc, ◌+◌, ◌≤◌, ◌<◌, List, [], ◌∷◌, length, set, get_or, drop, refl, ap, arith}
 use Rattle.std.specs.Prelude.{replicate}
 use Rattle.gcl_core.specs.declared.answers.TallyKey.{TallyKey}
-use Rattle.tally_range.specs.Rows.{counted_at, count_in}
+use Rattle.tally_range.specs.Rows.{counted_at}
+use Rattle.tally_range.specs.Sums.{count_in}
 use Rattle.tally_range.specs.inner.SmallRows.{value_key, small_rows}
 use Rattle.tally_range.proofs.InRows.{counted_itself}
 use Rattle.tally_range.proofs.Entries.{counted_add, counted_none}

@@ -13,9 +13,11 @@ use Rattle.claim_board.specs.declared.pass.Board.{Board}
 use Rattle.claim_board.specs.declared.pass.Pass.{Pass}
 use Rattle.claim_board.specs.Board.{blocks_of, workers_of, dealt_to, had_none, AreAllPasses, AreDealtTo}
 use Rattle.tally_range.specs.declared.range.SeedRange.{SeedRange}
-use Rattle.tally_range.specs.Counts.{has_key, blocks_over}
-use Rattle.tally_range.specs.Rows.{Rows, count_in, IsTally, IsTallyOf}
-use Rattle.tally_range.specs.Shares.{IsRange, count_block, count_range}
+use Rattle.tally_range.specs.Blocks.{blocks_over, count_block}
+use Rattle.tally_range.specs.Counts.{has_key, count_range}
+use Rattle.tally_range.specs.Rows.{Rows, IsTally, IsTallyOf}
+use Rattle.tally_range.specs.Sums.{count_in}
+use Rattle.tally_range.specs.Ranges.{IsRange}
 use Rattle.tally_range.proofs.Totals.{blocks_cover}
 use Rattle.tally_range.proofs.Counting.{count_le}
 use Rattle.tally_range.proofs.Exact.{exact_rows}
@@ -38,7 +40,7 @@ all_counted : (run : List Bool → Answer) (r : SeedRange) (n : ℕ) (ps : List 
     total (λ (t : Rows). count_in t key) ts ≡ count_range run r key
 all_counted run r n ps ts key range dealt is counts =
     counts ∙ all_spread dealt_to (count_block run r key) n ps dealt ∙ ap (total_below (count_block run r key)) is
-    ∙ blocks_cover (has_key run r.seed r.budget key) r.from r.to range.0
+    ∙ blocks_cover (has_key run r.seed r.budget key) r.from r.to range.ordered
 
 -- the tables count the range, for any runs of the code
 abbrev pub CountRange : Assembled → Limits → SeedRange → List Rows → Type 0

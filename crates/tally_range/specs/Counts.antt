@@ -1,11 +1,12 @@
 -- How many streams of a range have runs that end in each way. Which key a run has is this project's own rule.
-use Rattle.std.specs.Prelude.{ℕ, zero, suc, ◌+◌, ◌-◌, ◌*◌, ◌/◌, min, Bool, List}
+use Rattle.std.specs.Prelude.{ℕ, zero, suc, ◌+◌, ◌-◌, Bool, List}
 use Rattle.gcl_core.specs.declared.answers.Answer.{Answer}
 use Rattle.gcl_core.specs.declared.answers.Answer.TheVariants.{Ended}
 use Rattle.gcl_core.specs.declared.answers.Answer.TheVariants as answer
 use Rattle.gcl_core.specs.declared.answers.TallyKey.{TallyKey}
 use Rattle.gcl_core.specs.declared.answers.TallyKey.TheVariants.{Outcome, MoreBits}
 use Rattle.zar_io.specs.StreamBits.{stream_bits}
+use Rattle.tally_range.specs.declared.range.SeedRange.{SeedRange}
 use Rattle.tally_range.specs.Rows.{counted_at}
 
 -- the key of a run by its answer: the outcome, or that it needed more bits
@@ -31,10 +32,6 @@ module _ (run : List Bool → Answer) (seed budget : ℕ) where
   abbrev pub count_over : ℕ → ℕ → TallyKey → ℕ
   count_over from to key = total_from (has_key key) from (to - from)
 
-  -- the same over the block number j of 64 streams, the last of which may be shorter
-  abbrev pub count_over_block : ℕ → ℕ → TallyKey → ℕ → ℕ
-  count_over_block from to key j = count_over (from + 64 * j) (min (from + 64 * j + 64) to) key
-
--- how many blocks of 64 streams there are, the last of which may be shorter
-abbrev pub blocks_over : ℕ → ℕ → ℕ
-blocks_over from to = (to - from + 63) / 64
+-- how many streams of the range have runs with a key
+abbrev pub count_range : (List Bool → Answer) → SeedRange → TallyKey → ℕ
+count_range run r key = count_over run r.seed r.budget r.from r.to key

@@ -7,8 +7,7 @@ use Rattle.gcl_core.specs.Runs.{run_on}
 use Rattle.gcl_core.specs.Syntax.{Source}
 use Rattle.sampler_code.specs.Assembled.{Assembled, IsRunOf}
 use Rattle.tally_range.specs.declared.range.SeedRange.{SeedRange}
-use Rattle.tally_range.specs.Counts.{count_over}
-use Rattle.tally_range.specs.Shares.{count_range}
+use Rattle.tally_range.specs.Counts.{count_over, count_range}
 
 -- how many streams of the range have runs of the program with a key
 abbrev pub count_on : Source → Limits → SeedRange → TallyKey → ℕ

@@ -1,5 +1,8 @@
+pub mod Ranges
 pub mod Rows
+pub mod Sums
 pub mod Counts
+pub mod Blocks
 pub mod Shares
 pub mod Laws
 pub mod inner

@@ -1,7 +1,6 @@
 -- Rows of a key and a count, keys ascending and counts above 0.
 use Rattle.std.specs.Prelude.{◌≡◌, ◌<◌, ◌&&◌, ℕ, Bool, true, nat_lt, List, [], ◌∷◌, if◌then◌else◌, ◌↔◌, Contains}
 use Rattle.gcl_core.specs.declared.answers.TallyKey.{TallyKey}
-use Rattle.number_lists.specs.Total.{total}
 use Rattle.gcl_core.specs.Order.{is_key_before}
 use Rattle.gcl_core.specs.Outcomes.{same_key}
 
@@ -11,10 +10,6 @@ Rows = List (TallyKey × ℕ)
 -- n, where the key is the other, and else 0
 abbrev pub counted_at : TallyKey → ℕ → TallyKey → ℕ
 counted_at key n other = if same_key key other then n else 0
-
--- what the rows of a key count, added up
-abbrev pub count_in : Rows → TallyKey → ℕ
-count_in rows key = total (λ (r : TallyKey × ℕ). counted_at r.0 r.1 key) rows
 
 -- the key is before that of each row
 abbrev pub is_before_all : TallyKey → Rows → Bool

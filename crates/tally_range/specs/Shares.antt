@@ -1,5 +1,5 @@
--- What clauses say of ranges and of the shares of workers. The bounds are this project's own rule.
-use Rattle.std.specs.Prelude.{ℕ, ◌-◌, ◌≡◌, ◌≤◌, ◌<◌, ◌^◌, Bool, true, List, []}
+-- What clauses say of the shares of workers.
+use Rattle.std.specs.Prelude.{◌≡◌, Bool, true, List, []}
 use Rattle.gcl_core.specs.declared.answers.Answer.{Answer}
 use Rattle.gcl_core.specs.declared.answers.Limits.{Limits}
 use Rattle.gcl_core.specs.declared.answers.TallyKey.{TallyKey}
@@ -10,23 +10,9 @@ use Rattle.claim_board.specs.Board.{blocks_of, dealt_to, had_none, IsPassOf, IsN
 use Rattle.number_lists.specs.Total.{total}
 use Rattle.tally_range.specs.declared.range.SeedRange.{SeedRange}
 use Rattle.tally_range.specs.declared.share.Share.{Share}
-use Rattle.tally_range.specs.Rows.{Rows, count_in}
-use Rattle.tally_range.specs.Counts.{count_over, count_over_block, blocks_over}
-
--- a range that can be tallied: at most 2^40 streams, and at most 10^9 bits of each
-abbrev pub IsRange : SeedRange → Type 0
-IsRange r = (r.from ≤ r.to) × (r.to - r.from ≤ 2 ^ 40) × (r.budget ≤ 10 ^ 9)
-
-abbrev pub IsWorkers : ℕ → Type 0
-IsWorkers n = (0 < n) × (n ≤ 64)
-
--- how many streams of the range have runs with a key
-abbrev pub count_range : (List Bool → Answer) → SeedRange → TallyKey → ℕ
-count_range run r key = count_over run r.seed r.budget r.from r.to key
-
--- the same of a block of the range
-abbrev pub count_block : (List Bool → Answer) → SeedRange → TallyKey → ℕ → ℕ
-count_block run r key j = count_over_block run r.seed r.budget r.from r.to key j
+use Rattle.tally_range.specs.Rows.{Rows}
+use Rattle.tally_range.specs.Sums.{count_in}
+use Rattle.tally_range.specs.Blocks.{blocks_over, count_block}
 
 abbrev pub pass_of : Share → Pass
 pass_of s = s.pass

@@ -14,7 +14,7 @@ mod tests;
 mod working;
 
 pub use laws::{code_counts_as_program, ranges_add_up};
-pub use range::SeedRange;
+pub use range::{MOST_STREAMS, MOST_WORKERS, STREAMS_OF_A_BLOCK, SeedRange};
 pub use share::Share;
 pub use streams::run_on_stream;
 pub use table::Tally;

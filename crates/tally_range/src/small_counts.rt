@@ -55,7 +55,8 @@ fn key_of_value(value: usize) -> TallyKey
 impl SmallCounts {
     ghost use Rattle.std.specs.Prelude.{◌≡◌, ◌+◌, ◌<◌, ◌^◌, IfOk, IsTrue, IsFalse};
     ghost use Rattle.gcl_core.specs.declared.answers.TallyKey.{TallyKey};
-    ghost use Rattle.tally_range.specs.Rows.{count_in, counted_at};
+    ghost use Rattle.tally_range.specs.Rows.{counted_at};
+    ghost use Rattle.tally_range.specs.Sums.{count_in};
 
     // No counts.
     pub(crate) fn new() -> SmallCounts

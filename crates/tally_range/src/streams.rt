@@ -4,11 +4,14 @@ ghost use Rattle.std.specs.Prelude.{◌≡◌, ◌+◌, ◌-◌, ◌*◌, ◌<�
 ghost use Rattle.gcl_core.specs.declared.answers.Answer.{Answer};
 ghost use Rattle.gcl_core.specs.declared.answers.TallyKey.{TallyKey};
 ghost use Rattle.sampler_run.specs.Held.{IsRestOf, set_back};
-ghost use Rattle.tally_range.specs.Rows.{count_in, counted_at};
-ghost use Rattle.tally_range.specs.Counts.{key_of, key_on, count_over, blocks_over};
-ghost use Rattle.tally_range.specs.Shares.{count_block};
+ghost use Rattle.zar_io.specs.declared.stream_bits.TheConstants.{MOST_BUDGET};
+ghost use Rattle.tally_range.specs.Blocks.{blocks_over, count_block};
+ghost use Rattle.tally_range.specs.Counts.{key_of, key_on, count_over};
+ghost use Rattle.tally_range.specs.Ranges.{IsRange};
+ghost use Rattle.tally_range.specs.Rows.{counted_at};
+ghost use Rattle.tally_range.specs.Sums.{count_in};
 
-use crate::range::SeedRange;
+use crate::range::{STREAMS_OF_A_BLOCK, SeedRange};
 use crate::small_counts::SmallCounts;
 use crate::table::Tally;
 use gcl_core::{Answer, TallyKey};
@@ -27,7 +30,7 @@ fn key_of_answer(answer: Answer) -> TallyKey
 
 /// Runs from the start on the first bits of a stream, as many as the budget says: the key of the run. It takes no memory.
 pub fn run_on_stream(state: &mut State<'_>, seed: u64, stream: u64, budget: u64) -> TallyKey
-    requires { budget ≤ 10 ^ 9 }
+    requires { budget ≤ MOST_BUDGET }
     ensures key { (run : List Bool → Answer) → IsRestOf (set_back state.old) run → result ≡ key_on run seed budget stream }
     ensures same_start { set_back state.new ≡ set_back state.old }
 {
@@ -60,8 +63,8 @@ pub(crate) fn count_streams(
     first: u64,
     end: u64,
 ) -> Result<(), AllocError>
+    requires range { IsRange range.now }
     requires order { first ≤ end }
-    requires budget { range.now.budget ≤ 10 ^ 9 }
     requires fits { (key : TallyKey) → count_in table.old key + (end - first) < 2 ^ 64 }
     ensures counted { IfOk result (λ _. (run : List Bool → Answer) → IsRestOf (set_back state.old) run → (key : TallyKey) →
         count_in table.new key ≡ count_in table.old key + count_over run range.now.seed range.now.budget first end key) }
@@ -81,9 +84,9 @@ pub(crate) fn count_streams(
 // Where a block of the range ends.
 fn end_of_block(first: u64, to: u64) -> u64
     requires { first ≤ to }
-    ensures { result ≡ min (first + 64) to }
+    ensures { result ≡ min (first + STREAMS_OF_A_BLOCK) to }
 {
-    first + (to - first).min(64)
+    first + (to - first).min(STREAMS_OF_A_BLOCK)
 }
 
 // Runs on the streams of a block, and counts the keys of the runs. An error comes only where memory is wanting.
@@ -93,15 +96,14 @@ pub(crate) fn count_block(
     range: &SeedRange,
     block: u64,
 ) -> Result<(), AllocError>
-    requires order { range.now.from ≤ range.now.to }
-    requires budget { range.now.budget ≤ 10 ^ 9 }
+    requires range { IsRange range.now }
     requires block { block < blocks_over range.now.from range.now.to }
-    requires fits { (key : TallyKey) → count_in table.old key + 64 < 2 ^ 64 }
+    requires fits { (key : TallyKey) → count_in table.old key + STREAMS_OF_A_BLOCK < 2 ^ 64 }
     ensures counted { IfOk result (λ _. (run : List Bool → Answer) → IsRestOf (set_back state.old) run → (key : TallyKey) →
         count_in table.new key ≡ count_in table.old key + count_block run range.now key block) }
-    ensures few { IfOk result (λ _. (key : TallyKey) → count_in table.new key ≤ count_in table.old key + 64) }
+    ensures few { IfOk result (λ _. (key : TallyKey) → count_in table.new key ≤ count_in table.old key + STREAMS_OF_A_BLOCK) }
     ensures same_start { set_back state.new ≡ set_back state.old }
 {
-    let first = range.from + 64 * block;
+    let first = range.from + STREAMS_OF_A_BLOCK * block;
     count_streams(state, table, range, first, end_of_block(first, range.to))
 }

@@ -1,7 +1,8 @@
 // Tables of counts.
 
 ghost use Rattle.std.specs.Prelude.{◌≡◌};
-ghost use Rattle.tally_range.specs.Rows.{count_in, IsTally};
+ghost use Rattle.tally_range.specs.Rows.{IsTally};
+ghost use Rattle.tally_range.specs.Sums.{count_in};
 
 use gcl_core::{TallyKey, outcomes_are_ordered};
 use std::alloc::{AllocError, Global};
@@ -28,7 +29,8 @@ impl Model for Tally {
 impl Tally {
     ghost use Rattle.std.specs.Prelude.{◌≡◌, ◌+◌, ◌<◌, ◌^◌, [], length, IfOk, OnErr};
     ghost use Rattle.gcl_core.specs.declared.answers.TallyKey.{TallyKey};
-    ghost use Rattle.tally_range.specs.Rows.{count_in, counted_at, IsTally};
+    ghost use Rattle.tally_range.specs.Rows.{counted_at, IsTally};
+    ghost use Rattle.tally_range.specs.Sums.{count_in};
 
     /// No counts. It takes no memory.
     pub fn new(alloc: Global) -> Tally
@@ -75,7 +77,7 @@ impl Tally {
 impl Tally {
     ghost use Rattle.std.specs.Prelude.{◌≡◌, ◌+◌, ◌<◌, ◌^◌, IfOk};
     ghost use Rattle.gcl_core.specs.declared.answers.TallyKey.{TallyKey};
-    ghost use Rattle.tally_range.specs.Rows.{count_in};
+    ghost use Rattle.tally_range.specs.Sums.{count_in};
 
     // Adds the counts of another table. An error comes only where memory is wanting.
     pub(crate) fn add_all(&mut self, other: &Tally) -> Result<(), AllocError>

@@ -9,11 +9,13 @@ ghost use Rattle.sampler_code.specs.Assembled.{CodeReaches, IsRunOf};
 ghost use Rattle.sampler_code.specs.Running.{Reached};
 ghost use Rattle.number_lists.specs.Total.{total};
 ghost use Rattle.claim_board.specs.Board.{blocks_of, dealt_to, had_none, AreAllPasses, IsNew};
-ghost use Rattle.tally_range.specs.Counts.{blocks_over};
-ghost use Rattle.tally_range.specs.Rows.{count_in, IsTallyOf};
-ghost use Rattle.tally_range.specs.Shares.{IsRange, IsWorkers, count_block, count_range};
+ghost use Rattle.tally_range.specs.Blocks.{blocks_over, count_block};
+ghost use Rattle.tally_range.specs.Counts.{count_range};
+ghost use Rattle.tally_range.specs.Ranges.{IsRange, IsWorkers};
+ghost use Rattle.tally_range.specs.Rows.{IsTallyOf};
+ghost use Rattle.tally_range.specs.Sums.{count_in};
 
-use crate::range::SeedRange;
+use crate::range::{STREAMS_OF_A_BLOCK, SeedRange};
 use crate::sharing::{add_up, gather, share_out};
 use crate::table::Tally;
 use crate::working::run_workers;
@@ -60,8 +62,8 @@ fn count_in_threads<R: Threads + Sync, G: Gate>(
 }
 
 /// How many of the streams of the range have runs of the sampler that end in each way: the outcomes, and the runs that need more bits
-/// than the budget. The rows are the same for any number of threads and any gate. Streams go in blocks of 64, the last of which may be
-/// shorter, and the gate is told of each block before its first stream. An error comes only where memory is wanting.
+/// than the budget. The rows are the same for any number of threads and any gate. Streams go in blocks of
+/// [`STREAMS_OF_A_BLOCK`], the last of which may be shorter, and the gate is told of each block before its first stream. An error comes only where memory is wanting.
 pub fn tally<R: Threads + Sync, G: Gate>(
     rt: &R,
     alloc: Global,
@@ -77,7 +79,7 @@ pub fn tally<R: Threads + Sync, G: Gate>(
     ensures counts { IfOk result (λ t. (run : List Bool → Answer) → IsRunOf s.now l.now run → (key : TallyKey) → count_in t key ≡ count_range run range.now key) }
 {
     runs_answer(s);
-    let blocks = (range.to - range.from).div_ceil(64);
+    let blocks = (range.to - range.from).div_ceil(STREAMS_OF_A_BLOCK);
     let (board, passes) = Board::new(alloc, blocks, range.workers)?;
     let (passes, tables) = count_in_threads(rt, alloc, &board, passes, s, l, range, gate)?;
     board.close(passes);

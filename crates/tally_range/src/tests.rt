@@ -1,7 +1,7 @@
 // Tallies by real threads.
 
 ghost use Rattle.std.specs.Prelude.{◌≡◌};
-ghost use Rattle.tally_range.specs.Shares.{IsRange, IsWorkers};
+ghost use Rattle.tally_range.specs.Ranges.{IsRange, IsWorkers};
 
 use crate::{SeedRange, Share, Tally, tally};
 use claim_board::Board;

@@ -5,7 +5,8 @@ ghost use Rattle.std.specs.List.{AllZip};
 ghost use Rattle.std.specs.Thread.{IsSync};
 ghost use Rattle.gcl_core.specs.Runs.{InRange};
 ghost use Rattle.claim_board.specs.Board.{IsPassOf, IsSamePass};
-ghost use Rattle.tally_range.specs.Shares.{IsRange, IsReady, IsCounted, pass_of};
+ghost use Rattle.tally_range.specs.Ranges.{IsRange};
+ghost use Rattle.tally_range.specs.Shares.{IsReady, IsCounted, pass_of};
 ghost use Rattle.tally_range.specs.inner.Worked.{IsWorked};
 
 use crate::range::SeedRange;
@@ -18,7 +19,7 @@ use std::alloc::AllocError;
 use std::thread::{Threads, join_mut};
 use zar_io::Gate;
 
-/// Claims blocks of 64 streams, the last of which may be shorter, until there is none left, runs the sampler on the streams of each,
+/// Claims blocks of streams, the last of which may be shorter, until there is none left, runs the sampler on the streams of each,
 /// and counts how the runs end. The gate is told of each block before its first stream. Whatever the answer, the share holds the same
 /// pass of the same board. An error comes only where memory is wanting, and nothing is promised of the table then.
 pub fn work<G: Gate>(

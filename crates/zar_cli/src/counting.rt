@@ -3,7 +3,7 @@
 ghost use Rattle.std.specs.Prelude.{◌≤◌, IfOk};
 ghost use Rattle.gcl_core.specs.Runs.{InRange};
 ghost use Rattle.gcl_core.specs.Views.{source_of};
-ghost use Rattle.tally_range.specs.Shares.{IsRange, IsWorkers};
+ghost use Rattle.tally_range.specs.Ranges.{IsRange, IsWorkers};
 ghost use Rattle.zar_cli.specs.declared.settings.TheConstants.{MOST_DEPTH};
 ghost use Rattle.zar_cli.specs.Counts.{IsAuditText, IsTallyText};
 

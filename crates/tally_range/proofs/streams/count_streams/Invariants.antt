@@ -2,7 +2,7 @@ use Rattle.std.proofs.Common.{◌≡◌, ◌-◌, ◌+◌, ◌≤◌, Bool, List
 use Rattle.gcl_core.specs.declared.answers.Answer.{Answer}
 use Rattle.gcl_core.specs.declared.answers.TallyKey.{TallyKey}
 use Rattle.sampler_run.specs.Held.{IsRestOf, set_back}
-use Rattle.tally_range.specs.Rows.{count_in}
+use Rattle.tally_range.specs.Sums.{count_in}
 use Rattle.tally_range.specs.Counts.{count_over}
 use Rattle.tally_range.proofs.streams.count_streams.Given as goal
 

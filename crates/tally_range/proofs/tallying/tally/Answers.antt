@@ -1,6 +1,6 @@
 use Rattle.std.proofs.Common.{◌≡◌, arith}
 use Rattle.claim_board.specs.Board.{blocks_of}
-use Rattle.tally_range.specs.Counts.{blocks_over}
+use Rattle.tally_range.specs.Blocks.{blocks_over}
 use Rattle.tally_range.proofs.Tallied.{range_counted, counts_fit, sums_count, rows_exact}
 use Rattle.tally_range.proofs.tallying.tally.Goals as goal
 
@@ -12,7 +12,7 @@ add_up-requires g c = let made = c.in_ok-board.ensures.board.0 in let div = c.di
     c.requires.range blocks c.in_ok-board.board.few.1 c.in_ok-passes.ensures.passes c.in_ok-passes.ensures.ended c.close.ensures.dealt c.close.ensures.all c.in_ok-passes.ensures.counts c.deref.ensures.value in
     record {
       fits = λ key. let le = counts_fit c.args.s.now c.args.l.now c.args.range.now c.deref.result.now (λ w. c.runs_answer.ensures c.args.l.now w c.requires.limits) all key in
-          let small = c.requires.range.1 in omega arith;
+          let small = c.requires.range.few in omega arith;
     }
 
 pub returns : goal.returns

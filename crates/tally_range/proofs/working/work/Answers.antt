@@ -5,7 +5,8 @@ use Rattle.number_lists.proofs.Times.{top_above, top-snoc}
 use Rattle.number_lists.proofs.Totals.{total_snoc}
 use Rattle.claim_board.specs.Board.{dealt_to}
 use Rattle.sampler_run.specs.Held.{Held, IsRestOf}
-use Rattle.tally_range.specs.Shares.{count_block, pass_of}
+use Rattle.tally_range.specs.Blocks.{count_block}
+use Rattle.tally_range.specs.Shares.{pass_of}
 use Rattle.tally_range.proofs.working.work.Goals as goal
 
 pub loop-block-smaller : goal.loop-block-smaller

@@ -6,8 +6,10 @@ use Rattle.number_lists.specs.Numbers.{top}
 use Rattle.claim_board.specs.Board.{blocks_of, dealt_to, had_none, IsPassOf, IsSamePass}
 use Rattle.sampler_code.specs.Assembled.{IsRunOf}
 use Rattle.sampler_run.specs.Held.{first_of, set_back}
-use Rattle.tally_range.specs.Rows.{count_in}
-use Rattle.tally_range.specs.Shares.{count_block, pass_of, table_of}
+use Rattle.tally_range.specs.Sums.{count_in}
+use Rattle.tally_range.specs.declared.range.TheConstants.{STREAMS_OF_A_BLOCK}
+use Rattle.tally_range.specs.Blocks.{count_block}
+use Rattle.tally_range.specs.Shares.{pass_of, table_of}
 use Rattle.tally_range.proofs.working.work.Given as goal
 
 abbrev pub invariant-loop-block : goal.invariant-loop-block
@@ -15,7 +17,7 @@ invariant-loop-block g l = IsPassOf l.board (pass_of l.share) × IsSamePass (pas
     × (top (dealt_to (pass_of l.share)) ≤ blocks_of l.board)
     × (set_back l.state ≡ first_of l.s l.l)
     × ((run : List Bool → Answer) → IsRunOf l.s l.l run → (key : TallyKey) → count_in (table_of l.share) key ≡ total (count_block run l.range key) (dealt_to (pass_of l.share)))
-    × ((key : TallyKey) → count_in (table_of l.share) key ≤ 64 * top (dealt_to (pass_of l.share)))
+    × ((key : TallyKey) → count_in (table_of l.share) key ≤ STREAMS_OF_A_BLOCK * top (dealt_to (pass_of l.share)))
 
 -- each block is above those before it
 abbrev pub decreases-loop-block : goal.decreases-loop-block

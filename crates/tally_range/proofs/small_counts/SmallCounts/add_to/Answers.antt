@@ -1,6 +1,7 @@
 use Rattle.std.proofs.Common.{ℕ, ◌<◌, ◌≤◌, length, get_or, sym, ap, ◌∙◌, arith}
 use Rattle.gcl_core.specs.declared.answers.TallyKey.{TallyKey}
-use Rattle.tally_range.specs.Rows.{Rows, count_in, counted_at}
+use Rattle.tally_range.specs.Rows.{Rows, counted_at}
+use Rattle.tally_range.specs.Sums.{count_in}
 use Rattle.tally_range.specs.inner.SmallRows.{value_key}
 use Rattle.tally_range.proofs.InRows.{counted_itself}
 use Rattle.tally_range.proofs.Entries.{counted_none}

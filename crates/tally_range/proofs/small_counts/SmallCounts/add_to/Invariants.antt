@@ -1,6 +1,6 @@
 use Rattle.std.proofs.Common.{◌≡◌, ◌+◌, drop}
 use Rattle.gcl_core.specs.declared.answers.TallyKey.{TallyKey}
-use Rattle.tally_range.specs.Rows.{count_in}
+use Rattle.tally_range.specs.Sums.{count_in}
 use Rattle.tally_range.specs.inner.SmallRows.{small_rows}
 use Rattle.tally_range.proofs.small_counts.SmallCounts.add_to.Given as goal
 

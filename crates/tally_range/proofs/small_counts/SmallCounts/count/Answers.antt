@@ -1,6 +1,7 @@
 use Rattle.std.proofs.Common.{◌≡◌, ℕ, ◌+◌, ◌<◌, length, sym, ap, ◌∙◌, arith}
 use Rattle.gcl_core.specs.declared.answers.TallyKey.{TallyKey}
-use Rattle.tally_range.specs.Rows.{Rows, count_in, counted_at}
+use Rattle.tally_range.specs.Rows.{Rows, counted_at}
+use Rattle.tally_range.specs.Sums.{count_in}
 use Rattle.tally_range.specs.inner.SmallRows.{value_key, small_rows}
 use Rattle.tally_range.proofs.SmallRows.{one_more, at_least}
 use Rattle.tally_range.proofs.small_counts.SmallCounts.count.Goals as goal
