@@ -12,18 +12,20 @@ use Rattle.gcl_core.specs.declared.answers.Limits.{Limits}
 use Rattle.gcl_core.specs.declared.answers.TallyKey.{TallyKey}
 use Rattle.sampler_code.specs.Assembled.{Assembled, IsRunOf}
 use Rattle.tally_range.specs.declared.range.SeedRange.{SeedRange}
+use Rattle.tally_range.specs.declared.range.TheConstants.{STREAMS_OF_A_BLOCK}
 use Rattle.claim_board.specs.declared.pass.Pass.{Pass}
 use Rattle.claim_board.specs.Board.{dealt_to, had_none, AreDealtTo}
 use Rattle.least_board.specs.declared.pass.LeastPass.{LeastPass}
 use Rattle.least_board.specs.Board.{offers_of, seen_by, IsLeast, offered_by}
-use Rattle.hunt_range.specs.Sought.{Sought, sought_of, first_of, LeastWanted}
-use Rattle.tally_range.specs.Counts.{blocks_over}
+use Rattle.hunt_range.specs.Sought.{Sought, sought_of, LeastWanted}
+use Rattle.hunt_range.specs.inner.Blocks.{first_of}
+use Rattle.tally_range.specs.Blocks.{blocks_over}
 use Rattle.hunt_range.specs.inner.Hunters.{HasHunted, HasHuntedRuns}
 
 module _ (s : Sought) (n r : ℕ) where
   -- a stream of a block that was dealt
   covered : (j i : ℕ) (ps : List Pass) (qs : List LeastPass) → AllZip (HasHunted s) ps qs → All (λ (q : LeastPass). r ≤ seen_by q) qs → 0 < total (λ (p : Pass). times j (dealt_to p)) ps →
-      first_of s j ≤ i → i < first_of s j + 64 → i < s.to → s.wants i ≡ true → r ≤ i
+      first_of s j ≤ i → i < first_of s j + STREAMS_OF_A_BLOCK → i < s.to → s.wants i ≡ true → r ≤ i
   covered j i [] [] z seen some low high inside w = absurd (omega arith)
   covered j i [] (q ∷ qs) z seen some low high inside w = absurd z
   covered j i (p ∷ ps) [] z seen some low high inside w = absurd z
@@ -65,9 +67,9 @@ module _ (s : Sought) (n r : ℕ) where
     -- no stream that is wanted is less than the least offer
     no_less : (i : ℕ) → s.from ≤ i → i < s.to → s.wants i ≡ true → r ≤ i
     no_less i low inside w =
-        let j = (i - s.from) / 64 in
+        let j = (i - s.from) / STREAMS_OF_A_BLOCK in
         let begins : first_of s j ≤ i = omega arith in
-        let ends : i < first_of s j + 64 = omega arith in
+        let ends : i < first_of s j + STREAMS_OF_A_BLOCK = omega arith in
         let within : j < blocks_over s.from s.to = omega arith in
         ⊎_elim
         (λ (lt : j < n). let d = dealt j in let one = once_there j n lt in covered j i ps qs hunted seen (omega arith) begins ends inside w)

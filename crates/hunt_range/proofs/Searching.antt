@@ -11,6 +11,7 @@ use Rattle.gcl_core.specs.declared.answers.Limits.{Limits}
 use Rattle.gcl_core.specs.declared.answers.TallyKey.{TallyKey}
 use Rattle.sampler_code.specs.Assembled.{Assembled, IsRunOf}
 use Rattle.tally_range.specs.declared.range.SeedRange.{SeedRange}
+use Rattle.tally_range.specs.declared.range.TheConstants.{STREAMS_OF_A_BLOCK}
 use Rattle.claim_board.specs.declared.pass.Board.{Board}
 use Rattle.claim_board.specs.declared.pass.Pass.{Pass}
 use Rattle.claim_board.specs.Board as claim
@@ -18,7 +19,8 @@ use Rattle.least_board.specs.declared.pass.LeastBoard.{LeastBoard}
 use Rattle.least_board.specs.declared.pass.LeastPass.{LeastPass}
 use Rattle.least_board.specs.Board as least
 use Rattle.hunt_range.specs.declared.hunter.Hunter.{Hunter}
-use Rattle.hunt_range.specs.Sought.{Sought, sought_of, first_of, NoneWanted, FirstWanted}
+use Rattle.hunt_range.specs.Sought.{Sought, sought_of, NoneWanted}
+use Rattle.hunt_range.specs.inner.Blocks.{first_of, FirstWanted}
 use Rattle.hunt_range.specs.inner.Hunters.{Covers, AreWanted, Searched, HasHunted, IsSameHunter}
 
 -- what was searched of the runs of the code
@@ -51,7 +53,7 @@ module _ (s : Sought) where
 
   -- one block more
   covers_more : (dealt : List ℕ) (block seen : ℕ) → Covers s dealt seen →
-      ((i : ℕ) → first_of s block ≤ i → i < first_of s block + 64 → i < s.to → s.wants i ≡ true → seen ≤ i) → Covers s (dealt ++ block ∷ []) seen
+      ((i : ℕ) → first_of s block ≤ i → i < first_of s block + STREAMS_OF_A_BLOCK → i < s.to → s.wants i ≡ true → seen ≤ i) → Covers s (dealt ++ block ∷ []) seen
   covers_more dealt block seen c here j i h low high inside w =
       ⊎_elim (λ (old : 0 < times j dealt). c j i old low high inside w)
       (λ (e : j ≡ block). let f = ap (first_of s) e in here i (omega arith) (omega arith) inside w)

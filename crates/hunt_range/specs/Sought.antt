@@ -1,5 +1,5 @@
 -- What a hunt looks for: the least stream of a range whose run has a wanted key. This project's own rule.
-use Rattle.std.specs.Prelude.{ℕ, ◌+◌, ◌*◌, ◌<◌, ◌≤◌, ◌≡◌, Bool, true, List, Option, Some, None}
+use Rattle.std.specs.Prelude.{ℕ, ◌<◌, ◌≤◌, ◌≡◌, Bool, true, List, Option, Some, None}
 use Rattle.gcl_core.specs.declared.answers.Answer.{Answer}
 use Rattle.gcl_core.specs.declared.answers.TallyKey.{TallyKey}
 use Rattle.gcl_core.specs.Outcomes.{same_key}
@@ -16,18 +16,9 @@ pub record Sought : Type 0 where
 abbrev pub sought_of : (List Bool → Answer) → SeedRange → TallyKey → Sought
 sought_of run r want = record { from = r.from; to = r.to; wants = λ i. same_key (key_on run r.seed r.budget i) want }
 
--- the first stream of a block
-abbrev pub first_of : Sought → ℕ → ℕ
-first_of s j = s.from + 64 * j
-
 -- no stream from a up to but not including b is wanted
 abbrev pub NoneWanted : Sought → ℕ → ℕ → Type 0
 NoneWanted s a b = (i : ℕ) → a ≤ i → i < b → s.wants i ≡ true → ⊥
-
--- the first that is wanted of the at most 64 streams from `first` on, below `to`
-abbrev pub FirstWanted : Sought → ℕ → ℕ → Option ℕ → Type 0
-FirstWanted s first to None = (i : ℕ) → first ≤ i → i < first + 64 → i < to → s.wants i ≡ true → ⊥
-FirstWanted s first to (Some x) = (first ≤ x) × (x < first + 64) × (x < to) × (s.wants x ≡ true) × NoneWanted s first x
 
 -- the least stream of all that is wanted, or none where there is none
 abbrev pub LeastWanted : Sought → Option ℕ → Type 0

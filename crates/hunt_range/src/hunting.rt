@@ -3,7 +3,7 @@ ghost use Rattle.std.specs.Prelude.{◌≡◌, false, Bool, List, All, IfOk, vec
 ghost use Rattle.gcl_core.specs.declared.answers.Answer.{Answer};
 ghost use Rattle.gcl_core.specs.Runs.{InRange};
 ghost use Rattle.sampler_code.specs.Assembled.{IsRunOf};
-ghost use Rattle.tally_range.specs.Shares.{IsRange, IsWorkers};
+ghost use Rattle.tally_range.specs.Ranges.{IsRange, IsWorkers};
 ghost use Rattle.claim_board.specs.Board as claim;
 ghost use Rattle.least_board.specs.Board as offers;
 ghost use Rattle.hunt_range.specs.Sought.{sought_of, LeastWanted};
@@ -17,7 +17,7 @@ use least_board::{LeastBoard, LeastPass};
 use sampler_run::Sampler;
 use std::alloc::{AllocError, Global};
 use std::thread::Threads;
-use tally_range::SeedRange;
+use tally_range::{STREAMS_OF_A_BLOCK, SeedRange};
 use zar_io::Gate;
 
 // A hunter for each two passes.
@@ -59,6 +59,7 @@ fn close_both(
     least: LeastBoard,
     mut hunters: Vec<Hunter>,
 ) -> Result<Option<u64>, AllocError>
+    requires range { IsRange range.now }
     requires fits { Fits board least range.now }
     requires all { AreAll board least hunters.items }
     requires hunted { All (λ h. h.failed ≡ false → HasHuntedRuns s.now l.now range.now want.now h.pass h.bid) hunters.items }
@@ -83,8 +84,8 @@ fn close_both(
 }
 
 /// The least stream of the range on which the run of the sampler has this key: it ends in this outcome, or needs more bits than the budget.
-/// `None` comes exactly where there is none. The answer is the same for any number of threads and any gate. Streams go in blocks of 64, and
-/// the gate is told of each block before its first stream; blocks behind a stream that was found may be left out. An error comes only where
+/// `None` comes exactly where there is none. The answer is the same for any number of threads and any gate. Streams go in blocks of
+/// [`STREAMS_OF_A_BLOCK`], and the gate is told of each block before its first stream; blocks behind a stream that was found may be left out. An error comes only where
 /// memory is wanting.
 pub fn hunt<R: Threads + Sync, G: Gate>(
     rt: &R,
@@ -100,7 +101,7 @@ pub fn hunt<R: Threads + Sync, G: Gate>(
     requires workers { IsWorkers range.now.workers }
     ensures { IfOk result (λ found. (run : List Bool → Answer) → IsRunOf s.now l.now run → LeastWanted (sought_of run range.now want.now) found) }
 {
-    let blocks = (range.to - range.from).div_ceil(64);
+    let blocks = (range.to - range.from).div_ceil(STREAMS_OF_A_BLOCK);
     let (board, passes) = Board::new(alloc, blocks, range.workers)?;
     let (least, bids) = LeastBoard::new(alloc, range.to, range.workers)?;
     let mut hunters = hunters_of(alloc, &board, &least, passes, bids)?;

@@ -1,14 +1,16 @@
 //! The first stream of a block that is wanted.
-ghost use Rattle.std.specs.Prelude.{◌≡◌, ◌+◌, ◌*◌, ◌<◌, ◌≤◌, ◌^◌, Bool, List, IfSome};
+ghost use Rattle.std.specs.Prelude.{◌≡◌, ◌<◌, ◌≤◌, Bool, List, IfSome};
 ghost use Rattle.gcl_core.specs.declared.answers.Answer.{Answer};
 ghost use Rattle.gcl_core.specs.Outcomes.{same_key};
 ghost use Rattle.sampler_run.specs.Held.{IsRestOf, set_back};
-ghost use Rattle.tally_range.specs.Counts.{blocks_over};
-ghost use Rattle.hunt_range.specs.Sought.{sought_of, FirstWanted};
+ghost use Rattle.tally_range.specs.Blocks.{first_in_block, blocks_over};
+ghost use Rattle.tally_range.specs.Ranges.{IsRange};
+ghost use Rattle.hunt_range.specs.Sought.{sought_of};
+ghost use Rattle.hunt_range.specs.inner.Blocks.{FirstWanted};
 
 use gcl_core::TallyKey;
 use sampler_run::State;
-use tally_range::{SeedRange, run_on_stream};
+use tally_range::{STREAMS_OF_A_BLOCK, SeedRange, run_on_stream};
 
 fn is_same(key: TallyKey, want: &TallyKey) -> bool
     ensures { result ≡ same_key key want.now }
@@ -16,14 +18,14 @@ fn is_same(key: TallyKey, want: &TallyKey) -> bool
     key == *want
 }
 
-/// The first stream of a block of 64, of the streams from `from` up to but not including `to`.
+/// The first stream of a block, of the streams from `from` up to but not including `to`.
 pub fn first_stream(from: u64, to: u64, block: u64) -> u64
     requires order { from ≤ to }
     requires block { block < blocks_over from to }
-    ensures first { result ≡ from + 64 * block }
+    ensures first { result ≡ first_in_block from block }
     ensures inside { result < to }
 {
-    from + 64 * block
+    from + STREAMS_OF_A_BLOCK * block
 }
 
 /// The first stream of a block whose run has the key, if there is one. It takes no memory.
@@ -33,13 +35,13 @@ pub fn first_wanted(
     want: &TallyKey,
     first: u64,
 ) -> Option<u64>
+    requires range { IsRange range.now }
     requires inside { first < range.now.to }
-    requires budget { range.now.budget ≤ 10 ^ 9 }
     ensures first { (run : List Bool → Answer) → IsRestOf (set_back state.old) run → FirstWanted (sought_of run range.now want.now) first range.now.to result }
     ensures within { IfSome result (λ x. (first ≤ x) × (x < range.now.to)) }
     ensures same_start { set_back state.new ≡ set_back state.old }
 {
-    let count = (range.to - first).min(64);
+    let count = (range.to - first).min(STREAMS_OF_A_BLOCK);
     let mut at = 0;
     while at < count {
         let key = run_on_stream(state, range.seed, first + at, range.budget);

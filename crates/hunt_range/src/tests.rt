@@ -1,7 +1,7 @@
 // Hunts by real threads, on words that RFC 8439 publishes: stream 0 begins with the bits 101, and stream 2^57 with the bits 001.
 
 ghost use Rattle.std.specs.Prelude.{◌≡◌};
-ghost use Rattle.tally_range.specs.Shares.{IsRange, IsWorkers};
+ghost use Rattle.tally_range.specs.Ranges.{IsRange, IsWorkers};
 
 use crate::hunt;
 use gcl_check::check;

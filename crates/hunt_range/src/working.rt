@@ -1,8 +1,9 @@
 //! The workers of a hunt.
-ghost use Rattle.std.specs.Prelude.{◌≤◌, ◌^◌, All, IfOk};
+ghost use Rattle.std.specs.Prelude.{All, IfOk};
 ghost use Rattle.std.specs.List.{AllZip};
 ghost use Rattle.std.specs.Thread.{IsSync};
 ghost use Rattle.gcl_core.specs.Runs.{InRange};
+ghost use Rattle.tally_range.specs.Ranges.{IsRange};
 ghost use Rattle.hunt_range.specs.inner.Hunters.{Fits, IsReady, IsSameHunter, HasHuntedRuns, HasWorked};
 
 use crate::hunter::Hunter;
@@ -31,7 +32,7 @@ pub fn work<G: Gate>(
     hunter: &mut Hunter,
 ) -> Result<(), AllocError>
     requires limits { InRange l.now }
-    requires budget { range.now.budget ≤ 10 ^ 9 }
+    requires range { IsRange range.now }
     requires fits { Fits board.now least.now range.now }
     requires ready { IsReady board.now least.now hunter.old }
     ensures same { IsSameHunter hunter.old hunter.new }
@@ -63,7 +64,7 @@ fn work_for<G: Gate>(
     hunter: &mut Hunter,
 )
     requires limits { InRange l.now }
-    requires budget { range.now.budget ≤ 10 ^ 9 }
+    requires range { IsRange range.now }
     requires fits { Fits board.now least.now range.now }
     requires ready { IsReady board.now least.now hunter.old }
     ensures { HasWorked (HasHuntedRuns s.now l.now range.now want.now) hunter.old hunter.new }
@@ -85,7 +86,7 @@ pub fn run_all<R: Threads + Sync, G: Gate>(
     hunters: &mut [Hunter],
 )
     requires limits { InRange l.now }
-    requires budget { range.now.budget ≤ 10 ^ 9 }
+    requires range { IsRange range.now }
     requires fits { Fits board.now least.now range.now }
     requires ready { All (IsReady board.now least.now) hunters.old }
     ensures { AllZip (HasWorked (HasHuntedRuns s.now l.now range.now want.now)) hunters.old hunters.new }
@@ -111,11 +112,11 @@ pub fn run_all<R: Threads + Sync, G: Gate>(
     join_mut(
         rt,
         &mut ||
-            requires { IsSync R.row × IsSync G.row × InRange l.now × (range.now.budget ≤ 10 ^ 9) × Fits board.now least.now range.now × All (IsReady board.now least.now) front.now }
+            requires { IsSync R.row × IsSync G.row × InRange l.now × IsRange range.now × Fits board.now least.now range.now × All (IsReady board.now least.now) front.now }
             ensures { AllZip (HasWorked (HasHuntedRuns s.entry.now l.entry.now range.entry.now want.entry.now)) front.entry.now front.exit.now }
         { run_all(rt, alloc, board, least, s, l, range, want, gate, front) },
         &mut ||
-            requires { IsSync R.row × IsSync G.row × InRange l.now × (range.now.budget ≤ 10 ^ 9) × Fits board.now least.now range.now × All (IsReady board.now least.now) back.now }
+            requires { IsSync R.row × IsSync G.row × InRange l.now × IsRange range.now × Fits board.now least.now range.now × All (IsReady board.now least.now) back.now }
             ensures { AllZip (HasWorked (HasHuntedRuns s.entry.now l.entry.now range.entry.now want.entry.now)) back.entry.now back.exit.now }
         { run_all(rt, alloc, board, least, s, l, range, want, gate, back) },
     );

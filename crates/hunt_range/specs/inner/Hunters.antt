@@ -15,12 +15,13 @@ use Rattle.gcl_core.specs.declared.answers.Limits.{Limits}
 use Rattle.gcl_core.specs.declared.answers.TallyKey.{TallyKey}
 use Rattle.sampler_code.specs.Assembled.{Assembled, IsRunOf}
 use Rattle.tally_range.specs.declared.range.SeedRange.{SeedRange}
-use Rattle.tally_range.specs.Counts.{blocks_over}
-use Rattle.hunt_range.specs.Sought.{Sought, sought_of, first_of}
+use Rattle.tally_range.specs.declared.range.TheConstants.{STREAMS_OF_A_BLOCK}
+use Rattle.tally_range.specs.Blocks.{blocks_over}
+use Rattle.hunt_range.specs.Sought.{Sought, sought_of}
+use Rattle.hunt_range.specs.inner.Blocks.{first_of}
 
 -- the boards and the range belong together
 pub record Fits (b : Board) (l : LeastBoard) (r : SeedRange) : Type 0 where
-  pub ordered : r.from ≤ r.to
   pub blocks : claim.blocks_of b ≡ blocks_over r.from r.to
   pub top : least.top_of l ≡ r.to
 
@@ -33,7 +34,7 @@ pub record IsReady (b : Board) (l : LeastBoard) (h : Hunter) : Type 0 where
 
 -- each stream that is wanted, of these blocks, is at least what was seen
 abbrev pub Covers : Sought → List ℕ → ℕ → Type 0
-Covers s dealt seen = (j i : ℕ) → 0 < times j dealt → first_of s j ≤ i → i < first_of s j + 64 → i < s.to → s.wants i ≡ true → seen ≤ i
+Covers s dealt seen = (j i : ℕ) → 0 < times j dealt → first_of s j ≤ i → i < first_of s j + STREAMS_OF_A_BLOCK → i < s.to → s.wants i ≡ true → seen ≤ i
 
 -- each of these streams is wanted
 abbrev pub AreWanted : Sought → List ℕ → Type 0

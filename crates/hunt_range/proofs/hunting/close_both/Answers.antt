@@ -19,7 +19,7 @@ returns-then-found-range c = λ run is.
     let qs = c.loop-hunter.bids.items in
     let last : length c.loop-hunter.hunters.items ≡ 0 = let e = c.in_default.ensures.cases.0 in search rules in
     let some : 0 < length ps = some_passes c.args.board c.args.least (HasHuntedRuns c.args.s.now c.args.l.now c.args.range.now c.args.want.now) ps (all_passes c.args.board c.args.least (HasHuntedRuns c.args.s.now c.args.l.now c.args.range.now c.args.want.now) ps qs c.loop-hunter.hunters.items i last) in
-    one_found s c.close.result.dealt c.close-found.result ps qs some c.requires.fits.ordered (hunted_runs c.args.s.now c.args.l.now c.args.range.now c.args.want.now run is ps qs i.hunted) c.close.ensures.dealt (λ any. c.close.ensures.all any ∙ c.requires.fits.blocks)
+    one_found s c.close.result.dealt c.close-found.result ps qs some c.requires.range.ordered (hunted_runs c.args.s.now c.args.l.now c.args.range.now c.args.want.now run is ps qs i.hunted) c.close.ensures.dealt (λ any. c.close.ensures.all any ∙ c.requires.fits.blocks)
     (subst (λ top. IsLeast top qs c.close-found.result) c.requires.fits.top c.close-found.ensures.least) c.close-found.ensures.seen c.if-found-range.true
 
 pub returns : goal.returns
@@ -30,5 +30,5 @@ returns c = λ run is.
     let qs = c.loop-hunter.bids.items in
     let last : length c.loop-hunter.hunters.items ≡ 0 = let e = c.in_default.ensures.cases.0 in search rules in
     let some : 0 < length ps = some_passes c.args.board c.args.least (HasHuntedRuns c.args.s.now c.args.l.now c.args.range.now c.args.want.now) ps (all_passes c.args.board c.args.least (HasHuntedRuns c.args.s.now c.args.l.now c.args.range.now c.args.want.now) ps qs c.loop-hunter.hunters.items i last) in
-    none_found s c.close.result.dealt c.close-found.result ps qs some c.requires.fits.ordered (hunted_runs c.args.s.now c.args.l.now c.args.range.now c.args.want.now run is ps qs i.hunted) c.close.ensures.dealt (λ any. c.close.ensures.all any ∙ c.requires.fits.blocks)
+    none_found s c.close.result.dealt c.close-found.result ps qs some c.requires.range.ordered (hunted_runs c.args.s.now c.args.l.now c.args.range.now c.args.want.now run is ps qs i.hunted) c.close.ensures.dealt (λ any. c.close.ensures.all any ∙ c.requires.fits.blocks)
     (subst (λ top. IsLeast top qs c.close-found.result) c.requires.fits.top c.close-found.ensures.least) c.close-found.ensures.seen c.if-found-range.false

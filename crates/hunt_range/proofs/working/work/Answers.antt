@@ -1,7 +1,8 @@
 use Rattle.std.proofs.Common.{Some, None, refl, [], ◌∷◌, ◌++◌, sym, ap, subst, ◌∙◌, arith}
 use Rattle.claim_board.specs.Board.{blocks_of, dealt_to}
 use Rattle.sampler_run.specs.Held.{Held, IsRestOf}
-use Rattle.hunt_range.specs.Sought.{sought_of, FirstWanted}
+use Rattle.hunt_range.specs.Sought.{sought_of}
+use Rattle.hunt_range.specs.inner.Blocks.{FirstWanted}
 use Rattle.hunt_range.proofs.Searching.{HasSearched, ends, stops, goes_on, offers, fewer_left, hunts_on}
 use Rattle.hunt_range.proofs.working.work.Goals as goal
 
