@@ -4,6 +4,7 @@ use std::io::Eprint;
 use std::sync::atomic::Ordering::SeqCst;
 use std::sync::atomic::{AtomicBool, AtomicU64};
 use std::time::{Clock, Instant};
+use tally_range::STREAMS_OF_A_BLOCK;
 use zar_io::Gate;
 
 // The milliseconds before the first line, at least.
@@ -11,9 +12,6 @@ const BEFORE_THE_FIRST: u64 = 1000;
 
 // The milliseconds between two lines, at least.
 const BETWEEN_TWO: u64 = 100;
-
-// What a gate calls a block.
-const STREAMS_OF_A_BLOCK: u64 = 64;
 
 // Back to the first column, and clear the line.
 const WIPE: &str = "\r\x1b[K";
