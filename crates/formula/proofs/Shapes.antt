@@ -1,80 +1,117 @@
 -- What the forms of a formula stand for.
-use Rattle.std.proofs.Common.{◌≡◌, ℕ, List, [], ℤ, Ok, refl, sym, ap, ◌∙◌, subst}
+use Rattle.std.proofs.Common.{◌≡◌, ℕ, ◌+◌, max, List, [], ◌∷◌, ◌++◌, ℤ, Ok, Err, refl, sym, ap, ◌∙◌, subst}
 use Rattle.gcl_core.specs.declared.syntax.BinOp.{BinOp}
 use Rattle.gcl_core.specs.declared.syntax.BinOp.TheVariants.{And, Or}
-use Rattle.gcl_core.specs.Value.{State, Value, value_of, applied, or_settled, Reads}
+use Rattle.gcl_core.specs.Value.{State, Value, value_of, ◌>>=◌, applied, or_settled, Reads}
 use Rattle.gcl_core.specs.Syntax.{Expression, binary}
 use Rattle.formula.specs.declared.op.Op.{Op}
+use Rattle.formula.specs.declared.op.Op.TheVariants.{Bin}
 use Rattle.formula.specs.declared.op.Atom.{Atom}
 use Rattle.formula.specs.declared.op.Atom.TheVariants.{Num, Var}
+use Rattle.formula.specs.declared.op.Term.{Term}
+use Rattle.formula.specs.declared.op.Term.TheVariants.{One, Two}
 use Rattle.formula.specs.declared.op.Form.{Form}
-use Rattle.formula.specs.declared.op.Form.TheVariants.{One, Two, Long}
-use Rattle.formula.specs.Steps.{between, steps_of, depth}
-use Rattle.formula.specs.ReadBack.{read, expression_in}
-use Rattle.formula.specs.Forms.{atom_expression, atom_value, AtomReads, form_steps, FormOf}
+use Rattle.formula.specs.declared.op.Form.TheVariants.{Short, Joined, Long}
+use Rattle.formula.specs.Steps.{between, gap, kept, joining, size, steps_at, steps_of, depth}
+use Rattle.formula.specs.ReadBack.{expression_in}
+use Rattle.formula.specs.Forms.{atom_expression, atom_value, AtomReads, term_steps, term_expression, IsTerm, term_depth, TermReads, term_value, joined_steps, joined_value, form_steps, FormOf}
 use Rattle.formula.proofs.ReadingBack.{stands_for}
+use Rattle.formula.proofs.Written.{Plain, plain_by}
 
-abbrev pub form_depth : Form → ℕ
-form_depth (One a) = 1
-form_depth (Two op a b) = 2
-form_depth (Long steps n) = n
+-- ---- terms
 
-pub form_reads : (f : Form) (e : Expression) → FormOf f e → expression_in (form_steps f) ≡ e
-unfolding read
-form_reads (One (Num n)) e h = sym h
-form_reads (One (Var x)) e h = sym h
-form_reads (Two op (Num n) (Num m)) e h = sym h.1
-form_reads (Two op (Num n) (Var y)) e h = sym h.1
-form_reads (Two op (Var x) (Num m)) e h = sym h.1
-form_reads (Two op (Var x) (Var y)) e h = sym h.1
-form_reads (Long steps n) e h = ap expression_in h.0 ∙ stands_for e
+term_writes : (t : Term) (i : ℕ) → IsTerm t → steps_at (term_expression t) i ≡ term_steps t
+term_writes (One (Num n)) i h = refl
+term_writes (One (Var x)) i h = refl
+term_writes (Two And a b) i h = absurd (cc)
+term_writes (Two Or a b) i h = absurd (cc)
+term_writes (Two _ (Num n) (Num m)) i h = refl
+term_writes (Two _ (Num n) (Var y)) i h = refl
+term_writes (Two _ (Var x) (Num m)) i h = refl
+term_writes (Two _ (Var x) (Var y)) i h = refl
 
-two_steps : (op : BinOp) (a b : Atom) → between op 0 ≡ [] → form_steps (Two op a b) ≡ steps_of (binary op (atom_expression a) (atom_expression b))
-two_steps And a b h = absurd (cc)
-two_steps Or a b h = absurd (cc)
-two_steps _ (Num n) (Num m) h = refl
-two_steps _ (Num n) (Var y) h = refl
-two_steps _ (Var x) (Num m) h = refl
-two_steps _ (Var x) (Var y) h = refl
+term_deep : (t : Term) → IsTerm t → term_depth t ≡ depth (term_expression t)
+term_deep (One (Num n)) h = refl
+term_deep (One (Var x)) h = refl
+term_deep (Two And a b) h = absurd (cc)
+term_deep (Two Or a b) h = absurd (cc)
+term_deep (Two _ (Num n) (Num m)) h = refl
+term_deep (Two _ (Num n) (Var y)) h = refl
+term_deep (Two _ (Var x) (Num m)) h = refl
+term_deep (Two _ (Var x) (Var y)) h = refl
 
-two_depth : (op : BinOp) (a b : Atom) → between op 0 ≡ [] → 2 ≡ depth (binary op (atom_expression a) (atom_expression b))
-two_depth And a b h = absurd (cc)
-two_depth Or a b h = absurd (cc)
-two_depth _ (Num n) (Num m) h = refl
-two_depth _ (Num n) (Var y) h = refl
-two_depth _ (Var x) (Num m) h = refl
-two_depth _ (Var x) (Var y) h = refl
-
--- a form holds the steps
-pub form_writes : (f : Form) (e : Expression) → FormOf f e → form_steps f ≡ steps_of e
-form_writes (One (Num n)) e h = ap steps_of (sym h)
-form_writes (One (Var x)) e h = ap steps_of (sym h)
-form_writes (Two op a b) e h = two_steps op a b h.0 ∙ ap steps_of (sym h.1)
-form_writes (Long steps n) e h = h.0
-
-pub depth_of : (f : Form) (e : Expression) → FormOf f e → form_depth f ≡ depth e
-depth_of (One (Num n)) e h = ap depth (sym h)
-depth_of (One (Var x)) e h = ap depth (sym h)
-depth_of (Two op a b) e h = two_depth op a b h.0 ∙ ap depth (sym h.1)
-depth_of (Long steps n) e h = h.1
-
-both_read : (op : BinOp) (a b : Atom) (n : ℕ) → Reads (binary op (atom_expression a) (atom_expression b)) n → AtomReads a n × AtomReads b n
-both_read op (Num x) (Num y) n r = (tt, tt)
-both_read op (Num x) (Var y) n r = (tt, r.1)
-both_read op (Var x) (Num y) n r = (r.0, tt)
-both_read op (Var x) (Var y) n r = r
+term_reads : (t : Term) (n : ℕ) → Reads (term_expression t) n → TermReads t n
+term_reads (One (Num x)) n r = tt
+term_reads (One (Var x)) n r = r
+term_reads (Two op (Num x) (Num y)) n r = (tt, tt)
+term_reads (Two op (Num x) (Var y)) n r = (tt, r.1)
+term_reads (Two op (Var x) (Num y)) n r = (r.0, tt)
+term_reads (Two op (Var x) (Var y)) n r = r
 
 settles_nothing : (op : BinOp) (x : ℤ) (v : Value) → between op 0 ≡ [] → v ≡ or_settled op x v
 settles_nothing And x v h = absurd (cc)
 settles_nothing Or x v h = absurd (cc)
 settles_nothing _ x v h = refl
 
-both_value : (op : BinOp) (a b : Atom) (vars : State) → between op 0 ≡ [] →
-    applied op (atom_value a vars) (atom_value b vars) ≡ value_of (binary op (atom_expression a) (atom_expression b)) vars
-both_value op (Num x) (Num y) vars h = settles_nothing op x _ h
-both_value op (Num x) (Var y) vars h = settles_nothing op x _ h
-both_value op (Var x) (Num y) vars h = settles_nothing op _ _ h
-both_value op (Var x) (Var y) vars h = settles_nothing op _ _ h
+term_values : (t : Term) (vars : State) → IsTerm t → term_value t vars ≡ value_of (term_expression t) vars
+term_values (One (Num x)) vars h = refl
+term_values (One (Var x)) vars h = refl
+term_values (Two op (Num x) (Num y)) vars h = settles_nothing op x _ h
+term_values (Two op (Num x) (Var y)) vars h = settles_nothing op x _ h
+term_values (Two op (Var x) (Num y)) vars h = settles_nothing op _ _ h
+term_values (Two op (Var x) (Var y)) vars h = settles_nothing op _ _ h
+
+-- ---- one operator on two terms
+
+joined_writes : (op : BinOp) (t u : Term) → Plain op → IsTerm t → IsTerm u →
+    joined_steps op t u ≡ steps_of (binary op (term_expression t) (term_expression u))
+joined_writes op t u p i k =
+    let a = term_expression t in
+    let b = term_expression u in
+    let j = 0 + (size a + gap op) in
+    let end = 0 + (size a + gap op + size b + 1) in
+    ap (λ l. l ++ (term_steps u ++ Bin op ∷ [])) (sym (term_writes t 0 i))
+    ∙ ap (λ l. steps_at a 0 ++ (l ++ Bin op ∷ [])) (sym (term_writes u j k))
+    ∙ ap (λ o. steps_at a 0 ++ (steps_at b j ++ o ∷ [])) (sym p.joining)
+    ∙ ap (λ m. steps_at a 0 ++ (m ++ (steps_at b j ++ joining op ∷ []))) (sym (p.between end))
+
+after_settled : (op : BinOp) (v w : Value) → between op 0 ≡ [] →
+    (v >>= λ x. (w >>= λ y. applied op x y)) ≡ (v >>= λ x. or_settled op x (w >>= λ y. applied op x y))
+after_settled op (Ok x) w h = settles_nothing op x _ h
+after_settled op (Err fault) w h = refl
+
+joined_values : (op : BinOp) (t u : Term) (vars : State) → between op 0 ≡ [] → IsTerm t → IsTerm u →
+    joined_value op t u vars ≡ value_of (binary op (term_expression t) (term_expression u)) vars
+joined_values op t u vars h i k =
+    ap (λ v. v >>= λ x. (term_value u vars >>= λ y. applied op x y)) (term_values t vars i)
+    ∙ ap (λ w. value_of (term_expression t) vars >>= λ x. (w >>= λ y. applied op x y)) (term_values u vars k)
+    ∙ after_settled op (value_of (term_expression t) vars) (value_of (term_expression u) vars) h
+
+-- ---- forms
+
+abbrev form_depth : Form → ℕ
+form_depth (Short t) = term_depth t
+form_depth (Joined op t u) = max (term_depth t) (term_depth u + 1)
+form_depth (Long steps n) = n
+
+-- a form holds the steps
+pub form_writes : (f : Form) (e : Expression) → FormOf f e → form_steps f ≡ steps_of e
+form_writes (Short t) e h = sym (term_writes t 0 h.0) ∙ ap steps_of (sym h.1)
+form_writes (Joined op t u) e h = joined_writes op t u (plain_by op h.0) h.1 h.2 ∙ ap steps_of (sym h.3)
+form_writes (Long steps n) e h = h.0
+
+pub form_reads : (f : Form) (e : Expression) → FormOf f e → expression_in (form_steps f) ≡ e
+form_reads f e h = ap expression_in (form_writes f e h) ∙ stands_for e
+
+form_deep : (f : Form) (e : Expression) → FormOf f e → form_depth f ≡ depth e
+form_deep (Short t) e h = term_deep t h.0 ∙ ap depth (sym h.1)
+form_deep (Joined op t u) e h =
+    let p = plain_by op h.0 in
+    ap (λ m. max m (term_depth u + 1)) (term_deep t h.1)
+    ∙ ap (λ m. max (depth (term_expression t)) (m + 1)) (term_deep u h.2)
+    ∙ ap (λ k. max (depth (term_expression t)) (depth (term_expression u) + k)) (sym p.kept)
+    ∙ ap depth (sym h.3)
+form_deep (Long steps n) e h = h.1
 
 -- ---- as a formula holds them
 
@@ -86,24 +123,27 @@ module _ (f : Form) (e : Expression) (h : FormOf f e) (s : List Op) (view : form
   written = sym view ∙ form_writes f e h ∙ ap steps_of (sym stands)
 
   pub depth_in : (g : Form) → f ≡ g → form_depth g ≡ depth (expression_in s)
-  depth_in g is = ap form_depth (sym is) ∙ depth_of f e h ∙ ap depth (sym stands)
+  depth_in g is = ap form_depth (sym is) ∙ form_deep f e h ∙ ap depth (sym stands)
 
-  pub one_is : (a : Atom) → f ≡ One a → atom_expression a ≡ expression_in s
-  one_is a is = sym (stands ∙ subst (λ f. FormOf f e) is h)
+  pub short_is : (t : Term) → f ≡ Short t → IsTerm t × (term_expression t ≡ expression_in s)
+  short_is t is = let g = subst (λ f. FormOf f e) is h in (g.0, sym (stands ∙ g.1))
 
-  pub one_reads : (a : Atom) (n : ℕ) → f ≡ One a → Reads (expression_in s) n → AtomReads a n
-  one_reads (Num z) n is r = tt
-  one_reads (Var x) n is r = subst (λ e. Reads e n) (stands ∙ subst (λ f. FormOf f e) is h) r
+  pub short_reads : (t : Term) (n : ℕ) → f ≡ Short t → Reads (expression_in s) n → TermReads t n
+  short_reads t n is r = term_reads t n (subst (λ e. Reads e n) (sym (short_is t is).1) r)
 
-  pub one_value : (a : Atom) (vars : State) → f ≡ One a → Ok (atom_value a vars) ≡ value_of (expression_in s) vars
-  one_value (Num z) vars is = ap (λ e. value_of e vars) (sym (stands ∙ subst (λ f. FormOf f e) is h))
-  one_value (Var x) vars is = ap (λ e. value_of e vars) (sym (stands ∙ subst (λ f. FormOf f e) is h))
+  pub short_value : (t : Term) (vars : State) → f ≡ Short t → term_value t vars ≡ value_of (expression_in s) vars
+  short_value t vars is = term_values t vars (short_is t is).0 ∙ ap (λ e. value_of e vars) (short_is t is).1
 
-  pub two_is : (op : BinOp) (a b : Atom) → f ≡ Two op a b → (between op 0 ≡ []) × (expression_in s ≡ binary op (atom_expression a) (atom_expression b))
-  two_is op a b is = let g = subst (λ f. FormOf f e) is h in (g.0, stands ∙ g.1)
+  joined_form : (op : BinOp) (t u : Term) → f ≡ Joined op t u → FormOf (Joined op t u) e
+  joined_form op t u is = subst (λ f. FormOf f e) is h
 
-  pub two_reads : (op : BinOp) (a b : Atom) (n : ℕ) → f ≡ Two op a b → Reads (expression_in s) n → AtomReads a n × AtomReads b n
-  two_reads op a b n is r = both_read op a b n (subst (λ e. Reads e n) (two_is op a b is).1 r)
+  pub joined_is : (op : BinOp) (t u : Term) → f ≡ Joined op t u → expression_in s ≡ binary op (term_expression t) (term_expression u)
+  joined_is op t u is = stands ∙ (joined_form op t u is).3
 
-  pub two_value : (op : BinOp) (a b : Atom) (vars : State) → f ≡ Two op a b → applied op (atom_value a vars) (atom_value b vars) ≡ value_of (expression_in s) vars
-  two_value op a b vars is = both_value op a b vars (two_is op a b is).0 ∙ ap (λ e. value_of e vars) (sym (two_is op a b is).1)
+  pub joined_reads : (op : BinOp) (t u : Term) (n : ℕ) → f ≡ Joined op t u → Reads (expression_in s) n → TermReads t n × TermReads u n
+  joined_reads op t u n is r = let both = subst (λ e. Reads e n) (joined_is op t u is) r in (term_reads t n both.0, term_reads u n both.1)
+
+  pub joined_value_in : (op : BinOp) (t u : Term) (vars : State) → f ≡ Joined op t u → joined_value op t u vars ≡ value_of (expression_in s) vars
+  joined_value_in op t u vars is =
+      let g = joined_form op t u is in
+      joined_values op t u vars g.0 g.1 g.2 ∙ ap (λ e. value_of e vars) (sym (joined_is op t u is))

@@ -22,6 +22,11 @@ plain And h i = absurd (h refl)
 plain Or h i = absurd (i refl)
 plain _ h i = record { gap = refl; kept = refl; joining = refl; between = λ t. refl }
 
+pub plain_by : (op : BinOp) → between op 0 ≡ [] → Plain op
+plain_by And h = absurd (cc)
+plain_by Or h = absurd (cc)
+plain_by _ h = record { gap = refl; kept = refl; joining = refl; between = λ t. refl }
+
 pub written_plain : (op : BinOp) (a b : Expression) (s0 s1 s2 s3 : List Op) → Plain op → s1 ≡ s0 ++ steps_at a (length s0) →
     s2 ≡ s1 ++ steps_at b (length s1) → s3 ≡ s2 ++ Bin op ∷ [] → s3 ≡ s0 ++ steps_at (binary op a b) (length s0)
 written_plain op a b s0 s1 s2 s3 p e1 e2 e3 =

@@ -1,16 +1,18 @@
 -- Short forms as steps, and values in slots as a stack.
-use Rattle.std.specs.Prelude.{◌≡◌, ℕ, zero, suc, ◌<◌, ℤ, pos, List, [], ◌∷◌, slice_index_or}
+use Rattle.std.specs.Prelude.{◌≡◌, ℕ, zero, suc, ◌<◌, ℤ, pos, List, [], ◌∷◌, ◌++◌, Ok, slice_index_or}
 use Rattle.gcl_core.specs.declared.syntax.BinOp.{BinOp}
 use Rattle.gcl_core.specs.declared.syntax.Expr.{Expr}
 use Rattle.gcl_core.specs.Views.{expression_of}
 use Rattle.gcl_core.specs.Syntax.{Expression, number, variable, binary}
-use Rattle.gcl_core.specs.Value.{State}
+use Rattle.gcl_core.specs.Value.{State, Value, ◌>>=◌, applied}
 use Rattle.formula.specs.declared.op.Op.{Op}
 use Rattle.formula.specs.declared.op.Op.TheVariants.{Push, Load, Bin}
 use Rattle.formula.specs.declared.op.Atom.{Atom}
 use Rattle.formula.specs.declared.op.Atom.TheVariants.{Num, Var}
+use Rattle.formula.specs.declared.op.Term.{Term}
+use Rattle.formula.specs.declared.op.Term.TheVariants.{One, Two}
 use Rattle.formula.specs.declared.op.Form.{Form}
-use Rattle.formula.specs.declared.op.Form.TheVariants.{One, Two, Long}
+use Rattle.formula.specs.declared.op.Form.TheVariants.{Short, Joined, Long}
 use Rattle.formula.specs.Steps.{steps_of, depth, between}
 
 abbrev pub atom_step : Atom → Op
@@ -29,15 +31,48 @@ abbrev pub atom_value : Atom → State → ℤ
 atom_value (Num n) vars = n
 atom_value (Var x) vars = slice_index_or vars x (pos 0)
 
+abbrev pub term_steps : Term → List Op
+term_steps (One a) = atom_step a ∷ []
+term_steps (Two op a b) = atom_step a ∷ (atom_step b ∷ (Bin op ∷ []))
+
+abbrev pub term_expression : Term → Expression
+term_expression (One a) = atom_expression a
+term_expression (Two op a b) = binary op (atom_expression a) (atom_expression b)
+
+-- its operator is neither `and` nor `or`
+abbrev pub IsTerm : Term → Type 0
+IsTerm (One a) = Unit {0}
+IsTerm (Two op a b) = between op 0 ≡ []
+
+-- the greatest number of values on the stack while its steps run
+abbrev pub term_depth : Term → ℕ
+term_depth (One a) = 1
+term_depth (Two op a b) = 2
+
+abbrev pub TermReads : Term → ℕ → Type 0
+TermReads (One a) count = AtomReads a count
+TermReads (Two op a b) count = AtomReads a count × AtomReads b count
+
+abbrev pub term_value : Term → State → Value
+term_value (One a) vars = Ok (atom_value a vars)
+term_value (Two op a b) vars = applied op (atom_value a vars) (atom_value b vars)
+
+-- one operator on two terms
+abbrev pub joined_steps : BinOp → Term → Term → List Op
+joined_steps op t u = term_steps t ++ (term_steps u ++ Bin op ∷ [])
+
+abbrev pub joined_value : BinOp → Term → Term → State → Value
+joined_value op t u vars = term_value t vars >>= λ x. (term_value u vars >>= λ y. applied op x y)
+
 abbrev pub form_steps : Form → List Op
-form_steps (One a) = atom_step a ∷ []
-form_steps (Two op a b) = atom_step a ∷ (atom_step b ∷ (Bin op ∷ []))
+form_steps (Short t) = term_steps t
+form_steps (Joined op t u) = joined_steps op t u
 form_steps (Long steps n) = steps.items
 
 -- a short form is of the expression e itself; another holds its depth
 abbrev pub FormOf : Form → Expression → Type 0
-FormOf (One a) e = e ≡ atom_expression a
-FormOf (Two op a b) e = (between op 0 ≡ []) × (e ≡ binary op (atom_expression a) (atom_expression b))
+FormOf (Short t) e = IsTerm t × (e ≡ term_expression t)
+FormOf (Joined op t u) e = (between op 0 ≡ []) × IsTerm t × IsTerm u × (e ≡ binary op (term_expression t) (term_expression u))
 FormOf (Long steps n) e = (steps.items ≡ steps_of e) × (n ≡ depth e)
 
 -- the values below the top, from the n-th slot down to the first

@@ -6,6 +6,7 @@ mod op;
 mod reading;
 mod running;
 mod stack;
+mod terms;
 #[cfg(test)]
 mod tests;
 mod writing;

@@ -98,6 +98,36 @@ fn a_short_form(rt: HostRuntime) -> Result<(), Fail> {
     Ok(())
 }
 
+const PRODUCT: [Op; 5] = [
+    Op::Load(X),
+    Op::Load(Y),
+    Op::Push(2),
+    Op::Bin(BinOp::Mul),
+    Op::Bin(BinOp::Sub),
+];
+
+// One operator on a variable and one operator on two needs no stack, and the first fault is the result.
+#[test]
+fn a_joined_form(rt: HostRuntime) -> Result<(), Fail> {
+    let alloc = rt.alloc();
+    let left = Box::new(alloc, Expr::Var(X))?;
+    let right = Box::new(alloc, compare(alloc, BinOp::Mul, Y, 2)?)?;
+    let formula = Formula::of(alloc, &Expr::Bin(BinOp::Sub, left, right))?;
+    let steps = listed(alloc, &formula)?;
+    assert_eq!(rt; steps.as_slice(), PRODUCT.as_slice());
+    let again = Formula::of(alloc, &formula.tree(alloc)?)?;
+    let steps = listed(alloc, &again)?;
+    assert_eq!(rt; steps.as_slice(), PRODUCT.as_slice());
+    assert_eq!(rt; formula.depth(), 3);
+    let mut stack = Stack::new(alloc, 3)?;
+    assert_eq!(rt; formula.value(&[5, 7], &mut stack), Ok(-9));
+    assert_eq!(rt;
+        formula.value(&[5, i64::MAX], &mut stack),
+        Err(Fault::Overflow)
+    );
+    Ok(())
+}
+
 fn lent<T: Sync>() {}
 
 fn handed<T: Send>() {}
