@@ -4,10 +4,11 @@ ghost use Rattle.dice_roll.specs.declared.rules.TheConstants as rule;
 ghost use Rattle.dice_roll.specs.Fair.{IsFair};
 ghost use Rattle.dice_roll.specs.Shares.{shares_of};
 
+use crate::rules::MOST_WEIGHED_FLIPS;
 use frac128::Frac;
 
 /// The weight of each of `m` labels within so many bits, and the weight that is left to the limit, as fractions in
-/// lowest terms. `None` comes exactly where there are more than 127 bits.
+/// lowest terms. `None` comes exactly where there are more bits than [`MOST_WEIGHED_FLIPS`].
 #[tactic(auto, using(crate::proofs::Fairness::fair))]
 pub fn share(m: u64, flips: u64) -> Option<(Frac, Frac)>
     requires low { rule.LEAST_LABELS ≤ m }
@@ -16,7 +17,7 @@ pub fn share(m: u64, flips: u64) -> Option<(Frac, Frac)>
     ensures value { result ≡ shares_of m flips }
     ensures law { IsFair m }
 {
-    if flips > 127 {
+    if flips > MOST_WEIGHED_FLIPS {
         return None;
     }
     let whole: u128 = 1 << flips;
