@@ -25,6 +25,10 @@ lowest p = (p.0 / gcd p.0 p.1, p.1 / gcd p.0 p.1)
 
 -- ---- what fits
 
+-- above 2 ^ 128 - 1
+abbrev pub Overfills : ℕ → Type 0
+Overfills n = 2 ^ 128 ≤ n
+
 -- at most 2 ^ 128 - 1
 abbrev pub fits : ℕ → Bool
 fits n = nat_lt n (2 ^ 128)

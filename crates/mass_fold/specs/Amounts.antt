@@ -1,11 +1,11 @@
 -- A table with each state once, at a scale.
-use Rattle.std.specs.Prelude.{◌≡◌, ℕ, ◌+◌, ◌*◌, ◌^◌, ◌≤◌, ◌<◌, List, [], ◌∷◌, Option, Some, MatchOption}
+use Rattle.std.specs.Prelude.{◌≡◌, ℕ, ◌+◌, ◌*◌, ◌≤◌, ◌<◌, List, [], ◌∷◌, Option, Some, MatchOption}
 use Rattle.std.specs.declared.cmp.Ordering.{Ordering}
 use Rattle.std.specs.Ordering.{int_cmp}
 use Rattle.std.specs.Cmp.Lexicographic.{slice_cmp}
 use Rattle.std.specs.BTreeMap.{is_at}
 use Rattle.std.specs.Map.{lookup}
-use Rattle.frac128.specs.Fraction.{sum_of}
+use Rattle.frac128.specs.Fraction.{sum_of, Overfills}
 use Rattle.gcl_core.specs.Value.{State}
 use Rattle.gcl_core.specs.Fractions.{Fraction}
 use Rattle.mass_tables.specs.Tables.{Table, states}
@@ -29,7 +29,7 @@ Held N (e ∷ es) = (0 < e.1.0) × Whole N e.1 × Held N es
 
 -- why work is refused whose fractions are whole at scale N, and whose tables have at most L states
 abbrev pub Blames : MassError → ℕ → ℕ → Type 0
-Blames TooWide N L = 2 ^ 128 ≤ N
+Blames TooWide N L = Overfills N
 Blames TooManyStates N L = MOST_STATES < L
 Blames AllFailed N L = ⊥
 Blames OutOfMemory N L = Unit {0}

@@ -1,11 +1,11 @@
 -- What the fold of a program's body gives.
-use Rattle.std.specs.Prelude.{◌≡◌, ℕ, ◌+◌, ◌*◌, ◌^◌, ◌<◌, ◌≤◌, Bool, cond, length, Option, Some, None}
+use Rattle.std.specs.Prelude.{◌≡◌, ℕ, ◌+◌, ◌*◌, ◌<◌, ◌≤◌, Bool, cond, length, Option, Some, None}
 use Rattle.gcl_core.specs.Syntax.{Source}
 use Rattle.gcl_core.specs.Blocks.{End, on}
 use Rattle.gcl_core.specs.Runs.{zeros}
 use Rattle.gcl_core.specs.WeightedEnds.{weighted_ends}
 use Rattle.gcl_core.specs.Mass.{sum_of, failed_mass}
-use Rattle.frac128.specs.Fraction.{IsEqual}
+use Rattle.frac128.specs.Fraction.{IsEqual, Overfills}
 use Rattle.gcl_core.specs.Fractions.{Fraction}
 use Rattle.mass_tables.specs.Scale.{whole, Whole, amount}
 use Rattle.mass_tables.specs.Reached.{draws_of}
@@ -35,7 +35,7 @@ BodyMeters p n r m m' = (M : ℕ) → 0 < M → Priced r M (draws_of p n r) → 
 -- so many of X parts of a bit; none, where 128 bits are too few for X times any bound of them
 abbrev pub BitsAt : ℕ → ℕ → Option Fraction → Type 0
 BitsAt X many (Some f) = Whole X f × (whole X f ≡ many)
-BitsAt X many None = (C : ℕ) → 1 ≤ C → many ≤ X * C → 2 ^ 128 ≤ X * C
+BitsAt X many None = (C : ℕ) → 1 ≤ C → many ≤ X * C → Overfills (X * C)
 
 -- the bits of all draws that a round reaches
 abbrev pub RoundBits : Source → ℕ → Option ℕ → Option Fraction → Type 0

@@ -1,5 +1,5 @@
 -- What has ended, at a scale.
-use Rattle.std.specs.Prelude.{◌≡◌, ℕ, ◌+◌, ◌*◌, ◌^◌, ◌≤◌, ◌<◌, [], ◌∷◌}
+use Rattle.std.specs.Prelude.{◌≡◌, ℕ, ◌+◌, ◌*◌, ◌≤◌, ◌<◌, [], ◌∷◌}
 use Rattle.gcl_core.specs.declared.answers.Fault.{Fault}
 use Rattle.gcl_core.specs.Blocks.{End, failed, fault, limit}
 use Rattle.gcl_core.specs.Fractions.{Fraction}
@@ -12,6 +12,7 @@ use Rattle.mass_fold.specs.declared.ended.Gone.TheVariants.{Failed, Overflow, Di
 use Rattle.mass_fold.specs.declared.ended.Ended.{Ended}
 use Rattle.gcl_core.specs.declared.answers.Fault.TheVariants as fault_kind
 use Rattle.gcl_core.specs.declared.answers.Limit.TheVariants as limit_kind
+use Rattle.frac128.specs.Fraction.{Overfills}
 
 abbrev pub end_of : Gone → End
 end_of Failed = failed
@@ -48,7 +49,7 @@ abbrev pub EndGives : Ended → Ended → Gone → Fraction → Type 0
 EndGives E F x f = (N : ℕ) → Wholes N (rows_of E) → Whole N f → Wholes N (rows_of F) × ((G : End → ℕ) → amount N G (rows_of F) ≡ amount N G (rows_of E) + whole N f * G (end_of x))
 
 abbrev pub EndBlames : MassError → Ended → Gone → Fraction → Type 0
-EndBlames e E x f = (e ≡ TooWide) × ((N : ℕ) → 0 < N → Wholes N (rows_of E) → Whole N f → amount N (λ x. 1) (rows_of E) + whole N f ≤ N → 2 ^ 128 ≤ N)
+EndBlames e E x f = (e ≡ TooWide) × ((N : ℕ) → 0 < N → Wholes N (rows_of E) → Whole N f → amount N (λ x. 1) (rows_of E) + whole N f ≤ N → Overfills N)
 
 -- each is 0
 abbrev pub IsNoWeight : Fraction → Type 0

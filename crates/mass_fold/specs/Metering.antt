@@ -1,20 +1,25 @@
 -- What is counted of the bits of draws that are reached, at a scale.
-use Rattle.std.specs.Prelude.{◌≡◌, ℕ, zero, suc, ◌+◌, ◌*◌, ◌^◌, ◌≤◌, ◌<◌, pos, negsuc, List, [], ◌∷◌, Option, Some, None, Ok, Err}
-use Rattle.gcl_core.specs.Value.{State, Value}
+use Rattle.std.specs.Prelude.{◌≡◌, ℕ, zero, suc, ◌+◌, ◌*◌, ◌≤◌, ◌<◌, pos, negsuc, List, [], ◌∷◌, Option, Some, None, Ok, Err}
+use Rattle.std.specs.List.{sum}
+use Rattle.gcl_core.specs.Value.{State, Value, value_of}
 use Rattle.gcl_core.specs.Blocks.{by_value, by_bound, uniform_ends}
 use Rattle.gcl_core.specs.Draw.{last_end}
 use Rattle.gcl_core.specs.Fractions.{Fraction}
 use Rattle.gcl_core.specs.WeightedEnds.{Weighted, class_weight, no_class_weight}
+use Rattle.gcl_core.specs.Arms.{parts_of}
+use Rattle.gcl_core.specs.Parts.{partial_sums}
+use Rattle.gcl_core.specs.Syntax.{choice_among, Expression, Statements, ArmList}
 use Rattle.cost_law.specs.ExpectedBits.{attempt_bits}
-use Rattle.mass_tables.specs.Tables.{Table, Flow}
-use Rattle.mass_tables.specs.Reached.{Reached}
+use Rattle.mass_tables.specs.Tables.{Table, Flow, statement_flow, block_flow}
+use Rattle.mass_tables.specs.Reached.{Reached, statement_draws, block_draws, loop_draws}
 use Rattle.mass_tables.specs.Scale.{whole, Whole, Within, amount}
 use Rattle.mass_fold.specs.declared.ended.Ended.{Ended}
 use Rattle.mass_fold.specs.declared.meter.Meter.{Meter}
 use Rattle.mass_fold.specs.declared.meter.Meter.TheVariants.{Off, Bits, TooWide}
 use Rattle.mass_fold.specs.Amounts.{Entries, held, Held}
 use Rattle.mass_fold.specs.Steps.{EachState}
-use Rattle.mass_fold.specs.Fold.{Stands, EndStands, Around}
+use Rattle.mass_fold.specs.Fold.{Stands, EndStands, Around, AfterUndecided}
+use Rattle.frac128.specs.Fraction.{Overfills}
 
 -- ---- a meter
 
@@ -22,7 +27,7 @@ use Rattle.mass_fold.specs.Fold.{Stands, EndStands, Around}
 abbrev pub CountedOn : ℕ → ℕ → Fraction → Meter → Type 0
 CountedOn X many f Off = ⊥
 CountedOn X many f (Bits g) = Whole X f → Whole X g × (whole X g ≡ whole X f + many)
-CountedOn X many f TooWide = Whole X f → (C : ℕ) → 1 ≤ C → whole X f + many ≤ X * C → 2 ^ 128 ≤ X * C
+CountedOn X many f TooWide = Whole X f → (C : ℕ) → 1 ≤ C → whole X f + many ≤ X * C → Overfills (X * C)
 
 abbrev pub Counted : ℕ → ℕ → Meter → Meter → Type 0
 Counted X many Off m = m ≡ Off
@@ -74,7 +79,7 @@ abbrev pub IsPrice : ℕ → ℕ → Option ℕ → Fraction → Type 0
 IsPrice undecided b r bits = (M : ℕ) → 0 < M → IsPriced r M b → Whole M bits × (whole M bits ≡ undecided * whole M (class_weight b r 1))
 
 abbrev pub PriceBlames : ℕ → ℕ → Option ℕ → Type 0
-PriceBlames undecided b r = (M C : ℕ) → 0 < M → 1 ≤ C → IsPriced r M b → undecided * whole M (class_weight b r 1) ≤ M * C → 2 ^ 128 ≤ M * C
+PriceBlames undecided b r = (M C : ℕ) → 0 < M → 1 ≤ C → IsPriced r M b → undecided * whole M (class_weight b r 1) ≤ M * C → Overfills (M * C)
 
 -- the draw of each entry, where Fact holds of its state at M
 abbrev pub CountsAll : (ℕ → State → Type 0) → (ℕ → State → ℕ) → Entries → Meter → Meter → Type 0
@@ -95,3 +100,12 @@ Meters r flow draws es E m m' = (N M L : ℕ) (I : Table) (J : Weighted _) → 0
 
 abbrev pub MetersOne : Option ℕ → (Table → Flow) → (Table → Reached) → Entries → Ended → Meter → Meter → Type 0
 MetersOne r flow draws es E m m' = (N M L : ℕ) (I : Table) (J : Weighted _) → 0 < N → 0 < M → Stands N es I → EndStands N E J → Around N L I (flow I) → Priced r M (draws I) → Counted (N * M) (amount N (price r M) (draws I)) m m'
+
+-- a loop of at most n turns
+abbrev pub turns_draws : ℕ → Option ℕ → Expression → Statements → Table → Reached
+turns_draws n r e a = loop_draws (value_of e) (block_draws n r a) (block_flow n r a) n
+
+-- the arms of a choice among several, where their draws were counted before
+abbrev pub ArmsMeter : ℕ → Option ℕ → ArmList → Entries → Ended → Meter → Meter → Type 0
+ArmsMeter n r arms es E now m' = AfterUndecided (sum (parts_of arms)) r es E (λ E. (m : Meter) → CountsDraws r (sum (parts_of arms)) (partial_sums (parts_of arms)) es m now
+    → MetersOne r (statement_flow n r (choice_among arms)) (statement_draws n r (choice_among arms)) es E m m')

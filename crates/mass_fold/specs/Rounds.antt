@@ -8,6 +8,7 @@ use Rattle.mass_tables.specs.Scale.{whole, Whole}
 use Rattle.mass_fold.specs.declared.error.MassError.{MassError}
 use Rattle.mass_fold.specs.Amounts.{held, Held, Blames}
 use Rattle.mass_fold.specs.Rows.{Rows}
+use Rattle.frac128.specs.Fraction.{Overfills}
 
 -- 1 + f + .. + f ^ (R - 1), as parts of d ^ (R - 1), where d is the denominator of f
 abbrev pub geometric : Fraction → ℕ → ℕ
@@ -39,7 +40,7 @@ abbrev pub IsRepeated : Fraction → Fraction → ℕ → Fraction → Type 0
 IsRepeated s f R t = (N : ℕ) → 0 < N → Whole N s → Whole N f → Whole (scale_of N f R) t × (whole (scale_of N f R) t ≡ geometric f R * whole N s)
 
 abbrev pub RepeatBlames : Fraction → Fraction → ℕ → Type 0
-RepeatBlames s f R = (N C : ℕ) → MayRepeat N C s f R → 2 ^ 128 ≤ scale_of N f R * C
+RepeatBlames s f R = (N C : ℕ) → MayRepeat N C s f R → Overfills (scale_of N f R * C)
 
 -- ---- all outcomes
 

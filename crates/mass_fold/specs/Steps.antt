@@ -1,13 +1,13 @@
 -- What one pass over a table makes of it.
-use Rattle.std.specs.Prelude.{◌≡◌, ℕ, ◌+◌, ◌*◌, ◌^◌, ◌≤◌, ◌<◌, [], ◌∷◌, Option, slice_set, pos}
-use Rattle.gcl_core.specs.Value.{State}
+use Rattle.std.specs.Prelude.{◌≡◌, ℕ, ◌+◌, ◌*◌, ◌≤◌, ◌<◌, [], ◌∷◌, Option, slice_set, pos}
+use Rattle.gcl_core.specs.Value.{State, Value}
 use Rattle.gcl_core.specs.Blocks.{End}
 use Rattle.gcl_core.specs.Fractions.{Fraction, times, power}
 use Rattle.gcl_core.specs.WeightedEnds.{class_weight, no_class_weight}
-use Rattle.frac128.specs.Fraction.{IsEqual}
+use Rattle.frac128.specs.Fraction.{IsEqual, Overfills}
 use Rattle.mass_tables.specs.Tables.{Table, states}
 use Rattle.mass_tables.specs.Scale.{whole, Whole, Wholes, amount, weight}
-use Rattle.mass_tables.specs.Counts.{sum_below}
+use Rattle.mass_tables.specs.Counts.{sum_below, part_at, rest_at, drawn, undrawn}
 use Rattle.mass_fold.specs.declared.error.MassError.{MassError}
 use Rattle.mass_fold.specs.declared.ended.Ended.{Ended}
 use Rattle.mass_fold.specs.Amounts.{Entries, held, Held, Blames}
@@ -103,7 +103,7 @@ pub record IsPower (p : Fraction) (n : ℕ) (f : Fraction) : Type 0 where
   pub is : IsEqual f (power p n)
 
 abbrev pub PowerBlames : Fraction → ℕ → Type 0
-PowerBlames p n = (N : ℕ) → 0 < N → Whole N (power p n) → 2 ^ 128 ≤ N
+PowerBlames p n = (N : ℕ) → 0 < N → Whole N (power p n) → Overfills N
 
 -- ---- the draw of one state, of weight f
 
@@ -120,3 +120,13 @@ BlamedBy u v fs F f g k e = (N L : ℕ) (I : Table) → 0 < N → Held N fs → 
 
 abbrev pub at_numbers : ℕ → ℕ → State → (State → ℕ) → ℕ
 at_numbers x m s G = sum_below m (λ i. G (slice_set s x (pos i)))
+
+-- a uniform draw of each state, with as many numbers as v gives it
+abbrev pub UniformTo : ℕ → (State → Value) → Option ℕ → Entries → Ended → Entries → Ended → Type 0
+UniformTo x v r = DrawsTo (part_at v r) (rest_at v r) (drawn x v) (undrawn v)
+
+abbrev pub UniformBlames : ℕ → (State → Value) → Option ℕ → Entries → Ended → MassError → Type 0
+UniformBlames x v r = DrawBlames (part_at v r) (rest_at v r) (drawn x v) (undrawn v)
+
+abbrev pub EntryBlames : ℕ → (State → Value) → Option ℕ → Entries → Ended → State → Fraction → MassError → Type 0
+EntryBlames x v r fs F s f = BlamedBy (part_at v r s) (rest_at v r s) fs F f (λ G. drawn x v G s) (λ G. undrawn v G s)

@@ -12,7 +12,7 @@ ghost use Rattle.mass_tables.specs.Counts.{part_at, rest_at, drawn, undrawn, all
 ghost use Rattle.mass_fold.specs.declared.ended.Ended.{Ended};
 ghost use Rattle.mass_fold.specs.declared.error.MassError.TheVariants.{TooWide};
 ghost use Rattle.mass_fold.specs.Ended.{end_of};
-ghost use Rattle.mass_fold.specs.Steps.{DrawsTo, DrawBlames, IsParts, PartsBlame, IsPower, PowerBlames, SpreadGives, SpreadBlames, AddedBy, StoppedBy, BlamedBy, at_numbers};
+ghost use Rattle.mass_fold.specs.Steps.{DrawsTo, DrawBlames, IsParts, PartsBlame, IsPower, PowerBlames, SpreadGives, SpreadBlames, AddedBy, StoppedBy, BlamedBy, UniformTo, UniformBlames, EntryBlames, at_numbers};
 
 use crate::ended::{Ended, Gone};
 use crate::error::MassError;
@@ -206,7 +206,7 @@ fn draw_entry(
     ensures added { OnOk result (AddedBy (part_at (value_of (expression_of e.now)) attempts s.now) next.old.states.entries next.new.states.entries f.now (λ G. drawn x (value_of (expression_of e.now)) G s.now)) }
     ensures stopped { OnOk result (StoppedBy (rest_at (value_of (expression_of e.now)) attempts s.now) ended.old ended.new f.now (λ G. undrawn (value_of (expression_of e.now)) G s.now)) }
     ensures vars { next.new.vars ≡ next.old.vars }
-    ensures cause { IfErr result (BlamedBy (part_at (value_of (expression_of e.now)) attempts s.now) (rest_at (value_of (expression_of e.now)) attempts s.now) next.old.states.entries ended.old f.now (λ G. drawn x (value_of (expression_of e.now)) G s.now) (λ G. undrawn (value_of (expression_of e.now)) G s.now)) }
+    ensures cause { IfErr result (EntryBlames x (value_of (expression_of e.now)) attempts next.old.states.entries ended.old s.now f.now) }
 {
     match eval(e, s.values()) {
         Err(fault) => {
@@ -243,9 +243,9 @@ pub fn draw(
     requires place { x < table.vars }
     requires reads { Reads (expression_of e.now) table.vars }
     requires some { IfSome attempts (λ r. 1 ≤ r) }
-    ensures ok { IfOk result (λ t. DrawsTo (part_at (value_of (expression_of e.now)) attempts) (rest_at (value_of (expression_of e.now)) attempts) (drawn x (value_of (expression_of e.now))) (undrawn (value_of (expression_of e.now))) table.states.entries ended.old t.states.entries ended.new) }
+    ensures ok { IfOk result (λ t. UniformTo x (value_of (expression_of e.now)) attempts table.states.entries ended.old t.states.entries ended.new) }
     ensures vars { IfOk result (λ t. t.vars ≡ table.vars) }
-    ensures cause { IfErr result (DrawBlames (part_at (value_of (expression_of e.now)) attempts) (rest_at (value_of (expression_of e.now)) attempts) (drawn x (value_of (expression_of e.now))) (undrawn (value_of (expression_of e.now))) table.states.entries ended.old) }
+    ensures cause { IfErr result (UniformBlames x (value_of (expression_of e.now)) attempts table.states.entries ended.old) }
 {
     let mut next = Table::new(alloc, table.vars);
     for (s, f) in table.states {

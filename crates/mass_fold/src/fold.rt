@@ -5,16 +5,14 @@ ghost use Rattle.std.specs.List.{sum};
 ghost use Rattle.frac128.specs.Fraction.{IsEqual};
 ghost use Rattle.gcl_core.specs.Arms.{parts_of};
 ghost use Rattle.gcl_core.specs.Bounds.{StatementIsWeighed, BlockIsWeighed, ArmsAreWeighed, StatementBelow, BlockBelow, ArmsBelow};
-ghost use Rattle.gcl_core.specs.Parts.{AreParts, partial_sums};
-ghost use Rattle.gcl_core.specs.Syntax.{choice_among};
+ghost use Rattle.gcl_core.specs.Parts.{AreParts};
 ghost use Rattle.gcl_core.specs.Views.{expression_of, statement_of, statements_of, list_of_arms};
-ghost use Rattle.gcl_core.specs.Value.{value_of, Reads};
+ghost use Rattle.gcl_core.specs.Value.{Reads};
 ghost use Rattle.gcl_core.specs.WeightedEnds.{class_weight};
-ghost use Rattle.mass_tables.specs.Tables.{statement_flow, block_flow, loop_flow};
-ghost use Rattle.mass_tables.specs.Reached.{statement_draws, block_draws, loop_draws};
-ghost use Rattle.mass_fold.specs.declared.meter.Meter.{Meter};
-ghost use Rattle.mass_fold.specs.Fold.{FoldsTo, FoldBlames, FoldsOne, OneBlames, AfterUndecided};
-ghost use Rattle.mass_fold.specs.Metering.{CountsDraws, Meters, MetersOne};
+ghost use Rattle.mass_tables.specs.Tables.{statement_flow, block_flow};
+ghost use Rattle.mass_tables.specs.Reached.{statement_draws, block_draws};
+ghost use Rattle.mass_fold.specs.Fold.{FoldsTo, FoldBlames, FoldsOne, OneBlames, turns_flow, ArmsFold, ArmsBlame};
+ghost use Rattle.mass_fold.specs.Metering.{Meters, MetersOne, turns_draws, ArmsMeter};
 
 use crate::choosing::{sides, total, undecided, weighed};
 use crate::draws::draw;
@@ -173,10 +171,10 @@ fn fold_arms(
     requires equal { IsEqual part.now (class_weight (sum (parts_of (list_of_arms arms.now))) attempts 1) }
     requires some { IfSome attempts (λ r. 1 ≤ r) }
     requires any { 1 ≤ length table.now.states.entries }
-    ensures ok { IfOk result (λ t. AfterUndecided (sum (parts_of (list_of_arms arms.now))) attempts table.now.states.entries ended.old (λ E. FoldsOne (statement_flow turns attempts (choice_among (list_of_arms arms.now))) table.now.states.entries E t.states.entries ended.new)) }
-    ensures bits { IfOk result (λ t. AfterUndecided (sum (parts_of (list_of_arms arms.now))) attempts table.now.states.entries ended.old (λ E. (m : Meter) → CountsDraws attempts (sum (parts_of (list_of_arms arms.now))) (partial_sums (parts_of (list_of_arms arms.now))) table.now.states.entries m meter.old → MetersOne attempts (statement_flow turns attempts (choice_among (list_of_arms arms.now))) (statement_draws turns attempts (choice_among (list_of_arms arms.now))) table.now.states.entries E m meter.new)) }
+    ensures ok { IfOk result (λ t. ArmsFold turns attempts (list_of_arms arms.now) table.now.states.entries ended.old t.states.entries ended.new) }
+    ensures bits { IfOk result (λ t. ArmsMeter turns attempts (list_of_arms arms.now) table.now.states.entries ended.old meter.old meter.new) }
     ensures vars { IfOk result (λ t. t.vars ≡ table.now.vars) }
-    ensures cause { IfErr result (λ e. AfterUndecided (sum (parts_of (list_of_arms arms.now))) attempts table.now.states.entries ended.old (λ E. OneBlames (statement_flow turns attempts (choice_among (list_of_arms arms.now))) table.now.states.entries E e)) }
+    ensures cause { IfErr result (ArmsBlame turns attempts (list_of_arms arms.now) table.now.states.entries ended.old) }
 {
     let mut out = Table::new(alloc, table.vars);
     for (count, block) in &arms.arms {
@@ -210,10 +208,10 @@ fn fold_loop(
     requires below { BlockBelow table.vars (statements_of body.now) }
     requires weights { BlockIsWeighed (statements_of body.now) }
     requires some { IfSome attempts (λ r. 1 ≤ r) }
-    ensures ok { IfOk result (λ t. FoldsOne (loop_flow (value_of (expression_of e.now)) (block_flow turns attempts (statements_of body.now)) turns) table.states.entries ended.old t.states.entries ended.new) }
-    ensures bits { IfOk result (λ t. MetersOne attempts (loop_flow (value_of (expression_of e.now)) (block_flow turns attempts (statements_of body.now)) turns) (loop_draws (value_of (expression_of e.now)) (block_draws turns attempts (statements_of body.now)) (block_flow turns attempts (statements_of body.now)) turns) table.states.entries ended.old meter.old meter.new) }
+    ensures ok { IfOk result (λ t. FoldsOne (turns_flow turns attempts (expression_of e.now) (statements_of body.now)) table.states.entries ended.old t.states.entries ended.new) }
+    ensures bits { IfOk result (λ t. MetersOne attempts (turns_flow turns attempts (expression_of e.now) (statements_of body.now)) (turns_draws turns attempts (expression_of e.now) (statements_of body.now)) table.states.entries ended.old meter.old meter.new) }
     ensures vars { IfOk result (λ t. t.vars ≡ table.vars) }
-    ensures cause { IfErr result (OneBlames (loop_flow (value_of (expression_of e.now)) (block_flow turns attempts (statements_of body.now)) turns) table.states.entries ended.old) }
+    ensures cause { IfErr result (OneBlames (turns_flow turns attempts (expression_of e.now) (statements_of body.now)) table.states.entries ended.old) }
 {
     let mut exits = Table::new(alloc, table.vars);
     let mut now = table;
