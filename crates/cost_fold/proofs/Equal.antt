@@ -9,27 +9,9 @@ use Rattle.frac128.specs.Fraction.{IsEqual}
 use Rattle.frac128.proofs.Divisors.{product_pos}
 use Rattle.mass_tables.specs.Tables.{Table, going_on, holds, fails, only}
 use Rattle.mass_tables.proofs.Positive.{Positive}
-use Rattle.mass_tables.proofs.Wholes.{cancel}
+use Rattle.mass_tables.proofs.EqualFractions.{equal_plus, equal_times}
 
 -- ---- fractions
-pub equal_trans : (p q t : Fraction) → 0 < q.1 → IsEqual p q → IsEqual q t → IsEqual p t
-equal_trans p q t pos e f = cancel q.1 _ _ pos (joined p.0 p.1 q.0 q.1 t.0 t.1 e f)
-  where
-    joined : (p0 p1 q0 q1 t0 t1 : ℕ) → p0 * q1 ≡ q0 * p1 → q0 * t1 ≡ t0 * q1 → q1 * (p0 * t1) ≡ q1 * (t0 * p1)
-    joined p0 p1 q0 q1 t0 t1 e f = let x = ap (λ z. z * t1) e in let y = ap (λ z. z * p1) f in omega arith
-
-pub equal_plus : (p q s t : Fraction) → IsEqual p q → IsEqual s t → IsEqual (plus p s) (plus q t)
-equal_plus p q s t e f = joined p.0 p.1 q.0 q.1 s.0 s.1 t.0 t.1 e f
-  where
-    joined : (p0 p1 q0 q1 s0 s1 t0 t1 : ℕ) → p0 * q1 ≡ q0 * p1 → s0 * t1 ≡ t0 * s1 → (p0 * s1 + s0 * p1) * (q1 * t1) ≡ (q0 * t1 + t0 * q1) * (p1 * s1)
-    joined p0 p1 q0 q1 s0 s1 t0 t1 e f = let x = ap (λ z. z * (s1 * t1)) e in let y = ap (λ z. z * (p1 * q1)) f in omega arith
-
-pub equal_times : (p q s t : Fraction) → IsEqual p q → IsEqual s t → IsEqual (times p s) (times q t)
-equal_times p q s t e f = joined p.0 p.1 q.0 q.1 s.0 s.1 t.0 t.1 e f
-  where
-    joined : (p0 p1 q0 q1 s0 s1 t0 t1 : ℕ) → p0 * q1 ≡ q0 * p1 → s0 * t1 ≡ t0 * s1 → p0 * s0 * (q1 * t1) ≡ q0 * t0 * (p1 * s1)
-    joined p0 p1 q0 q1 s0 s1 t0 t1 e f = let x = ap (λ z. z * (s0 * t1)) e in let y = ap (λ z. q0 * p1 * z) f in omega arith
-
 pair_is : (a b c d : ℕ) → a ≡ c → b ≡ d → ◌≡◌ {A = Fraction} (a, b) (c, d)
 pair_is a b c d e f = let x : ◌≡◌ {A = Fraction} (a, b) (c, b) = ap (λ x. (x, b)) e in let y : ◌≡◌ {A = Fraction} (c, b) (c, d) = ap (λ y. (c, y)) f in x ∙ y
 
@@ -99,7 +81,7 @@ average_sum (e ∷ m) f g =
     joined w0 w1 f0 f1 g0 g1 x0 x1 F0 F1 G0 G1 e = let z = ap (λ z. z * (w1 * f1 * g1 * (w1 * f1 * (w1 * g1)))) e in omega arith
 
 -- an entry that counts nothing
-none_more : (w0 w1 x0 x1 a0 a1 : ℕ) → x0 * a1 ≡ a0 * x1 → x0 * (w1 * 1 * a1) ≡ (w0 * 0 * a1 + a0 * (w1 * 1)) * x1
+pub none_more : (w0 w1 x0 x1 a0 a1 : ℕ) → x0 * a1 ≡ a0 * x1 → x0 * (w1 * 1 * a1) ≡ (w0 * 0 * a1 + a0 * (w1 * 1)) * x1
 none_more w0 w1 x0 x1 a0 a1 e = let z = ap (λ z. z * w1) e in omega arith
 
 -- the entries that go on

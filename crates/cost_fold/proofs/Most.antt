@@ -17,14 +17,14 @@ use Rattle.gcl_core.specs.WeightedEnds.{Weighted, scaled, taken_on, class_weight
 use Rattle.gcl_core.proofs.PartialSums.{last_is}
 use Rattle.gcl_core.proofs.Classes.{bits_le}
 use Rattle.gcl_core.proofs.FittingValues.{end_fits, value_fits}
+use Rattle.gcl_core.proofs.EqualClasses.{last_of_equal}
 use Rattle.weighing_law.proofs.BlockMatching.{statement_matches}
 use Rattle.weighing_law.proofs.WeightedLists.{EachEntry, each-append, each-scaled, each_taken_on}
 use Rattle.cost_law.specs.ExpectedBits.{number_bits}
 use Rattle.mass_tables.specs.Tables.{Table, going_on, holds, fails, only, faults, all_end, both, loop_flow, statement_flow, block_flow, arms_flow, draws_each, draw_weights}
 use Rattle.mass_tables.specs.Reached.{Reached, drawn_each, drawn_bound, loop_draws, statement_draws, block_draws, arms_draws}
 use Rattle.mass_tables.specs.Scale.{whole, amount, weight, Wholes, Within}
-use Rattle.mass_tables.proofs.Amounts.{amount_append, both_first, both_second, draws_second, tables_first, tables_second, ends_first, ends_second, draws_first}
-use Rattle.mass_tables.proofs.Draws.{uniform_last}
+use Rattle.mass_tables.proofs.Amounts.{amount_append, both_first, both_second, all_second, tables_first, tables_second, ends_first, ends_second, all_first}
 use Rattle.mass_tables.proofs.Kept.{guard_weight, ends_whole, choice_kept, head_whole, arms_weight, choose_inside, first_arm, other_arms, arms_kept, kept_one, kept_all}
 use Rattle.mass_fold.specs.Metering.{IsPriced, Priced, price}
 use Rattle.mass_fold.proofs.MeterFolds.{priced_first, priced_second}
@@ -118,7 +118,7 @@ module _ (r N M : ℕ) where
       sum_most all a b U W B e h k = omega arith
 
       few : (m : ℕ) → suc m < 2 ^ 63 → number_bits (uniform_ends (suc m)) ≤ 63
-      few m lt = bits_le (last_end (uniform_ends (suc m))) 63 (omega (arith, uniform_last (suc m)))
+      few m lt = bits_le (last_end (uniform_ends (suc m))) 63 (omega (arith, last_of_equal (suc m)))
 
       by_sign : (z : ℤ) → fits_64 z ≡ true → Priced (Some r) M (by_bound z [] (λ m. (d.0, uniform_ends m) ∷ [])) → amount N (price (Some r) M) (by_bound z [] (λ m. (d.0, uniform_ends m) ∷ [])) ≤ U * (M * (63 * r))
       by_sign (pos zero) f k = omega arith
@@ -155,8 +155,8 @@ module _ (n r N L M : ℕ) where
       let A = only (holds v) I in
       let f = block_flow n (Some r) b A in
       let g = loop_flow v (block_flow n (Some r) b) t f.next in
-      let sf : Within N L f = record { tables = tables_first N L f.tables g.tables s.tables.2; ended = ends_first N f.ended g.ended (ends_second N (faults v I) (f.ended ++ g.ended) s.ended); draws = draws_first N f.draws g.draws s.draws } in
-      let sg : Within N L g = record { tables = tables_second N L f.tables g.tables s.tables.2; ended = ends_second N f.ended g.ended (ends_second N (faults v I) (f.ended ++ g.ended) s.ended); draws = draws_second N f.draws g.draws s.draws } in
+      let sf : Within N L f = record { tables = tables_first N L f.tables g.tables s.tables.2; ended = ends_first N f.ended g.ended (ends_second N (faults v I) (f.ended ++ g.ended) s.ended); draws = all_first N f.draws g.draws s.draws } in
+      let sg : Within N L g = record { tables = tables_second N L f.tables g.tables s.tables.2; ended = ends_second N f.ended g.ended (ends_second N (faults v I) (f.ended ++ g.ended) s.ended); draws = all_second N f.draws g.draws s.draws } in
       let D = block_draws n (Some r) b A in
       let E = loop_draws v (block_draws n (Some r) b) (block_flow n (Some r) b) t f.next in
       let guard = guard_weight N v I in
@@ -203,7 +203,7 @@ module _ (n r N L M : ℕ) where
         let F = block_flow n (Some r) p A in
         let G = block_flow n (Some r) q C in
         let ze = all_end (limit Attempts) Z in
-        let sw : Within N L (both ze F G) = record { tables = s.tables; ended = s.ended; draws = draws_second N (draws_each (draw_weights c.den (Some r)) I) (F.draws ++ G.draws) s.draws } in
+        let sw : Within N L (both ze F G) = record { tables = s.tables; ended = s.ended; draws = all_second N (draws_each (draw_weights c.den (Some r)) I) (F.draws ++ G.draws) s.draws } in
         let sf = both_first N L ze F G sw in
         let sg = both_second N L ze F G sw in
         let D = block_draws n (Some r) p A in
@@ -238,8 +238,8 @@ module _ (n r N L M : ℕ) where
     block_most (st ▸ b) w f I wi a s k =
         let F = statement_flow n (Some r) st I in
         let G = block_flow n (Some r) b F.next in
-        let sf : Within N L F = record { tables = tables_first N L F.tables G.tables s.tables.2; ended = ends_first N F.ended G.ended s.ended; draws = draws_first N F.draws G.draws s.draws } in
-        let sg : Within N L G = record { tables = tables_second N L F.tables G.tables s.tables.2; ended = ends_second N F.ended G.ended s.ended; draws = draws_second N F.draws G.draws s.draws } in
+        let sf : Within N L F = record { tables = tables_first N L F.tables G.tables s.tables.2; ended = ends_first N F.ended G.ended s.ended; draws = all_first N F.draws G.draws s.draws } in
+        let sg : Within N L G = record { tables = tables_second N L F.tables G.tables s.tables.2; ended = ends_second N F.ended G.ended s.ended; draws = all_second N F.draws G.draws s.draws } in
         let D = statement_draws n (Some r) st I in
         let E = block_draws n (Some r) b F.next in
         let wn = head_whole n (Some r) N L b F.next sg.tables in

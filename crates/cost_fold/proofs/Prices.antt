@@ -10,9 +10,10 @@ use Rattle.cost_law.specs.ExpectedBits.{number_bits, attempt_bits, again_weight,
 use Rattle.draw_cost.proofs.Stretches.{by_numbers, undecided_most}
 use Rattle.mass_tables.specs.Reached.{Reached}
 use Rattle.mass_tables.specs.Scale.{whole, Whole}
-use Rattle.mass_tables.proofs.Wholes.{whole_from, cancel}
+use Rattle.mass_tables.proofs.Wholes.{whole_from}
 use Rattle.mass_fold.specs.Metering.{IsPriced, Priced, price}
 use Rattle.cost_fold.specs.Spread.{most_bits}
+use Rattle.frac128.proofs.Divisors.{cancel}
 
 module _ (ends : List ℕ) where
   abbrev k : ℕ

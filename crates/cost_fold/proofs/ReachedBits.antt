@@ -14,13 +14,14 @@ use Rattle.cost_law.specs.ExpectedBits.{draw_bits, on_average, loop_bits, statem
 use Rattle.gcl_core.proofs.PartialSums.{last_is}
 use Rattle.cost_law.proofs.DrawBits.{draw_bits_pos}
 use Rattle.frac128.specs.Fraction.{IsEqual}
-use Rattle.frac128.proofs.Divisors.{product_pos}
+use Rattle.frac128.proofs.Divisors.{product_pos, equal_trans}
 use Rattle.mass_tables.specs.Tables.{Table, holds, fails, only, statement_flow, block_flow}
 use Rattle.mass_tables.specs.Reached.{drawn_each, drawn_bound, loop_draws, statement_draws, block_draws, arms_draws}
 use Rattle.mass_tables.proofs.Draws.{class_pos, no_class_pos}
 use Rattle.mass_tables.proofs.Paths.{statement_positive, ends_positive}
 use Rattle.mass_tables.proofs.Positive.{Positive, p_draw, p_scaled, p_only, p_one, p_all}
-use Rattle.cost_fold.proofs.Equal.{equal_trans, equal_plus, equal_times, average_positive, average_append, average_equal, average_nothing, average_scaled, average_within, average_sum, average_guard}
+use Rattle.mass_tables.proofs.EqualFractions.{equal_plus}
+use Rattle.cost_fold.proofs.Equal.{average_positive, average_append, average_equal, average_nothing, average_scaled, average_within, average_sum, average_guard, none_more}
 use Rattle.cost_fold.proofs.Transfer.{next_statement, next_block}
 
 -- the bits of a draw
@@ -45,17 +46,14 @@ average_bound g v (e ∷ I) = by_state (v e.1) (average_bound g v I)
     A : Fraction
     A = on_average I (λ s. by_value (λ f. nothing) (v s) (λ z. by_bound z nothing (λ m. g (uniform_ends m))))
 
-    none : (w0 w1 x0 x1 a0 a1 : ℕ) → x0 * a1 ≡ a0 * x1 → x0 * (w1 * 1 * a1) ≡ (w0 * 0 * a1 + a0 * (w1 * 1)) * x1
-    none w0 w1 x0 x1 a0 a1 e = let z = ap (λ z. z * w1) e in omega arith
-
     by_sign : (z : ℤ) → IsEqual X A → IsEqual (on_average (by_bound z [] (λ m. (e.0, uniform_ends m) ∷ []) ++ drawn_bound v I) g) (plus (times e.0 (by_bound z nothing (λ m. g (uniform_ends m)))) A)
-    by_sign (pos zero) i = none e.0.0 e.0.1 X.0 X.1 A.0 A.1 i
+    by_sign (pos zero) i = none_more e.0.0 e.0.1 X.0 X.1 A.0 A.1 i
     by_sign (pos (suc m)) i = equal_plus (times e.0 (g (uniform_ends (suc m)))) (times e.0 (g (uniform_ends (suc m)))) X A refl i
-    by_sign (negsuc m) i = none e.0.0 e.0.1 X.0 X.1 A.0 A.1 i
+    by_sign (negsuc m) i = none_more e.0.0 e.0.1 X.0 X.1 A.0 A.1 i
 
     by_state : (o : Value) → IsEqual X A → IsEqual (on_average (by_value (λ f. []) o (λ z. by_bound z [] (λ m. (e.0, uniform_ends m) ∷ [])) ++ drawn_bound v I) g) (plus (times e.0 (by_value (λ f. nothing) o (λ z. by_bound z nothing (λ m. g (uniform_ends m))))) A)
     by_state (Ok z) i = by_sign z i
-    by_state (Err f) i = none e.0.0 e.0.1 X.0 X.1 A.0 A.1 i
+    by_state (Err f) i = none_more e.0.0 e.0.1 X.0 X.1 A.0 A.1 i
 
 -- ---- second numbers
 by_value_positive : (v : Value) (go : ℤ → Fraction) → ((z : ℤ) → 0 < (go z).1) → 0 < (by_value (λ f. nothing) v go).1

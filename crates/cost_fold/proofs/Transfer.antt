@@ -10,17 +10,16 @@ use Rattle.gcl_core.specs.Fractions.{Fraction, nothing, times}
 use Rattle.gcl_core.specs.WeightedEnds.{Weighted, taken_on, statement_weighted, weighted_ends}
 use Rattle.cost_law.specs.ExpectedBits.{on_average}
 use Rattle.frac128.specs.Fraction.{IsEqual}
-use Rattle.frac128.proofs.Divisors.{product_pos}
+use Rattle.frac128.proofs.Divisors.{product_pos, cancel, equal_trans}
 use Rattle.mass_tables.specs.Scale.{whole, Whole, Wholes, AllWhole, amount}
 use Rattle.mass_tables.specs.Tables.{Table, Flow, going_on, statement_flow, block_flow}
 use Rattle.mass_tables.specs.Width.{common_denominator, weights}
-use Rattle.mass_tables.proofs.Amounts.{at_on, amount_going}
-use Rattle.mass_tables.proofs.Denominators.{AllPositive, common_positive, wholes_at, weights_whole, all_first, all_second}
+use Rattle.mass_tables.proofs.Amounts.{at_on, amount_going, all_first, all_second}
+use Rattle.mass_tables.proofs.Denominators.{AllPositive, common_positive, wholes_at, weights_whole}
 use Rattle.mass_tables.proofs.Linear.{sum_of_all, Zero, NoOn, flowed, spread, sum_taken, amount_is, no_one, no_all, flow_statement, flow_paths}
 use Rattle.mass_tables.proofs.Paths.{statement_positive, ends_positive}
-use Rattle.mass_tables.proofs.Positive.{Positive, p_taken, p_going, p_one, p_all}
-use Rattle.mass_tables.proofs.Wholes.{cancel}
-use Rattle.cost_fold.proofs.Equal.{equal_trans, average_positive, average_taken, average_going}
+use Rattle.mass_tables.proofs.Positive.{Positive, p_taken, p_going, p_one, p_all, weights_positive, a_append}
+use Rattle.cost_fold.proofs.Equal.{average_positive, average_taken, average_going}
 
 -- ---- averages at a scale
 abbrev values : {A : Type 0} → (A → Fraction) → Weighted A → List Fraction
@@ -44,22 +43,14 @@ values_share : {A : Type 0} (M : ℕ) (g : A → Fraction) (m : Weighted A) → 
 values_share M g [] h = tt
 values_share M g (e ∷ m) h = (h.0.exact, values_share M g m h.1)
 
-weights_positive : {A : Type 0} (m : Weighted A) → Positive m → AllPositive (weights m)
-weights_positive [] h = tt
-weights_positive (e ∷ m) h = (h.0, weights_positive m h.1)
-
 values_positive : {A : Type 0} (g : A → Fraction) (m : Weighted A) → ((a : A) → 0 < (g a).1) → AllPositive (values g m)
 values_positive g [] h = tt
 values_positive g (e ∷ m) h = (h e.1, values_positive g m h)
 
-joined_positive : (ps qs : List Fraction) → AllPositive ps → AllPositive qs → AllPositive (ps ++ qs)
-joined_positive [] qs h k = k
-joined_positive (p ∷ ps) qs h k = (h.0, joined_positive ps qs h.1 k)
-
 pub same_average : {A : Type 0} (m n : Weighted A) (g : A → Fraction) → Positive m → Positive n → ((a : A) → 0 < (g a).1) → ((N : ℕ) (G : A → ℕ) → amount N G m ≡ amount N G n) → IsEqual (on_average m g) (on_average n g)
 same_average m n g pm pn pg h =
-    let ws = joined_positive (weights m) (weights n) (weights_positive m pm) (weights_positive n pn) in
-    let vs = joined_positive (values g m) (values g n) (values_positive g m pg) (values_positive g n pg) in
+    let ws = a_append (weights m) (weights n) (weights_positive m pm) (weights_positive n pn) in
+    let vs = a_append (values g m) (values g n) (values_positive g m pg) (values_positive g n pg) in
     let N = common_denominator (weights m ++ weights n) in
     let M = common_denominator (values g m ++ values g n) in
     let w = wholes_at N (weights m ++ weights n) ws (dvd_refl N) in

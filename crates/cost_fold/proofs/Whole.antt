@@ -14,20 +14,19 @@ use Rattle.gcl_core.specs.Syntax.{Source}
 use Rattle.gcl_core.specs.WeightedEnds.{sure}
 use Rattle.gcl_core.proofs.Accepted.{checked_weights}
 use Rattle.gcl_core.proofs.FittingValues.{zeros_fit}
-use Rattle.weighing_law.proofs.Shares.{power_sum_pos}
 use Rattle.cost_law.specs.Costing.{CostsExactly}
 use Rattle.cost_law.specs.ExpectedBits.{on_average, block_bits, expected_bits}
-use Rattle.cost_law.proofs.CostLaw.{costs_exactly}
+use Rattle.cost_law.proofs.CostLaw.{costs_exactly, expected_pos}
 use Rattle.cost_law.proofs.DrawBits.{draw_bits_pos}
 use Rattle.frac128.specs.Fraction.{InLowest, IsEqual, lowest}
-use Rattle.frac128.proofs.Divisors.{product_pos, lowest_equal, lowest_in_lowest}
+use Rattle.frac128.proofs.Divisors.{product_pos, lowest_equal, lowest_in_lowest, cancel}
 use Rattle.mass_tables.specs.Reached.{Reached, draws_of}
 use Rattle.mass_tables.specs.Scale.{whole, Whole, Wholes, amount, weight}
 use Rattle.mass_tables.specs.Tables.{Table, peak_of, tables_of}
 use Rattle.mass_tables.specs.Width.{round_width, denominator}
 use Rattle.mass_tables.proofs.AtWidth.{at_width}
 use Rattle.mass_tables.proofs.Positive.{Positive}
-use Rattle.mass_tables.proofs.Wholes.{whole_from, cancel}
+use Rattle.mass_tables.proofs.Wholes.{whole_from, whole_multiple}
 use Rattle.mass_fold.specs.Body.{BitsAt, RoundBits, IsMass}
 use Rattle.mass_fold.specs.Metering.{IsPriced, Priced, price}
 use Rattle.mass_fold.specs.Rounds.{geometric, scale_of, MayRepeat, IsRepeated, RepeatBlames}
@@ -36,10 +35,10 @@ use Rattle.mass_fold.proofs.OutcomeRows.{lowest_is}
 use Rattle.mass_fold.proofs.Repeats.{scale_is}
 use Rattle.mass_fold.proofs.RoundMasses.{round_positive}
 use Rattle.cost_fold.specs.Spread.{most_bits, spread}
-use Rattle.cost_fold.proofs.Equal.{equal_trans, average_positive}
+use Rattle.cost_fold.proofs.Equal.{average_positive}
 use Rattle.cost_fold.proofs.Most.{block_most, DrawsMost}
 use Rattle.cost_fold.proofs.Prices.{price_share, priced_at}
-use Rattle.cost_fold.proofs.ReachedBits.{cost_of, block_reached, block_bits_positive}
+use Rattle.cost_fold.proofs.ReachedBits.{cost_of, block_reached}
 use Rattle.cost_fold.proofs.Transfer.{EachShare, average_amount}
 
 -- ---- shares of equal fractions
@@ -130,9 +129,6 @@ module _ (p : Source) (l : Limits) (ok : IsChecked p) where
   priced : Priced (Some r) M D
   priced = priced_at r (most_bits r D) D (omega arith)
 
-  body_positive : 0 < body.1
-  body_positive = block_bits_positive n r p.body w (zeros (length p.names))
-
   most : DrawsMost r Q M D (weight Q s) Long
   most = (block_most n r Q (peak_of p n (Some r)) M p.body w ok.numbers.body s ((whole_from Q one Q (omega arith) (omega arith)).1, tt) (zeros_fit (length p.names), tt) (at_width p n (Some r) w).within priced).0
 
@@ -168,17 +164,11 @@ module _ (p : Source) (l : Limits) (ok : IsChecked p) where
     abbrev g : Fraction
     g = failed_mass p n (Some r)
 
-    gp : 0 < g.1
-    gp = round_positive p n (Some r) w is_failed
-
     failed_equal : IsEqual f g
     failed_equal = rw fe (lowest_equal g.0 g.1)
 
     failed_whole : Whole N f
-    failed_whole = (whole_from N f (M * whole Q f) m.parts.positive (scaled f.0 f.1 (whole Q f) Q M m.parts.exact)).1
-      where
-        scaled : (a b U Q M : ℕ) → b * U ≡ a * Q → b * (M * U) ≡ a * (Q * M)
-        scaled a b U Q M e = let x = ap (λ z. M * z) e in omega arith
+    failed_whole = (whole_multiple Q M f m.parts).1
 
     failed_below : f.0 ≤ f.1
     failed_below = le_of_mul-le-mul_left {k = Q} (let z = mul-le-mul_left f.1 m.at_most_all in omega (arith, m.parts.exact)) Qp
@@ -189,9 +179,6 @@ module _ (p : Source) (l : Limits) (ok : IsChecked p) where
 
       abbrev all : Fraction
       all = times body (power_sum g R)
-
-      all_positive : 0 < all.1
-      all_positive = product_pos body.1 (power_sum g R).1 body_positive (power_sum_pos g gp R)
 
       rounds_equal : (t : Fraction) → IsRepeated b f R t → 0 < t.1 → IsEqual t all
       rounds_equal t is tp = at R Rp is
@@ -213,11 +200,8 @@ module _ (p : Source) (l : Limits) (ok : IsChecked p) where
       expected_equal : (t : Fraction) → IsRepeated b f R t → InLowest t → IsEqual t (expected_bits p l)
       expected_equal t is low = subst (λ R. IsEqual t (times body (power_sum g R))) (sym Re) (rounds_equal t is (omega (arith, low.positive)))
 
-      expected_positive : 0 < (expected_bits p l).1
-      expected_positive = subst (λ R. 0 < (times body (power_sum g R)).1) (sym Re) all_positive
-
       pub cost_is : (t : Fraction) → IsRepeated b f R t → InLowest t → t ≡ lowest (expected_bits p l)
-      cost_is t is low = lowest_is t (expected_bits p l) low expected_positive (expected_equal t is low)
+      cost_is t is low = lowest_is t (expected_bits p l) low (expected_pos p l ok) (expected_equal t is low)
 
       pub cost_law : (t : Fraction) → IsRepeated b f R t → InLowest t → CostsExactly (run_on p l) p l t
       cost_law t is low = costs_along (run_on p l) p l t (expected_bits p l) (omega (arith, low.positive)) (sym (expected_equal t is low)) (costs_exactly p l (run_on p l) ok (λ w. refl))

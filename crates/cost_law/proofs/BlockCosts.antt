@@ -25,8 +25,9 @@ use Rattle.weighing_law.proofs.BlockMatching.{statement_matches, block_matches}
 use Rattle.weighing_law.proofs.DrawMatching.{class_below, draw_matches}
 use Rattle.gcl_core.specs.Fitting.{state_fits}
 use Rattle.gcl_core.proofs.FittingValues.{end_fits, value_fits}
+use Rattle.gcl_core.proofs.EqualClasses.{last_of_equal}
 use Rattle.weighing_law.proofs.Matching.{Matches}
-use Rattle.weighing_law.proofs.Uniform.{range_ascends, uniform_last}
+use Rattle.weighing_law.proofs.Uniform.{range_ascends}
 use Rattle.cost_law.specs.ExpectedBits.{draw_bits, loop_bits, statement_bits, block_bits, arm_bits}
 use Rattle.cost_law.proofs.CostedReaders.{Costs, costs_none, costs_at, costs_up, costs_same, costs_then}
 use Rattle.cost_law.proofs.DrawBits.{draw_share, draw_bits_pos}
@@ -90,7 +91,7 @@ drawn_costs : (r m x : ℕ) (s : State) → m < 2 ^ 63 →
     Costs (63 * r) (λ w. after (draw_on (uniform_ends m) r w) (λ class rest. by_class (gives (limit Attempts) rest) class (λ i. gives (on (slice_set s x (pos i))) rest))) (draw_bits (uniform_ends m) r)
 drawn_costs r m x s small =
     let d = bits_for (last_end (uniform_ends m)) in
-    let b : last_end (uniform_ends m) ≤ 2 ^ 63 = omega (arith, uniform_last m) in
+    let b : last_end (uniform_ends m) ≤ 2 ^ 63 = omega (arith, last_of_equal m) in
     let few : d ≤ 63 = bits_le (last_end (uniform_ends m)) 63 b in
     costs_up (d * r) (63 * r) _ _ (mul-le-mul_right r few)
     (costs_same (d * r) (draw_on (uniform_ends m) r) (draw_bits (uniform_ends m) r) _ (λ o. by_class (limit Attempts) o (λ i. on (slice_set s x (pos i))))

@@ -68,7 +68,7 @@ module _ (p : Source) (l : Limits) (ok : IsChecked p) where
       rounds_cost p.result m.tree d cost (failed_mass p l.turns (Some l.attempts)) m.within (subst (λ x. Share (2 ^ d) (asks x d) cost) same c.share)
       (counts_sum (2 ^ d) is_failed (weighted_ends l.turns (Some l.attempts) p.body (zeros (length p.names))) _ (m.counts (chi is_failed))) l.rounds
 
-  expected_pos : 0 < (expected_bits p l).1
+  pub expected_pos : 0 < (expected_bits p l).1
   expected_pos =
       let m = body_matches p l ok in
       let c = body_costs in

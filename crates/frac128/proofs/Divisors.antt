@@ -11,7 +11,7 @@ use Rattle.std.specs.Prelude.{◌&&◌, if◌then◌else◌}
 use Rattle.std.proofs.lemmas.Bool.{false≢true, eqb-true, eq-eqb}
 use Rattle.std.proofs.Math.Arith.{le_of_le-suc-ne}
 use Rattle.frac128.specs.Divisor.{divides, greatest_divisor, gcd, lcm}
-use Rattle.frac128.specs.Fraction.{lowest, InLowest}
+use Rattle.frac128.specs.Fraction.{lowest, InLowest, Fraction, IsEqual}
 
 -- the greatest common divisor by remainders, with at most k of them
 unfoldable euclid : ℕ → ℕ → ℕ → ℕ
@@ -67,6 +67,16 @@ pub gcd_unique : (a b g : ℕ) → IsGcd a b g → g ≡ gcd a b
 gcd_unique a b g h = same_from_IsGcd a b g (gcd a b) h (gcd_is a b)
 
 -- ---- a common factor
+pub cancel : (c x y : ℕ) → 0 < c → c * x ≡ c * y → x ≡ y
+cancel c x y pos e = sym (mul-div_right x pos) ∙ ap (λ z. z / c) e ∙ mul-div_right y pos
+
+pub factor_pos : (c x n : ℕ) → 0 < n → c * x ≡ n → 0 < x
+factor_pos c zero n h e = absurd (omega arith)
+factor_pos c (suc x) n h e = omega arith
+
+-- what is left of two numbers, crosswise
+pub crosswise : (g a b j k : ℕ) → g * j ≡ a → g * k ≡ b → j * b ≡ a * k
+crosswise g a b j k x y = rw (← x, ← y) (omega arith)
 
 mul_mod_mul : (a b c : ℕ) → 0 < b → 0 < c → (c * a) % (c * b) ≡ c * (a % b)
 mul_mod_mul a b c hb hc =
@@ -144,11 +154,7 @@ pub lcm_is : (a b : ℕ) → lcm a b ≡ a * (b / gcd a b)
 lcm_is a b = mul-div_assoc (gcd a b) a (gcd_is a b).1
 
 rest_pos : (a b : ℕ) → 0 < b → 0 < b / gcd a b
-rest_pos a b h = pos_from (gcd a b) (b / gcd a b) b h (mul-div_cancel' (gcd a b) (gcd_is a b).1)
-  where
-    pos_from : (g x b : ℕ) → 0 < b → g * x ≡ b → 0 < x
-    pos_from g zero b h e = absurd (omega arith)
-    pos_from g (suc x) b h e = omega arith
+rest_pos a b h = factor_pos (gcd a b) (b / gcd a b) b h (mul-div_cancel' (gcd a b) (gcd_is a b).1)
 
 pub lowest_in_lowest : (a b : ℕ) → 1 ≤ b → InLowest (lowest (a, b))
 lowest_in_lowest a b h = record { positive = let p = rest_pos a b (omega arith) in omega arith; coprime = coprime_rests a b (omega arith) }
@@ -167,6 +173,9 @@ lowest_equal a b =
     let x : g * (a / g) ≡ a = mul-div_cancel' g (gcd_is a b).0 in
     let y : g * (b / g) ≡ b = mul-div_cancel' g (gcd_is a b).1 in
     crosswise g a b (a / g) (b / g) x y
+
+pub equal_trans : (p q t : Fraction) → 0 < q.1 → IsEqual p q → IsEqual q t → IsEqual p t
+equal_trans p q t pos e f = cancel q.1 _ _ pos (joined p.0 p.1 q.0 q.1 t.0 t.1 e f)
   where
-    crosswise : (g a b j k : ℕ) → g * j ≡ a → g * k ≡ b → j * b ≡ a * k
-    crosswise g a b j k x y = rw (← x, ← y) (omega arith)
+    joined : (p0 p1 q0 q1 t0 t1 : ℕ) → p0 * q1 ≡ q0 * p1 → q0 * t1 ≡ t0 * q1 → q1 * (p0 * t1) ≡ q1 * (t0 * p1)
+    joined p0 p1 q0 q1 t0 t1 e f = let x = ap (λ z. z * t1) e in let y = ap (λ z. z * p1) f in omega arith

@@ -1,12 +1,12 @@
 -- Sums and products as the code computes them.
-use Rattle.std.proofs.Common.{◌≡◌, ℕ, zero, suc, ◌*◌, ◌/◌, ◌≤◌, ◌<◌, ◌^◌, Some, None, sym, ap, ◌∙◌, arith}
+use Rattle.std.proofs.Common.{◌≡◌, ℕ, ◌*◌, ◌/◌, ◌≤◌, ◌<◌, ◌^◌, Some, None, sym, ap, ◌∙◌, arith}
 use Prim.Native.Nat.{◌∣◌}
 use Rattle.std.proofs.lemmas.Bool.Decides.{nat_tests}
 use native.Mathlib.Nat.{mul-div_cancel', mul-div_right, mul-div_left, dvd-mul_left}
 use Rattle.std.proofs.lemmas.Nat.Gcd.{IsGcd-swap}
 use Rattle.frac128.specs.Divisor.{gcd}
 use Rattle.frac128.specs.Fraction.{Fraction, lowest, InLowest, raised, if_all_fit, common_of, if_fits}
-use Rattle.frac128.proofs.Divisors.{gcd_is, gcd_pos, along_to, coprime_parts, coprime_products, coprime_rests, product_pos, lcm_is, lowest_from, lowest_in_lowest, lowest_equal}
+use Rattle.frac128.proofs.Divisors.{gcd_is, gcd_pos, along_to, coprime_parts, coprime_products, coprime_rests, product_pos, lcm_is, lowest_from, lowest_in_lowest, lowest_equal, factor_pos, crosswise}
 
 raised_left : (n d k : ℕ) → 1 ≤ d → n * (d * k / d) ≡ n * k
 raised_left n d k h = ap (λ x. n * x) (mul-div_right k (let p : 0 < d = omega arith in p))
@@ -16,11 +16,8 @@ raised_right n d e h k =
     let g = gcd d e in
     let x : g * (d / g) ≡ d = mul-div_cancel' g (gcd_is d e).0 in
     let y : g * (e / g) ≡ e = mul-div_cancel' g (gcd_is d e).1 in
-    let z : d * (e / g) ≡ d / g * e = swapped g d e (d / g) (e / g) x y in
+    let z : d * (e / g) ≡ d / g * e = sym (crosswise g d e (d / g) (e / g) x y) in
     ap (λ m. n * (m / e)) z ∙ ap (λ x. n * x) (mul-div_left (d / g) (let p : 0 < e = omega arith in p))
-  where
-    swapped : (g d e j k : ℕ) → g * j ≡ d → g * k ≡ e → d * k ≡ j * e
-    swapped g d e j k x y = rw (← x, ← y) (omega arith)
 
 -- both over the least common multiple, as the code has the parts
 pub common_result : (a b c d g : ℕ) → 1 ≤ b → 1 ≤ d → g ≡ gcd b d → common_of (a, b) (c, d) ≡ if_all_fit (b * (d / g), a * (d / g), c * (b / g))
@@ -37,11 +34,7 @@ part_of : (g a : ℕ) → g ∣ a → a / g ∣ a
 part_of g a h = along_to (a / g) (g * (a / g)) a (mul-div_cancel' g h) (dvd-mul_left (a / g) g)
 
 pub part_pos : (g a : ℕ) → 0 < a → g ∣ a → 0 < a / g
-part_pos g a h d = pos_from g (a / g) a h (mul-div_cancel' g d)
-  where
-    pos_from : (g x b : ℕ) → 0 < b → g * x ≡ b → 0 < x
-    pos_from g zero b h e = absurd (omega arith)
-    pos_from g (suc x) b h e = omega arith
+part_pos g a h d = factor_pos g (a / g) a h (mul-div_cancel' g d)
 
 pub crossed_lowest : (p q : Fraction) → InLowest p → InLowest q → InLowest (crossed p q)
 crossed_lowest p q h k =

@@ -7,11 +7,10 @@ use Rattle.gcl_core.specs.Fractions.{Fraction, nothing, plus, times, power, powe
 use Rattle.gcl_core.specs.Mass.{round_mass, failed_mass, mass_of_those}
 use Rattle.gcl_core.specs.Syntax.{Source}
 use Rattle.frac128.specs.Fraction.{InLowest, IsEqual, lowest}
-use Rattle.frac128.proofs.Divisors.{product_pos}
+use Rattle.frac128.proofs.Divisors.{product_pos, cancel}
 use Rattle.mass_tables.specs.Scale.{whole}
 use Rattle.mass_tables.specs.Tables.{peak_of}
 use Rattle.mass_tables.specs.Width.{round_width, width_of}
-use Rattle.mass_tables.proofs.Wholes.{cancel}
 use Rattle.mass_fold.specs.declared.error.MassError.{MassError}
 use Rattle.mass_fold.specs.declared.error.MassError.TheVariants.{TooWide, TooManyStates, AllFailed, OutOfMemory}
 use Rattle.mass_fold.specs.Amounts.{held}

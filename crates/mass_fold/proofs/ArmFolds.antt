@@ -15,7 +15,7 @@ use Rattle.frac128.specs.Fraction.{IsEqual}
 use Rattle.mass_tables.specs.Tables.{Table, Flow, all_end, statement_flow, block_flow, arms_flow, draws_each, draw_weights, states}
 use Rattle.mass_tables.specs.Scale.{Whole, Wholes, Within, amount, weight}
 use Rattle.mass_tables.specs.Counts.{none_stopped, all_kept}
-use Rattle.mass_tables.proofs.Amounts.{amount_append, ends_first, draws_first}
+use Rattle.mass_tables.proofs.Amounts.{amount_append, ends_first, all_first}
 use Rattle.mass_tables.proofs.Kept.{all_end_weight, ends_whole, arms_weight, choose_inside, first_arm, other_arms, arms_kept, kept_one, kept_arms}
 use Rattle.mass_tables.proofs.Draws.{class_pos}
 use Rattle.mass_fold.specs.declared.error.MassError.{MassError}
@@ -59,7 +59,7 @@ module _ (n : ℕ) (r : Option ℕ) (all : ArmList) (ps : AreParts (parts_of all
   -- where there is a state, the weights of the draw are whole
   draw_whole : (N L : ℕ) (I : Table) → 0 < N → Stands N es I → (es ≡ [] → ⊥) → Around N L I (whole I) → Whole N (class_weight b r 1) × Whole N (no_class_weight b r)
   draw_whole N L I Np s some h =
-      let d = draws_head N es I (draw_weights b r) Np s some (draws_first N (draws_each (draw_weights b r) I) (arms_flow n r b all I).draws h.inside.draws) in
+      let d = draws_head N es I (draw_weights b r) Np s some (all_first N (draws_each (draw_weights b r) I) (arms_flow n r b all I).draws h.inside.draws) in
       (d.0, d.1.0)
 
   pub undecided_blames : (error : MassError) → (es ≡ [] → ⊥) → UndecidedBlames b r es E error → OneBlames whole es E error

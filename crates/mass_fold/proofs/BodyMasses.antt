@@ -5,20 +5,20 @@ use Rattle.std.proofs.lemmas.Bool.Decides.{nat_tests}
 use Rattle.gcl_core.specs.Syntax.{Statements}
 use Rattle.gcl_core.specs.Value.{State}
 use Rattle.gcl_core.specs.Blocks.{End, on}
-use Rattle.gcl_core.specs.Fractions.{Fraction, one, times, plus}
+use Rattle.gcl_core.specs.Fractions.{Fraction, one, times}
 use Rattle.gcl_core.specs.WeightedEnds.{Weighted, sure, scaled, weighted_ends}
 use Rattle.gcl_core.specs.Mass.{sum_of, is_failed}
 use Rattle.frac128.specs.Fraction.{IsEqual}
 use Rattle.mass_tables.specs.Tables.{Table, block_flow}
 use Rattle.mass_tables.specs.Scale.{whole, Wholes, Within, amount}
 use Rattle.mass_tables.proofs.Amounts.{amount_append, whole_zero}
-use Rattle.mass_tables.proofs.Linear.{sum_of_all, after_weight, Zero, flow_paths, amounts_paths}
+use Rattle.mass_tables.proofs.Linear.{sum_of_all, after_weight, Zero, flow_paths, amounts_paths, counted}
 use Rattle.mass_fold.specs.declared.ended.Ended.{Ended}
 use Rattle.mass_fold.specs.Amounts.{Entries, held}
 use Rattle.mass_fold.specs.Ended.{rows_of}
 use Rattle.mass_fold.specs.Fold.{Stands, EndStands}
-use Rattle.mass_tables.proofs.Wholes.{cancel}
 use Rattle.mass_fold.proofs.Folds.{last_few, held_none}
+use Rattle.mass_fold.proofs.OutcomeRows.{one_value}
 
 -- each weight is exact at a scale
 abbrev Exact : ℕ → Fraction → Type 0
@@ -67,14 +67,10 @@ paths_right : (N : ℕ) (m : Weighted End) → sum_of_all (after_weight one (wro
 paths_right N [] h = tt
 paths_right N (e ∷ m) h = (subst (Exact N) (one_times e.0) (none_right N (times one e.0) e.1 (omega arith)), paths_right N m (omega arith))
 
-one_more : (b : Bool) (N u v : ℕ) (e p : Fraction) → e.1 * u ≡ e.0 * N → p.1 * v ≡ p.0 * N → (cond b (plus e p) p).1 * (u * cond b 1 0 + v) ≡ (cond b (plus e p) p).0 * N
-one_more true N u v e p q h = let a = ap (λ x. p.1 * x) q in let b = ap (λ x. e.1 * x) h in omega arith
-one_more false N u v e p q h = let a : u * 0 + v ≡ v = omega arith in ap (λ x. p.1 * x) a ∙ h
-
 -- the sum of the weights that are meant, at a scale
 exact_sum : {A : Type 0} (N : ℕ) (is : A → Bool) (m : Weighted A) → Exacts N m → (sum_of is m).1 * amount N (λ x. cond (is x) 1 0) m ≡ (sum_of is m).0 * N
 exact_sum N is [] w = omega arith
-exact_sum N is (e ∷ m) w = one_more (is e.1) N (whole N e.0) (amount N (λ x. cond (is x) 1 0) m) e.0 (sum_of is m) w.0 (exact_sum N is m w.1)
+exact_sum N is (e ∷ m) w = counted (is e.1) N (whole N e.0) (amount N (λ x. cond (is x) 1 0) m) e.0 (sum_of is m) w.0 (exact_sum N is m w.1)
 
 pub masses_held : (n : ℕ) (r : Option ℕ) (N L : ℕ) (b : Statements) (s : State) (es : Entries) (E : Ended) → Within N L (block_flow n r b (sure s)) → Stands N es (block_flow n r b (sure s)).next → EndStands N E (block_flow n r b (sure s)).ended →
     (is : End → Bool) → (sum_of is (weighted_ends n r b s)).1 * (held N (λ s. cond (is (on s)) 1 0) es + amount N (λ x. cond (is x) 1 0) (rows_of E)) ≡ (sum_of is (weighted_ends n r b s)).0 * N
@@ -102,7 +98,4 @@ failed_equal N es E f Np w h =
     let W = whole N E.failed in
     let a : held N (λ s. cond (is_failed (on s)) 1 0) es + amount N (λ x. cond (is_failed x) 1 0) (rows_of E) ≡ W = omega arith in
     let x : f.1 * W ≡ f.0 * N = ap (λ u. f.1 * u) (sym a) ∙ h in
-    cancel N _ _ Np (crossed E.failed.0 E.failed.1 f.0 f.1 W N w.0.exact x)
-  where
-    crossed : (a b c d W N : ℕ) → b * W ≡ a * N → d * W ≡ c * N → N * (a * d) ≡ N * (c * b)
-    crossed a b c d W N p q = let x = ap (λ u. u * d) p in let y = ap (λ u. u * b) q in omega arith
+    one_value N W E.failed f Np w.0.exact x

@@ -37,10 +37,6 @@ is_bound (pos zero) fits le = absurd (omega (arith, ints))
 is_bound (pos (suc m)) fits le = record { less = m; is = refl; cast = omega (arith, ints); small = omega (arith, ints) }
 is_bound (negsuc m) fits le = absurd (omega (arith, ints))
 
-pub ones_below : (m : ℕ) → sum_below m (λ i. 1) ≡ m
-ones_below zero = refl
-ones_below (suc m) = let i = ones_below m in omega arith
-
 pub class_above : (b : ℕ) (r : Option ℕ) → IfSome r (λ r. 1 ≤ r) → 0 < (class_weight b r 1).0
 class_above b None h = omega arith
 class_above b (Some zero) h = absurd (omega arith)

@@ -9,6 +9,7 @@ use Rattle.frac128.proofs.Divisors.{product_pos}
 use Rattle.mass_tables.specs.Scale.{whole, Whole, amount}
 use Rattle.mass_tables.specs.Counts.{sum_below}
 use Rattle.mass_tables.proofs.Wholes.{product_whole, product_refused}
+use Rattle.mass_tables.proofs.EqualFractions.{equal_times}
 use Rattle.mass_fold.specs.declared.error.MassError.{MassError}
 use Rattle.mass_fold.specs.declared.error.MassError.TheVariants.{TooWide}
 use Rattle.mass_fold.specs.declared.ended.Gone.{Gone}
@@ -24,20 +25,14 @@ use Rattle.mass_fold.proofs.Powers.{equal_whole}
 -- of f with a fraction of the value of u
 pub product_at : (N : ℕ) (f w u h : Fraction) → 0 < w.1 → IsEqual w u → Whole N f → Whole N (times f u) → product_of f w ≡ Some h → (whole N h ≡ whole N (times f u)) × Whole N h
 product_at N f w u h wp e a b q =
-    let x = equal_whole N (times f w) (times f u) (product_pos f.1 w.1 a.positive wp) (crossed f.0 f.1 w.0 w.1 u.0 u.1 e) b in
+    let x = equal_whole N (times f w) (times f u) (product_pos f.1 w.1 a.positive wp) (equal_times f f w u refl e) b in
     let y = product_whole N f w h x.1 (q) in
     (y.0 ∙ x.0, y.1)
-  where
-    crossed : (f0 f1 w0 w1 u0 u1 : ℕ) → w0 * u1 ≡ u0 * w1 → f0 * w0 * (f1 * u1) ≡ f0 * u0 * (f1 * w1)
-    crossed f0 f1 w0 w1 u0 u1 e = let z = ap (λ x. x * (f0 * f1)) e in omega arith
 
 pub refused_at : (N : ℕ) (f w u : Fraction) → 0 < N → 0 < w.1 → IsEqual w u → Whole N f → Whole N (times f u) → whole N (times f u) ≤ N → product_of f w ≡ None → 2 ^ 128 ≤ N
 refused_at N f w u Np wp e a b m q =
-    let x = equal_whole N (times f w) (times f u) (product_pos f.1 w.1 a.positive wp) (crossed f.0 f.1 w.0 w.1 u.0 u.1 e) b in
+    let x = equal_whole N (times f w) (times f u) (product_pos f.1 w.1 a.positive wp) (equal_times f f w u refl e) b in
     product_refused N f w Np x.1 (let z = x.0 in omega arith) q
-  where
-    crossed : (f0 f1 w0 w1 u0 u1 : ℕ) → w0 * u1 ≡ u0 * w1 → f0 * w0 * (f1 * u1) ≡ f0 * u0 * (f1 * w1)
-    crossed f0 f1 w0 w1 u0 u1 e = let z = ap (λ x. x * (f0 * f1)) e in omega arith
 
 pub above_zero : (N : ℕ) (f w u h : Fraction) → 0 < N → 0 < f.0 → 0 < u.0 → Whole N (times f u) → (whole N h ≡ whole N (times f u)) × Whole N h → 0 < h.0
 above_zero N f w u h Np fp up b y = numerator_pos N h y.1 (let z = whole_pos N (times f u) Np (product_pos f.0 u.0 fp up) b in omega (arith, y.0))

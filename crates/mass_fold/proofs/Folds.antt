@@ -1,5 +1,5 @@
 -- One statement of a fold is one step, and why a step is refused.
-use Rattle.std.proofs.Common.{◌≡◌, ℕ, ◌+◌, ◌*◌, ◌≤◌, ◌<◌, Bool, true, false, not, cond, List, [], ◌∷◌, ◌++◌, Ok, Err, Option, slice_set, length, drop, refl, sym, ap, ◌∙◌, subst, arith}
+use Rattle.std.proofs.Common.{◌≡◌, ℕ, ◌+◌, ◌≤◌, ◌<◌, Bool, true, false, not, cond, List, [], ◌∷◌, ◌++◌, Ok, Err, Option, slice_set, length, drop, refl, sym, ap, ◌∙◌, subst, arith}
 use Rattle.std.specs.Map.{keys_of}
 use Rattle.std.specs.List.Sorted.{IsStrictlySortedBy}
 use Rattle.std.proofs.Math.ListN.{drop_of_length-le}
@@ -8,21 +8,22 @@ use Rattle.gcl_core.specs.Views.{list_of}
 use Rattle.gcl_core.specs.Syntax.{Expression, Statement, skip, assign, branch, uniform, observe, Statements, done, ◌▸◌}
 use Rattle.gcl_core.specs.Bounds.{StatementIsWeighed, BlockIsWeighed}
 use Rattle.gcl_core.specs.Value.{State, Value, value_of, is_zero}
-use Rattle.gcl_core.specs.Blocks.{End, on, failed, fault, by_value, by_truth}
+use Rattle.gcl_core.specs.Blocks.{End, on, failed, fault, by_value}
 use Rattle.gcl_core.specs.Fractions.{Fraction}
 use Rattle.gcl_core.specs.WeightedEnds.{Weighted, sure, taken_on, statement_weighted}
 use Rattle.mass_tables.specs.Tables.{Table, Flow, going_on, gone, holds, fails, only, faults, each, statement_flow, block_flow, states}
-use Rattle.mass_tables.specs.Scale.{whole, Wholes, TablesWithin, Within, amount, weight}
+use Rattle.mass_tables.specs.Scale.{Wholes, TablesWithin, Within, amount, weight}
 use Rattle.mass_tables.specs.Counts.{moved, stopped, kept_if, none_kept, none_stopped, all_kept, all_stopped, part_at, rest_at, drawn, undrawn, multiplied}
-use Rattle.mass_tables.proofs.Amounts.{amount_append, amount_only, amount_faults, at_on, at_gone, amount_going, amount_gone, amount_each, amount_ext, tables_first, tables_second, ends_first, ends_second, draws_first, draws_second, both_first, both_second, regroup}
-use Rattle.mass_tables.proofs.Kept.{kept_one, kept_all, guard_weight}
+use Rattle.mass_tables.proofs.Amounts.{amount_append, amount_only, amount_faults, at_on, at_gone, amount_going, amount_gone, amount_each, amount_ext, tables_first, tables_second, ends_first, ends_second, all_first, all_second, both_first, both_second, regroup}
+use Rattle.mass_tables.proofs.Kept.{kept_one, kept_all, guard_weight, set_end, set_sure, seen_end, seen_sure}
 use Rattle.mass_tables.proofs.Uniforms.{drawn_next, drawn_ended, drawn_whole}
+use Rattle.mass_tables.proofs.NoneReached.{none_counts}
 use Rattle.mass_fold.specs.declared.error.MassError.{MassError}
 use Rattle.mass_fold.specs.declared.ended.Gone.TheVariants as gone_kind
 use Rattle.mass_fold.specs.declared.ended.Ended.{Ended}
 use Rattle.mass_fold.specs.Amounts.{Entries, held, Held, Blames, order}
 use Rattle.mass_fold.specs.Ended.{end_of, rows_of}
-use Rattle.mass_fold.specs.Steps.{StepsTo, StepBlames, Shares, shared, Draws, DrawsTo, DrawBlames}
+use Rattle.mass_fold.specs.Steps.{StepsTo, StepBlames, Shares, shared, Draws, UniformTo, UniformBlames}
 use Rattle.mass_fold.specs.Fold.{Stands, EndStands, FoldsTo, FoldBlames, Around, FoldsOne, OneBlames}
 use Rattle.mass_fold.proofs.Shares.{shares_stand, part_above, rest_above, draws_in, each_state}
 
@@ -67,20 +68,11 @@ pub merge_blamed : (N L : ℕ) (es fs : Entries) (E : Ended) (e : MassError) (I 
 merge_blamed N L es fs E e I K M J Np d w s t p most few m =
     d N L M Np s.kept t.kept w.kept (λ G. let a = p G in let b = s.same G in let c = t.same G in omega arith) most few (let a = held_none N fs in let b = w.same (λ x. 1) in omega arith)
 
--- what weighs nothing counts nothing
-pub zero_counts : {A : Type 0} (N : ℕ) (G : A → ℕ) (m : Weighted A) → weight N m ≡ 0 → amount N G m ≡ 0
-zero_counts N G [] h = refl
-zero_counts N G (e ∷ m) h =
-    let z : whole N e.0 ≡ 0 = omega arith in
-    let i = zero_counts N G m (omega arith) in
-    let y = ap (λ u. u * G e.1) z in
-    omega arith
-
 pub nothing_stands : (N : ℕ) (es : Entries) (I : Table) → es ≡ [] → weight N I ≡ 0 → Stands N es I
-nothing_stands N es I e h = record { kept = subst (Held N) (sym e) tt; same = λ G. ap (held N G) e ∙ sym (zero_counts N G I h) }
+nothing_stands N es I e h = record { kept = subst (Held N) (sym e) tt; same = λ G. ap (held N G) e ∙ sym (none_counts N G I h) }
 
 pub ends_more : (N : ℕ) (E : Ended) (J K : Weighted End) → weight N K ≡ 0 → EndStands N E J → EndStands N E (J ++ K)
-ends_more N E J K h t = end_along N E J (J ++ K) (λ G. let a = amount_append N G J K in let b = zero_counts N G K h in omega arith) t
+ends_more N E J K h t = end_along N E J (J ++ K) (λ G. let a = amount_append N G J K in let b = none_counts N G K h in omega arith) t
 
 module _ (n : ℕ) (r : Option ℕ) where
   -- ---- around a statement
@@ -103,9 +95,9 @@ module _ (n : ℕ) (r : Option ℕ) where
           after = h.0;
           few_before = w.tables.1;
           few_after = h.1;
-          inside = record { tables = tables_first N L f.tables g.tables w.tables.2; ended = ends_first N f.ended g.ended w.ended; draws = draws_first N f.draws g.draws w.draws };
+          inside = record { tables = tables_first N L f.tables g.tables w.tables.2; ended = ends_first N f.ended g.ended w.ended; draws = all_first N f.draws g.draws w.draws };
         },
-        record { tables = t; ended = ends_second N f.ended g.ended w.ended; draws = draws_second N f.draws g.draws w.draws },
+        record { tables = t; ended = ends_second N f.ended g.ended w.ended; draws = all_second N f.draws g.draws w.draws },
       )
 
   -- ---- sequences, by what is left of them
@@ -173,13 +165,6 @@ module _ (n : ℕ) (r : Option ℕ) where
   fold_skip es E = fold_each skip (statement_weighted n r skip) (λ s. on s) (λ I. []) all_kept none_stopped es E es E (λ s. refl) (λ G s. refl) (λ G s. refl)
       (λ N Np a b w. record { kept = b; ended = w; going = λ G. omega arith; stopping = λ G. let z = held_none N es in omega arith })
 
-  abbrev set_end : ℕ → Value → State → End
-  set_end x v s = by_value (λ f. fault f) v (λ z. on (slice_set s x z))
-
-  set_one : (x : ℕ) (v : Value) (s : State) → by_value (λ f. sure (fault f)) v (λ z. sure (on (slice_set s x z))) ≡ sure (set_end x v s)
-  set_one x (Ok z) s = refl
-  set_one x (Err f) s = refl
-
   set_on : (x : ℕ) (G : State → ℕ) (v : Value) (s : State) → at_on G (set_end x v s) ≡ by_value (λ f. 0) v (λ z. G (slice_set s x z))
   set_on x G (Ok z) s = refl
   set_on x G (Err f) s = refl
@@ -190,22 +175,19 @@ module _ (n : ℕ) (r : Option ℕ) where
 
   pub fold_assign : (x : ℕ) (e : Expression) (es : Entries) (E : Ended) (fs : Entries) (F : Ended) → StepsTo (moved x (value_of e)) (stopped (value_of e)) [] es E fs F → FoldsOne (statement_flow n r (assign x e)) es E fs F
   fold_assign x e es E fs F d = fold_each (assign x e) (statement_weighted n r (assign x e)) (λ s. set_end x (value_of e s) s) (λ I. []) (moved x (value_of e)) (stopped (value_of e)) es E fs F
-      (λ s. set_one x (value_of e s) s) (λ G s. set_on x G (value_of e s) s) (λ G s. set_gone x G (value_of e s) s) d
+      (λ s. set_sure x (value_of e s) s) (λ G s. set_on x G (value_of e s) s) (λ G s. set_gone x G (value_of e s) s) d
 
   pub assign_blames : (x : ℕ) (e : Expression) (es : Entries) (E : Ended) (error : MassError) → StepBlames (moved x (value_of e)) (stopped (value_of e)) [] es E error → OneBlames (statement_flow n r (assign x e)) es E error
   assign_blames x e es E error d N L I J Np s t w m =
       let step = statement_weighted n r (assign x e) in
       let end : State → End = λ s. set_end x (value_of e s) s in
-      let one : (s : State) → step s ≡ sure (end s) = λ s. set_one x (value_of e s) s in
+      let one : (s : State) → step s ≡ sure (end s) = λ s. set_sure x (value_of e s) s in
       let k = kept_one n r N L (assign x e) I tt w.before w.after w.inside in
       let a : (G : State → ℕ) → amount N G (going_on (taken_on I step)) ≡ amount N (moved x (value_of e) G) I = λ G. amount_going N G (taken_on I step) ∙ amount_each N (at_on G) step end I one ∙ amount_ext N _ _ I (λ s. set_on x G (value_of e s) s) in
       let b : amount N (λ x. 1) (gone (taken_on I step)) ≡ amount N (stopped (value_of e) (λ x. 1)) I = amount_gone N (λ x. 1) (taken_on I step) ∙ amount_each N (at_gone (λ x. 1)) step end I one ∙ amount_ext N _ _ I (λ s. set_gone x (λ x. 1) (value_of e s) s) in
       step_blamed N L (moved x (value_of e)) (stopped (value_of e)) es E error I (going_on (taken_on I step)) J Np d s t (λ G. let z = a G in omega arith) (omega arith) w.few_after (omega arith)
 
   -- ---- observations
-  abbrev seen_end : Value → State → End
-  seen_end v s = by_value (λ f. fault f) v (λ z. by_truth z (on s) failed)
-
   abbrev seen_stop : Expression → (End → ℕ) → State → ℕ
   seen_stop e H s = stopped (value_of e) H s + kept_if (fails (value_of e)) (all_stopped failed H) s
 
@@ -213,7 +195,7 @@ module _ (n : ℕ) (r : Option ℕ) where
       StepsTo (kept_if (fails (value_of e))) (stopped (value_of e)) [] es E second F → StepsTo none_kept (all_stopped (end_of gone_kind.Failed)) [] second F [] G →
       FoldsOne (statement_flow n r (observe e)) es E first G
   fold_observe e es E first second F G d c a = fold_each (observe e) (statement_weighted n r (observe e)) (λ s. seen_end (value_of e s) s) (λ I. []) (kept_if (holds (value_of e))) (seen_stop e) es E first G
-      (λ s. by_one (value_of e s) s) (λ H s. by_on H (value_of e s) s) (λ H s. by_gone H (value_of e s) s)
+      (λ s. seen_sure (value_of e s) s) (λ H s. by_on H (value_of e s) s) (λ H s. by_gone H (value_of e s) s)
       (λ N Np b h w. let p = d N Np tt h w in let q = c N Np tt h w in let t = a N Np tt q.kept p.ended in
       record {
         kept = p.kept;
@@ -225,14 +207,6 @@ module _ (n : ℕ) (r : Option ℕ) where
       held_sum : (N : ℕ) (X Y : State → ℕ) (es : Entries) → held N (λ s. X s + Y s) es ≡ held N X es + held N Y es
       held_sum N X Y [] = refl
       held_sum N X Y (e ∷ es) = let i = held_sum N X Y es in omega arith
-
-      by_one : (v : Value) (s : State) → by_value (λ f. sure (fault f)) v (λ z. by_truth z (sure (on s)) (sure failed)) ≡ sure (seen_end v s)
-      by_one (Ok z) s = by_zero (is_zero z)
-        where
-          by_zero : (b : Bool) → cond b (sure failed) (sure (on s)) ≡ sure (cond b failed (on s))
-          by_zero true = refl
-          by_zero false = refl
-      by_one (Err f) s = refl
 
       by_on : (H : State → ℕ) (v : Value) (s : State) → at_on H (seen_end v s) ≡ cond (by_value (λ f. false) v (λ z. not (is_zero z))) (H s) 0
       by_on H (Ok z) s = by_zero (is_zero z)
@@ -351,7 +325,7 @@ module _ (n : ℕ) (r : Option ℕ) where
         let m = drawn_whole x v r N I w.before w.after w.inside.ended in
         (shares_stand (part_at v r) (part_above v r) N es I Np o w.before m.0 s, shares_stand (rest_at v r) (rest_above v r) N es I Np o w.before m.1 s)
 
-    pub fold_draw : (fs : Entries) (F : Ended) → DrawsTo (part_at (value_of e) r) (rest_at (value_of e) r) (drawn x (value_of e)) (undrawn (value_of e)) es E fs F → FoldsOne (statement_flow n r (uniform x e)) es E fs F
+    pub fold_draw : (fs : Entries) (F : Ended) → UniformTo x (value_of e) r es E fs F → FoldsOne (statement_flow n r (uniform x e)) es E fs F
     fold_draw fs F d N L I J Np s t w =
         let v = value_of e in
         let h = drawn_shares N L I Np s w in
@@ -360,7 +334,7 @@ module _ (n : ℕ) (r : Option ℕ) where
           record { kept = u.ended; same = λ G. let a = u.stopping G in let b = h.1.1 (undrawn v G) in let c = drawn_ended x v r N G I in let k = t.same G in let i = amount_append N G J (statement_flow n r (uniform x e) I).ended in omega arith },
         )
 
-    pub draw_blames : (error : MassError) → DrawBlames (part_at (value_of e) r) (rest_at (value_of e) r) (drawn x (value_of e)) (undrawn (value_of e)) es E error → OneBlames (statement_flow n r (uniform x e)) es E error
+    pub draw_blames : (error : MassError) → UniformBlames x (value_of e) r es E error → OneBlames (statement_flow n r (uniform x e)) es E error
     draw_blames error d N L I J Np s t w m =
         let v = value_of e in
         let f = statement_flow n r (uniform x e) I in

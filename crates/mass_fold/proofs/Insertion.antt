@@ -10,21 +10,17 @@ use Rattle.std.proofs.lemmas.Map.Entries.{none_below_head}
 use Rattle.std.proofs.lemmas.Map.Keys.{sorted_tail}
 use Rattle.gcl_core.specs.Fractions.{Fraction}
 use Rattle.frac128.specs.Fraction.{InLowest, sum_of}
-use Rattle.frac128.proofs.Divisors.{product_pos}
+use Rattle.frac128.proofs.Divisors.{product_pos, factor_pos}
 use Rattle.mass_tables.specs.Scale.{whole, Whole}
 use Rattle.mass_tables.proofs.Wholes.{sum_whole, sum_refused}
 use Rattle.mass_fold.specs.Amounts.{held, Held, PutGives, found, SumAt}
 
-product_above : (a b : ℕ) → 0 < a * b → 0 < b
-product_above a zero h = absurd (omega arith)
-product_above a (suc b) h = omega arith
-
-product_below : (a b : ℕ) → 0 < a * b → 0 < a
+pub product_below : (a b : ℕ) → 0 < a * b → 0 < a
 product_below zero b h = absurd (omega arith)
 product_below (suc a) b h = omega arith
 
 pub whole_pos : (N : ℕ) (p : Fraction) → 0 < N → 0 < p.0 → Whole N p → 0 < whole N p
-whole_pos N p pos q w = product_above p.1 (whole N p) (let m = product_pos p.0 N q pos in omega (arith, w.exact))
+whole_pos N p pos q w = factor_pos p.1 (whole N p) (p.0 * N) (product_pos p.0 N q pos) w.exact
 
 pub numerator_pos : (N : ℕ) (p : Fraction) → Whole N p → 0 < whole N p → 0 < p.0
 numerator_pos N p w h = product_below p.0 N (let m = product_pos p.1 (whole N p) w.positive h in omega (arith, w.exact))

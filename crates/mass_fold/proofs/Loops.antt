@@ -9,8 +9,9 @@ use Rattle.gcl_core.specs.WeightedEnds.{Weighted}
 use Rattle.mass_tables.specs.Tables.{Table, Flow, holds, fails, only, faults, all_end, loop_flow, block_flow, states}
 use Rattle.mass_tables.specs.Scale.{Within, amount, weight}
 use Rattle.mass_tables.specs.Counts.{stopped, kept_if, none_kept, none_stopped, all_kept, all_stopped}
-use Rattle.mass_tables.proofs.Amounts.{amount_append, amount_all_end, tables_first, tables_second, ends_first, ends_second, draws_first, draws_second}
+use Rattle.mass_tables.proofs.Amounts.{amount_append, amount_all_end, tables_first, tables_second, ends_first, ends_second, all_first, all_second}
 use Rattle.mass_tables.proofs.Kept.{kept_all, kept_turns, guard_weight}
+use Rattle.mass_tables.proofs.NoneReached.{none_counts}
 use Rattle.mass_fold.specs.declared.error.MassError.{MassError}
 use Rattle.mass_fold.specs.declared.ended.Gone.TheVariants as gone_kind
 use Rattle.mass_fold.specs.declared.ended.Ended.{Ended}
@@ -18,7 +19,7 @@ use Rattle.mass_fold.specs.Amounts.{Entries, held}
 use Rattle.mass_fold.specs.Ended.{end_of}
 use Rattle.mass_fold.specs.Steps.{StepsTo, StepBlames}
 use Rattle.mass_fold.specs.Fold.{Stands, FoldsTo, FoldBlames, FoldsOne, OneBlames, LoopAt, LoopsOn}
-use Rattle.mass_fold.proofs.Folds.{stands_along, end_along, zero_counts, merged, merge_blamed, split_blamed, end_blamed, looked_first, looked_second}
+use Rattle.mass_fold.proofs.Folds.{stands_along, end_along, merged, merge_blamed, split_blamed, end_blamed, looked_first, looked_second}
 
 -- ---- loops
 module _ (n : ℕ) (r : Option ℕ) (e : Expression) (b : Statements) (es : Entries) (E : Ended) where
@@ -53,8 +54,8 @@ module _ (n : ℕ) (r : Option ℕ) (e : Expression) (b : Statements) (es : Entr
   turn_inside N L t K w =
       let f = body (only (holds v) K) in
       let g = turns t f.next in (
-        record { tables = tables_first N L f.tables g.tables w.tables.2; ended = ends_first N f.ended g.ended (ends_second N (faults v K) (f.ended ++ g.ended) w.ended); draws = draws_first N f.draws g.draws w.draws },
-        record { tables = tables_second N L f.tables g.tables w.tables.2; ended = ends_second N f.ended g.ended (ends_second N (faults v K) (f.ended ++ g.ended) w.ended); draws = draws_second N f.draws g.draws w.draws },
+        record { tables = tables_first N L f.tables g.tables w.tables.2; ended = ends_first N f.ended g.ended (ends_second N (faults v K) (f.ended ++ g.ended) w.ended); draws = all_first N f.draws g.draws w.draws },
+        record { tables = tables_second N L f.tables g.tables w.tables.2; ended = ends_second N f.ended g.ended (ends_second N (faults v K) (f.ended ++ g.ended) w.ended); draws = all_second N f.draws g.draws w.draws },
       )
 
   -- what stands of weight in the midst of a loop
@@ -81,8 +82,8 @@ module _ (n : ℕ) (r : Option ℕ) (e : Expression) (b : Statements) (es : Entr
         let rest = turns t at.table in
         let k = kept_turns n r N L v b (kept_all n r N L b wb) t at.table at.inside in
         let z : weight N at.table ≡ 0 = sym (at.stands.same (λ s. 1)) ∙ ap (held N (λ s. 1)) e in (
-          stands_along N exits at.out (turns n I).next (λ U. let a = at.going U in let c = zero_counts N U rest.next (omega arith) in omega arith) at.collected,
-          end_along N F at.gone (J ++ (turns n I).ended) (λ U. let a = at.stopping U in let c = zero_counts N U rest.ended (omega arith) in let o = amount_append N U J (turns n I).ended in omega arith) at.stopped,
+          stands_along N exits at.out (turns n I).next (λ U. let a = at.going U in let c = none_counts N U rest.next (omega arith) in omega arith) at.collected,
+          end_along N F at.gone (J ++ (turns n I).ended) (λ U. let a = at.stopping U in let c = none_counts N U rest.ended (omega arith) in let o = amount_append N U J (turns n I).ended in omega arith) at.stopped,
         )
 
     module _ (first second : Entries) (G : Ended) (d : StepsTo (kept_if (holds v)) (stopped v) [] now F first G) (c : StepsTo (kept_if (fails v)) (stopped v) [] now F second G) where

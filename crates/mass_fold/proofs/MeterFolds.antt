@@ -9,12 +9,12 @@ use Rattle.gcl_core.specs.Bounds.{IsWeight, StatementIsWeighed}
 use Rattle.gcl_core.specs.Value.{State, Value, value_of}
 use Rattle.gcl_core.specs.Blocks.{by_value, by_bound, choice_ends, uniform_ends}
 use Rattle.gcl_core.specs.Draw.{last_end}
+use Rattle.gcl_core.proofs.EqualClasses.{last_of_equal}
 use Rattle.mass_tables.specs.Tables.{Table, Flow, holds, fails, only, faults, statement_flow, block_flow}
 use Rattle.mass_tables.specs.Reached.{Reached, drawn_each, drawn_bound, statement_draws, block_draws}
 use Rattle.mass_tables.specs.Scale.{amount, weight}
 use Rattle.mass_tables.specs.Counts.{stopped, kept_if}
 use Rattle.mass_tables.proofs.Amounts.{amount_append, both_first, both_second}
-use Rattle.mass_tables.proofs.Draws.{uniform_last}
 use Rattle.mass_tables.proofs.NoneReached.{amount_drawn_each, amount_drawn_bound, none_one}
 use Rattle.mass_fold.specs.declared.ended.Ended.{Ended}
 use Rattle.mass_fold.specs.declared.meter.Meter.{Meter}
@@ -58,7 +58,7 @@ bound_priced r M v (e ∷ I) k =
   where
     by_sign : (z : ℤ) → Priced r M (by_bound z [] (λ m. (e.0, uniform_ends m) ∷ [])) → IsValuePriced r M (Ok z)
     by_sign (pos zero) k = tt
-    by_sign (pos (suc m)) k = subst (IsPriced r M) (uniform_last (suc m)) k.0
+    by_sign (pos (suc m)) k = subst (IsPriced r M) (last_of_equal (suc m)) k.0
     by_sign (negsuc m) k = tt
 
     by_state : (o : Value) → Priced r M (by_value (λ f. []) o (λ v. by_bound v [] (λ m. (e.0, uniform_ends m) ∷ []))) → IsValuePriced r M o

@@ -10,9 +10,8 @@ use Rattle.gcl_core.specs.Outcomes.{same_outcome}
 use Rattle.gcl_core.proofs.OutcomeOrder.{before_differs, after_differs}
 use Rattle.gcl_core.proofs.SameOutcomes.{same_outcomes, outcome_itself}
 use Rattle.frac128.specs.Fraction.{InLowest, IsEqual, lowest}
-use Rattle.frac128.proofs.Divisors.{gauss, along_to, lowest_from, product_pos}
+use Rattle.frac128.proofs.Divisors.{gauss, along_to, lowest_from, product_pos, cancel, factor_pos}
 use Rattle.mass_tables.specs.Scale.{whole, Whole}
-use Rattle.mass_tables.proofs.Wholes.{cancel}
 use Rattle.mass_fold.specs.declared.error.MassError.{MassError}
 use Rattle.mass_fold.specs.Amounts.{held, Held}
 use Rattle.mass_fold.specs.Masses.{counted, Holds}
@@ -20,10 +19,6 @@ use Rattle.mass_fold.specs.Rows.{Rows, outcomes_of, Ascending, EachLowest, AreMa
 use Rattle.mass_fold.proofs.Insertion.{whole_pos}
 
 -- ---- lowest terms of one value
-
-factor_pos : (c d b : ℕ) → 0 < b → d * c ≡ b → 0 < c
-factor_pos zero d b pos e = absurd (omega arith)
-factor_pos (suc c) d b pos e = omega arith
 
 -- lowest terms of a value are those of each fraction of it
 pub lowest_is : (f g : Fraction) → InLowest f → 0 < g.1 → IsEqual f g → f ≡ lowest g
@@ -34,7 +29,7 @@ lowest_is f g l pos e =
     let h : f.1 * c ≡ g.1 = mul-div_cancel' f.1 d in
     let k : c * f.1 ≡ g.1 = omega arith in
     let m : g.0 ≡ c * f.0 = cancel f.1 _ _ fp (across f.0 f.1 g.0 g.1 c e k) in
-    sym (ap (λ n. lowest (n, g.1)) m ∙ ap (λ n. lowest (c * f.0, n)) (sym k) ∙ lowest_from c f.0 f.1 (factor_pos c f.1 g.1 pos h) fp l.coprime)
+    sym (ap (λ n. lowest (n, g.1)) m ∙ ap (λ n. lowest (c * f.0, n)) (sym k) ∙ lowest_from c f.0 f.1 (factor_pos f.1 c g.1 pos h) fp l.coprime)
   where
     across : (n d a b c : ℕ) → n * b ≡ a * d → c * d ≡ b → d * a ≡ d * (c * n)
     across n d a b c e k = let x = ap (λ z. n * z) k in omega arith
@@ -124,7 +119,7 @@ module _ (N : ℕ) (mass : (Outcome → Bool) → Fraction) (rows : Rows) (holds
       let q : m.1 * whole N f ≡ m.0 * N = ap (λ W. m.1 * W) (sym r.sum) ∙ holds.sums (same_outcome x) in
       let w = whole_pos N f holds.positive r.positive r.exact in
       record {
-        positive = factor_pos m.0 N (m.1 * whole N f) (product_pos m.1 (whole N f) (holds.fraction (same_outcome x)) w) (let z : N * m.0 ≡ m.0 * N = omega arith in z ∙ sym q);
+        positive = factor_pos N m.0 (m.1 * whole N f) (product_pos m.1 (whole N f) (holds.fraction (same_outcome x)) w) (let z : N * m.0 ≡ m.0 * N = omega arith in z ∙ sym q);
         is = lowest_is f m r.in_lowest (holds.fraction (same_outcome x)) (one_value N (whole N f) f m holds.positive r.exact.exact q);
       }
 
@@ -132,7 +127,7 @@ module _ (N : ℕ) (mass : (Outcome → Bool) → Fraction) (rows : Rows) (holds
   has_row x h =
       let m = mass_at x in
       let W = held N (here x) rows in
-      let p : 0 < W = factor_pos W m.1 (m.0 * N) (product_pos m.0 N h holds.positive) (holds.sums (same_outcome x)) in
+      let p : 0 < W = factor_pos m.1 W (m.0 * N) (product_pos m.0 N h holds.positive) (holds.sums (same_outcome x)) in
       let r = row_of N x rows p in
       subst (λ f. Contains rows (x, f)) (is_mass x r.0 r.1).is r.1
 

@@ -11,9 +11,9 @@ use Rattle.gcl_core.specs.OneDraw.{called_again}
 use Rattle.gcl_core.specs.Fractions.{Fraction, times, power}
 use Rattle.gcl_core.specs.WeightedEnds.{class_weight, no_class_weight}
 use Rattle.frac128.specs.Fraction.{lowest, InLowest, IsEqual, fits, product_of}
-use Rattle.frac128.proofs.Divisors.{coprime_parts, coprime_product, coprime_products, product_pos, lowest_in_lowest, lowest_equal}
+use Rattle.frac128.proofs.Divisors.{coprime_parts, coprime_product, coprime_products, product_pos, lowest_in_lowest, lowest_equal, cancel, equal_trans}
 use Rattle.mass_tables.specs.Scale.{whole, Whole}
-use Rattle.mass_tables.proofs.Wholes.{whole_from, cancel, lowest_divides, product_refused}
+use Rattle.mass_tables.proofs.Wholes.{whole_from, lowest_divides, product_refused}
 use Rattle.mass_tables.proofs.Draws.{each_part, no_part, all_parts, parts_add_up}
 use Rattle.mass_fold.specs.Steps.{IsPower, PowerBlames, IsParts}
 
@@ -176,11 +176,7 @@ module _ (b : ℕ) (bp : 1 ≤ b) where
     -- the power of what is called again
     rest_as : (rest : Fraction) → IsPower again r rest → rest.0 * D ≡ Q * rest.1
     rest_as rest i =
-        let P = power again r in
-        cancel P.1 _ _ (power_pos again l r) (joined rest.0 rest.1 P.0 P.1 Q D i.is (power_as again (called_again b) (bits_for b) is r))
-      where
-        joined : (x y P0 P1 Q D : ℕ) → x * P1 ≡ P0 * y → P0 * D ≡ Q * P1 → P1 * (x * D) ≡ P1 * (Q * y)
-        joined x y P0 P1 Q D e i = let a = ap (λ z. z * D) e in let c = ap (λ z. z * y) i in omega arith
+        equal_trans rest (power again r) (Q, D) (power_pos again l r) i.is (power_as again (called_again b) (bits_for b) is r)
 
     pub parts_refused : PowerBlames again r → (N L : ℕ) → 0 < N → Whole N (class_weight b (Some r) 1) → Whole N (no_class_weight b (Some r)) → 2 ^ 128 ≤ N
     parts_refused h N L Np w v = h N Np (equal_whole N (power again r) (no_class_weight b (Some r)) (power_pos again l r) (power_as again (called_again b) (bits_for b) is r) v).1

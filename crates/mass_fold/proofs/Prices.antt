@@ -5,9 +5,9 @@ use Rattle.gcl_core.specs.Blocks.{by_value, by_bound, uniform_ends}
 use Rattle.gcl_core.specs.Draw.{last_end}
 use Rattle.gcl_core.specs.Fractions.{Fraction}
 use Rattle.gcl_core.specs.WeightedEnds.{class_weight}
+use Rattle.gcl_core.proofs.EqualClasses.{last_of_equal}
 use Rattle.cost_law.specs.ExpectedBits.{attempt_bits}
 use Rattle.mass_tables.specs.Scale.{whole, Whole}
-use Rattle.mass_tables.proofs.Draws.{uniform_last}
 use Rattle.mass_fold.specs.declared.error.MassError.{MassError}
 use Rattle.mass_fold.specs.declared.error.MassError.TheVariants as error_kind
 use Rattle.mass_fold.specs.declared.meter.Meter.{Meter}
@@ -40,7 +40,7 @@ module _ (ends : List ℕ) (b : ℕ) (l : last_end ends ≡ b) (r : Option ℕ) 
 module _ (v : State → Value) (r : Option ℕ) (s : State) where
   at_bound : (M m : ℕ) → v s ≡ Ok (pos (suc m)) → IsBoundPriced v r M s → IsPriced r M (suc m) × (bound_price v r M s ≡ (attempt_bits (uniform_ends (suc m))).0 * whole M (class_weight (suc m) r 1))
   at_bound M m e k =
-      (subst (IsValuePriced r M) e k, ap (λ o. by_value (λ f. 0) o (λ z. by_bound z 0 (λ m. price r M (uniform_ends m)))) e ∙ ap (λ b. (attempt_bits (uniform_ends (suc m))).0 * whole M (class_weight b r 1)) (uniform_last (suc m)))
+      (subst (IsValuePriced r M) e k, ap (λ o. by_value (λ f. 0) o (λ z. by_bound z 0 (λ m. price r M (uniform_ends m)))) e ∙ ap (λ b. (attempt_bits (uniform_ends (suc m))).0 * whole M (class_weight b r 1)) (last_of_equal (suc m)))
 
   module _ (m k u : ℕ) (e : v s ≡ Ok (pos (suc m))) (c : k ≡ suc m) (d : u ≡ (attempt_bits (uniform_ends k)).0) where
     here : u ≡ (attempt_bits (uniform_ends (suc m))).0

@@ -5,7 +5,7 @@ use Rattle.gcl_core.specs.Fractions.{Fraction, times}
 use Rattle.frac128.specs.Fraction.{InLowest, sum_of, product_of}
 use Rattle.frac128.proofs.Divisors.{product_pos, lowest_in_lowest}
 use Rattle.mass_tables.specs.Scale.{whole, Whole}
-use Rattle.mass_tables.proofs.Wholes.{whole_from, sum_whole, sum_wide, product_whole, product_wide}
+use Rattle.mass_tables.proofs.Wholes.{whole_from, sum_whole, sum_wide, product_whole, product_wide, whole_multiple}
 use Rattle.mass_fold.specs.Rounds.{geometric, scale_of, AreParts, MayRepeat, IsRepeated, RepeatBlames}
 use Rattle.mass_fold.proofs.Powers.{product_is}
 
@@ -56,11 +56,8 @@ module _ (s f : Fraction) where
   repeated_never (suc k) h z N Np ws wf =
       let D = f.1 ^ k in
       let W = whole N s in
-      let x = whole_from (N * D) s (D * W) ws.positive (exact s.0 s.1 W N D ws.exact) in
+      let x = whole_multiple N D s ws in
       (x.1, x.0 ∙ (let y = ap (λ n. (D + n * geometric f k) * W) z in let u : (D + 0 * geometric f k) * W ≡ D * W = omega arith in sym (y ∙ u)))
-    where
-      exact : (a b W N D : ℕ) → b * W ≡ a * N → b * (D * W) ≡ a * (N * D)
-      exact a b W N D e = let x = ap (λ z. D * z) e in omega arith
 
   module _ (j : ℕ) (t : Fraction) (is : IsRepeated s f (suc j) t) (N : ℕ) (Np : 0 < N) (ws : Whole N s) (wf : Whole N f) where
     abbrev M : ℕ
@@ -73,10 +70,7 @@ module _ (s f : Fraction) where
     pos = product_pos N (f.1 ^ suc j) Np (one-le-pow (suc j) f.1 wf.positive)
 
     first_part : (whole M s ≡ f.1 ^ suc j * W) × Whole M s
-    first_part = whole_from M s (f.1 ^ suc j * W) ws.positive (exact s.0 s.1 W N (f.1 ^ suc j) ws.exact)
-      where
-        exact : (a b W N D : ℕ) → b * W ≡ a * N → b * (D * W) ≡ a * (N * D)
-        exact a b W N D e = let x = ap (λ z. D * z) e in omega arith
+    first_part = whole_multiple N (f.1 ^ suc j) s ws
 
     second_part : (whole M (times f t) ≡ f.0 * (geometric f (suc j) * W)) × Whole M (times f t)
     second_part =

@@ -11,13 +11,15 @@ use Rattle.gcl_core.specs.Blocks.{by_value, by_bound}
 use Rattle.gcl_core.specs.Fractions.{Fraction, times, one}
 use Rattle.gcl_core.specs.WeightedEnds.{scaled, class_weight, no_class_weight}
 use Rattle.frac128.specs.Fraction.{IsEqual}
-use Rattle.frac128.proofs.Divisors.{product_pos, along_to}
+use Rattle.frac128.proofs.Divisors.{product_pos, along_to, cancel}
 use Rattle.mass_tables.specs.Tables.{Table, bound_draws, draw_weights}
 use Rattle.mass_tables.specs.Scale.{whole, Whole, Wholes, AllWhole, amount}
 use Rattle.mass_tables.specs.Counts.{multiplied, part_at, rest_at}
-use Rattle.mass_tables.proofs.Amounts.{draws_first, draws_second}
-use Rattle.mass_tables.proofs.Wholes.{whole_from, cancel}
+use Rattle.mass_tables.proofs.Amounts.{all_first, all_second}
+use Rattle.mass_tables.proofs.Wholes.{whole_from}
 use Rattle.mass_tables.proofs.Draws.{share, class_pos, no_class_pos}
+use Rattle.mass_tables.proofs.EqualFractions.{equal_times}
+use Rattle.mass_tables.proofs.Kept.{times_swap}
 use Rattle.mass_fold.specs.Amounts.{Entries, held, Held, order}
 use Rattle.mass_fold.specs.Steps.{Shares, shared, EachState, Draws}
 use Rattle.mass_fold.specs.Fold.{Stands}
@@ -153,16 +155,10 @@ pub shares_equal : (N : ℕ) (p q : State → Fraction) (es : Entries) → ((s :
 shares_equal N p q [] h e k s = (tt, λ G. refl)
 shares_equal N p q (d ∷ es) h e k s =
     let i = shares_equal N p q es h e k.2 s.1 in
-    let x = equal_whole N (times d.1 (q d.0)) (times d.1 (p d.0)) (product_pos d.1.1 (q d.0).1 k.1.positive (h d.0)) (crossed d.1.0 d.1.1 (q d.0).0 (q d.0).1 (p d.0).0 (p d.0).1 (e d.0)) s.0 in
+    let x = equal_whole N (times d.1 (q d.0)) (times d.1 (p d.0)) (product_pos d.1.1 (q d.0).1 k.1.positive (h d.0)) (equal_times d.1 d.1 (q d.0) (p d.0) refl (e d.0)) s.0 in
     ((x.1, i.0), λ G. let y = i.1 G in let z = ap (λ u. u * G d.0) x.0 in omega arith)
-  where
-    crossed : (f0 f1 w0 w1 u0 u1 : ℕ) → w0 * u1 ≡ u0 * w1 → f0 * w0 * (f1 * u1) ≡ f0 * u0 * (f1 * w1)
-    crossed f0 f1 w0 w1 u0 u1 e = let z = ap (λ x. x * (f0 * f1)) e in omega arith
 
 -- ---- one weight for all states
-times_swap : (p q : Fraction) → times p q ≡ times q p
-times_swap p q = let a : p.0 * q.0 ≡ q.0 * p.0 = omega arith in let b : p.1 * q.1 ≡ q.1 * p.1 = omega arith in ap (λ x. (x, p.1 * q.1)) a ∙ ap (λ y. (q.0 * p.0, y)) b
-
 zero_product : (N : ℕ) (f : Fraction) (d : ℕ) → 0 < f.1 → 0 < d → (whole N (times f (0, d)) ≡ 0) × Whole N (times f (0, d))
 zero_product N f d h k = whole_from N (times f (0, d)) 0 (product_pos f.1 d h k) (let z : f.0 * 0 ≡ 0 = omega arith in rw z (omega arith))
 
@@ -216,7 +212,7 @@ rest_above v r s = by_state (v s)
 
 pub draws_in : (N : ℕ) (v : State → Value) (r : Option ℕ) (I : Table) → AllWhole N (bound_draws v r I) → EachIn (Draws N (part_at v r) (rest_at v r)) I
 draws_in N v r [] h = tt
-draws_in N v r (e ∷ I) h = (by_state (v e.1) (draws_first N _ (bound_draws v r I) h), draws_in N v r I (draws_second N (by_value (λ f. []) (v e.1) (λ v. by_bound v [] (λ m. draw_weights m r))) (bound_draws v r I) h))
+draws_in N v r (e ∷ I) h = (by_state (v e.1) (all_first N _ (bound_draws v r I) h), draws_in N v r I (all_second N (by_value (λ f. []) (v e.1) (λ v. by_bound v [] (λ m. draw_weights m r))) (bound_draws v r I) h))
   where
     by_sign : (z : ℤ) → AllWhole N (by_bound z [] (λ m. draw_weights m r)) → Whole N (by_bound z one (λ m. class_weight m r 1)) × Whole N (by_bound z one (λ m. no_class_weight m r))
     by_sign (pos zero) k = (whole_one N, whole_one N)

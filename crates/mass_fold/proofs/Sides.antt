@@ -11,13 +11,13 @@ use Rattle.gcl_core.specs.Blocks.{End, limit}
 use Rattle.gcl_core.specs.Fractions.{Fraction, times}
 use Rattle.gcl_core.specs.WeightedEnds.{Weighted, scaled, class_weight, no_class_weight}
 use Rattle.frac128.specs.Fraction.{IsEqual, product_of}
-use Rattle.frac128.proofs.Divisors.{product_pos}
+use Rattle.frac128.proofs.Divisors.{product_pos, cancel}
 use Rattle.mass_tables.specs.Tables.{Table, all_end, both, statement_flow, block_flow, draws_each, draw_weights}
 use Rattle.mass_tables.specs.Scale.{whole, Whole, Wholes, AllWhole, Within, amount, weight}
 use Rattle.mass_tables.specs.Counts.{none_kept, none_stopped, all_kept, all_stopped}
-use Rattle.mass_tables.proofs.Amounts.{amount_append, amount_all_end, ends_first, draws_first, draws_second, both_first, both_second, regroup}
+use Rattle.mass_tables.proofs.Amounts.{amount_append, amount_all_end, ends_first, all_first, all_second, both_first, both_second, regroup}
 use Rattle.mass_tables.proofs.Kept.{kept_one, kept_all, all_end_weight, ends_whole, choice_kept}
-use Rattle.mass_tables.proofs.Wholes.{whole_from, cancel, product_refused}
+use Rattle.mass_tables.proofs.Wholes.{whole_from, product_refused}
 use Rattle.mass_tables.proofs.Draws.{each_part, class_pos, no_class_pos, parts_add_up}
 use Rattle.mass_fold.specs.declared.error.MassError.{MassError}
 use Rattle.mass_fold.specs.declared.error.MassError.TheVariants.{TooWide}
@@ -27,7 +27,7 @@ use Rattle.mass_fold.specs.Amounts.{Entries, order}
 use Rattle.mass_fold.specs.Ended.{end_of, rows_of}
 use Rattle.mass_fold.specs.Steps.{StepsTo, StepBlames, EachState, Draws, DrawsTo, DrawBlames, IsParts}
 use Rattle.mass_fold.specs.Fold.{Stands, FoldsTo, FoldBlames, Around, FoldsOne, OneBlames, UndecidedTo, UndecidedBlames, WeighedBy, WeighBlamesBy, SidesWithin, SidesTo, SidesBlame}
-use Rattle.mass_fold.proofs.Insertion.{whole_pos}
+use Rattle.mass_fold.proofs.Insertion.{whole_pos, product_below}
 use Rattle.mass_fold.proofs.Powers.{equal_whole, whole_at_most, product_equal}
 use Rattle.mass_fold.proofs.Shares.{scaled_stands}
 use Rattle.mass_fold.proofs.Folds.{end_along, merged, merge_blamed, head_few, shared_none}
@@ -98,10 +98,6 @@ module _ (part over w : Fraction) (count : ℕ) (es : Entries) (op : 0 < over.1)
     pub side_above : 0 < part.0 → (count ≡ 0 → ⊥) → 1 ≤ w.0
     side_above ap cp = above part.0 part.1 over.0 over.1 w.0 w.1 count ap op wp oe (product_equal part over w e) cp
       where
-        right : (x y : ℕ) → 0 < x * y → 0 < x
-        right zero y h = absurd (omega arith)
-        right (suc x) y h = omega arith
-
         counted : (n o p : ℕ) → 0 < p → o * 1 ≡ n * p → (n ≡ 0 → ⊥) → 0 < o
         counted zero o p pp f h = absurd (h refl)
         counted (suc n) o p pp f h = let z : suc n * p ≡ p + n * p = omega arith in omega arith
@@ -110,7 +106,7 @@ module _ (part over w : Fraction) (count : ℕ) (es : Entries) (op : 0 < over.1)
         above a b o p x y n ap pp yp f g h =
             let oo = counted n o p pp f h in
             let z = product_pos (a * o) y (product_pos a o ap oo) yp in
-            let k = right x (b * p) (omega arith) in
+            let k = product_below x (b * p) (omega arith) in
             omega arith
 
 -- ---- both sides of a choice
@@ -184,7 +180,7 @@ module _ (p : Weight) (r : Option ℕ) (w : IsWeight p) (es : Entries) (E : Ende
 pub draws_head : (N : ℕ) (es : Entries) (I : Table) (ws : List Fraction) → 0 < N → Stands N es I → (es ≡ [] → ⊥) → AllWhole N (draws_each ws I) → AllWhole N ws
 draws_head N [] I ws Np s h w = absurd (h refl)
 draws_head N (d ∷ es) [] ws Np s h w = absurd (let z = s.same (λ s. 1) in let y = whole_pos N d.1 Np s.kept.0 s.kept.1 in omega arith)
-draws_head N (d ∷ es) (e ∷ I) ws Np s h w = draws_first N ws (draws_each ws I) w
+draws_head N (d ∷ es) (e ∷ I) ws Np s h w = all_first N ws (draws_each ws I) w
 
 module _ (n : ℕ) (r : Option ℕ) (p : Weight) (a c : Statements) (w : IsWeight p) (es : Entries) (E : Ended) where
   abbrev pub A : Table → Table
@@ -197,7 +193,7 @@ module _ (n : ℕ) (r : Option ℕ) (p : Weight) (a c : Statements) (w : IsWeigh
   Z I = all_end (limit limit_kind.Attempts) (scaled (no_class_weight p.den r) I)
 
   pub inside : (N L : ℕ) (I : Table) → Around N L I (statement_flow n r (choice p a c) I) → Within N L (both (Z I) (block_flow n r a (A I)) (block_flow n r c (C I)))
-  inside N L I h = record { tables = h.inside.tables; ended = h.inside.ended; draws = draws_second N (draws_each (draw_weights p.den r) I) ((block_flow n r a (A I)).draws ++ (block_flow n r c (C I)).draws) h.inside.draws }
+  inside N L I h = record { tables = h.inside.tables; ended = h.inside.ended; draws = all_second N (draws_each (draw_weights p.den r) I) ((block_flow n r a (A I)).draws ++ (block_flow n r c (C I)).draws) h.inside.draws }
 
   pub sides_within : (N L : ℕ) (I : Table) → Around N L I (statement_flow n r (choice p a c) I) → SidesWithin N L p r I
   sides_within N L I h =
@@ -210,7 +206,7 @@ module _ (n : ℕ) (r : Option ℕ) (p : Weight) (a c : Statements) (w : IsWeigh
 
   pub sides_blame : (error : MassError) → (es ≡ [] → ⊥) → SidesBlame p r es E error → OneBlames (statement_flow n r (choice p a c)) es E error
   sides_blame error some d N L I J Np s t h m =
-      let ds = draws_first N (draws_each (draw_weights p.den r) I) ((block_flow n r a (A I)).draws ++ (block_flow n r c (C I)).draws) h.inside.draws in
+      let ds = all_first N (draws_each (draw_weights p.den r) I) ((block_flow n r a (A I)).draws ++ (block_flow n r c (C I)).draws) h.inside.draws in
       let dw = draws_head N es I (draw_weights p.den r) Np s some ds in
       d N L I J Np s t (record { one = dw.0; none = dw.1.0 }) (sides_within N L I h) m
 
@@ -275,9 +271,5 @@ as_count n k f p e = subst (λ k. IsEqual f (k, 1)) p e
 pub part_above_zero : (b : ℕ) (r : Option ℕ) (part rest : Fraction) → 1 ≤ b → 0 < (class_weight b r 1).0 → IsParts b r part rest → 1 ≤ part.0
 part_above_zero b r part rest h k is = above part.0 part.1 (class_weight b r 1).0 (class_weight b r 1).1 k is.part_positive is.part_is
   where
-    right : (x y : ℕ) → 0 < x * y → 0 < x
-    right zero y h = absurd (omega arith)
-    right (suc x) y h = omega arith
-
     above : (x y c d : ℕ) → 0 < c → 0 < y → x * d ≡ c * y → 1 ≤ x
-    above x y c d cp yp e = let z = product_pos c y cp yp in let k = right x d (omega arith) in omega arith
+    above x y c d cp yp e = let z = product_pos c y cp yp in let k = product_below x d (omega arith) in omega arith

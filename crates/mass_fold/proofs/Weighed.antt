@@ -11,8 +11,7 @@ use Rattle.gcl_core.specs.StringWeight.{outcome_weight}
 use Rattle.gcl_core.specs.Syntax.{Source}
 use Rattle.frac128.specs.Divisor.{gcd}
 use Rattle.frac128.specs.Fraction.{lowest}
-use Rattle.frac128.proofs.Divisors.{gcd_is, gcd_pos}
-use Rattle.mass_tables.proofs.Wholes.{cancel}
+use Rattle.frac128.proofs.Divisors.{gcd_is, gcd_pos, cancel}
 use Rattle.weighing_law.specs.Weighing.{WeighsExactly, limited_mass}
 use Rattle.mass_fold.specs.Rows.{Rows, AreMasses}
 use Rattle.mass_fold.specs.Weighed.{AreWeighed}

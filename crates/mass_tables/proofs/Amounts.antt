@@ -98,19 +98,19 @@ pub ends_second : {A : Type 0} (N : ℕ) (m n : Weighted A) → Wholes N (m ++ n
 ends_second N [] n w = w
 ends_second N (e ∷ m) n w = ends_second N m n w.1
 
-pub draws_first : (N : ℕ) (ps qs : List Fraction) → AllWhole N (ps ++ qs) → AllWhole N ps
-draws_first N [] qs w = tt
-draws_first N (p ∷ ps) qs w = (w.0, draws_first N ps qs w.1)
+pub all_first : (N : ℕ) (ps qs : List Fraction) → AllWhole N (ps ++ qs) → AllWhole N ps
+all_first N [] qs w = tt
+all_first N (p ∷ ps) qs w = (w.0, all_first N ps qs w.1)
 
-pub draws_second : (N : ℕ) (ps qs : List Fraction) → AllWhole N (ps ++ qs) → AllWhole N qs
-draws_second N [] qs w = w
-draws_second N (p ∷ ps) qs w = draws_second N ps qs w.1
+pub all_second : (N : ℕ) (ps qs : List Fraction) → AllWhole N (ps ++ qs) → AllWhole N qs
+all_second N [] qs w = w
+all_second N (p ∷ ps) qs w = all_second N ps qs w.1
 
 pub both_first : (N L : ℕ) (x : Weighted End) (f g : Flow) → Within N L (both x f g) → Within N L f
-both_first N L x f g s = record { tables = tables_first N L f.tables g.tables s.tables; ended = ends_first N f.ended g.ended (ends_second N x (f.ended ++ g.ended) s.ended); draws = draws_first N f.draws g.draws s.draws }
+both_first N L x f g s = record { tables = tables_first N L f.tables g.tables s.tables; ended = ends_first N f.ended g.ended (ends_second N x (f.ended ++ g.ended) s.ended); draws = all_first N f.draws g.draws s.draws }
 
 pub both_second : (N L : ℕ) (x : Weighted End) (f g : Flow) → Within N L (both x f g) → Within N L g
-both_second N L x f g s = record { tables = tables_second N L f.tables g.tables s.tables; ended = ends_second N f.ended g.ended (ends_second N x (f.ended ++ g.ended) s.ended); draws = draws_second N f.draws g.draws s.draws }
+both_second N L x f g s = record { tables = tables_second N L f.tables g.tables s.tables; ended = ends_second N f.ended g.ended (ends_second N x (f.ended ++ g.ended) s.ended); draws = all_second N f.draws g.draws s.draws }
 
 -- ---- statements
 

@@ -7,12 +7,13 @@ use Rattle.gcl_core.specs.Fractions.{Fraction}
 use Rattle.gcl_core.specs.WeightedEnds.{Weighted}
 use Rattle.frac128.specs.Divisor.{gcd, lcm}
 use Rattle.frac128.specs.Fraction.{lowest}
-use Rattle.frac128.proofs.Divisors.{gcd_is, gcd_pos, along_to, lcm_is, product_pos, lowest_in_lowest, lowest_equal}
+use Rattle.frac128.proofs.Divisors.{gcd_is, gcd_pos, along_to, lcm_is, product_pos, lowest_in_lowest, lowest_equal, crosswise}
 use Rattle.frac128.proofs.Terms.{part_pos}
 use Rattle.mass_tables.specs.Tables.{Table, Flow, most_states}
 use Rattle.mass_tables.specs.Width.{denominator, common_denominator, weights, table_weights, fractions}
 use Rattle.mass_tables.specs.Scale.{Whole, AllWhole, Wholes, TablesWithin, Within}
 use Rattle.mass_tables.proofs.Wholes.{whole_from}
+use Rattle.mass_tables.proofs.Amounts.{all_first, all_second}
 
 -- each fraction has a denominator of at least 1
 abbrev pub AllPositive : List Fraction → Type 0
@@ -27,10 +28,7 @@ lcm_right a b pos =
     let g = gcd a b in
     let x : g * (a / g) ≡ a = mul-div_cancel' g (gcd_is a b).0 in
     let y : g * (b / g) ≡ b = mul-div_cancel' g (gcd_is a b).1 in
-    along_to b (a / g * b) (lcm a b) (swapped g a b (a / g) (b / g) x y ∙ sym (lcm_is a b)) (dvd-mul_left b (a / g))
-  where
-    swapped : (g a b x y : ℕ) → g * x ≡ a → g * y ≡ b → x * b ≡ a * y
-    swapped g a b x y p q = rw (← p, ← q) (omega arith)
+    along_to b (a / g * b) (lcm a b) (crosswise g a b (a / g) (b / g) x y ∙ sym (lcm_is a b)) (dvd-mul_left b (a / g))
 
 lcm_pos : (a b : ℕ) → 0 < a → 0 < b → 0 < lcm a b
 lcm_pos a b pa pb = let x = product_pos a (b / gcd a b) pa (part_pos (gcd a b) b pb (gcd_is a b).1) in rw (lcm_is a b) x
@@ -63,14 +61,6 @@ wholes_at N (p ∷ ps) h d = (
 )
 
 -- ---- the parts of a flow
-pub all_first : (N : ℕ) (ps qs : List Fraction) → AllWhole N (ps ++ qs) → AllWhole N ps
-all_first N [] qs w = tt
-all_first N (p ∷ ps) qs w = (w.0, all_first N ps qs w.1)
-
-pub all_second : (N : ℕ) (ps qs : List Fraction) → AllWhole N (ps ++ qs) → AllWhole N qs
-all_second N [] qs w = w
-all_second N (p ∷ ps) qs w = all_second N ps qs w.1
-
 pub weights_whole : {A : Type 0} (N : ℕ) (m : Weighted A) → AllWhole N (weights m) → Wholes N m
 weights_whole N [] h = tt
 weights_whole N (e ∷ m) h = (h.0, weights_whole N m h.1)

@@ -1,16 +1,14 @@
 -- What the parts of a draw weigh.
-use Rattle.std.proofs.Common.{◌≡◌, ℕ, zero, suc, ◌+◌, ◌*◌, ◌^◌, ◌<◌, Option, Some, None, refl, ap, ◌∙◌, arith}
+use Rattle.std.proofs.Common.{◌≡◌, ℕ, zero, suc, ◌+◌, ◌*◌, ◌^◌, ◌<◌, Option, Some, None, refl, ap, arith}
 use Rattle.std.proofs.lemmas.Nat.{pow-add}
 use Rattle.std.proofs.Math.Nat.{pow-suc, pow-zero}
-use Rattle.std.specs.List.{range_with_len}
-use Rattle.gcl_core.specs.Draw.{bits_for, last_from, last_end}
-use Rattle.gcl_core.specs.Blocks.{uniform_ends}
+use Rattle.gcl_core.specs.Draw.{bits_for}
 use Rattle.gcl_core.specs.OneDraw.{called_again, strings_to_a_number}
 use Rattle.gcl_core.specs.Fractions.{Fraction, times}
 use Rattle.gcl_core.specs.WeightedEnds.{class_weight, no_class_weight}
 use Rattle.gcl_core.proofs.Classes.{bits_enough}
 use Rattle.mass_tables.specs.Scale.{whole, Whole}
-use Rattle.mass_tables.proofs.Wholes.{cancel}
+use Rattle.frac128.proofs.Divisors.{cancel}
 
 pub power_pos : (n : ℕ) → 0 < 2 ^ n
 power_pos zero = rw (pow-zero 2) (omega arith)
@@ -92,11 +90,3 @@ draw_kept N b r w pos h k l =
   where
     added : (b S Q D X Y W : ℕ) → b * S + Q ≡ D → D * X ≡ 1 * S * W → D * Y ≡ Q * W → D * (b * X + Y) ≡ D * W
     added b S Q D X Y W e x y = let z = ap (λ u. b * u) x in let u = ap (λ u. u * W) e in omega arith
-
--- ---- the ends of a uniform draw
-range_last : (c m : ℕ) → last_from c (range_with_len (c + 1) m) ≡ c + m
-range_last c zero = omega arith
-range_last c (suc m) = range_last (c + 1) m ∙ omega arith
-
-pub uniform_last : (m : ℕ) → last_end (uniform_ends m) ≡ m
-uniform_last m = range_last 0 m ∙ omega arith

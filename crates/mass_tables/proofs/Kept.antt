@@ -14,10 +14,10 @@ use Rattle.gcl_core.specs.WeightedEnds.{Weighted, sure, scaled, taken_on, class_
 use Rattle.mass_tables.specs.Tables.{Table, Flow, going_on, gone, holds, fails, only, faults, all_end, both, loop_flow, statement_flow, block_flow, arms_flow, draws_each, draw_weights}
 use Rattle.mass_tables.specs.Scale.{amount, weight, whole, Whole, Wholes, Within, TablesWithin}
 use Rattle.mass_tables.specs.Counts.{sum_below, part_at, rest_at, drawn, undrawn, multiplied}
-use Rattle.mass_tables.proofs.Amounts.{amount_each, amount_append, both_first, both_second, draws_second, tables_first, tables_second, ends_first, ends_second, draws_first}
-use Rattle.mass_tables.proofs.Wholes.{cancel}
+use Rattle.mass_tables.proofs.Amounts.{amount_each, amount_append, both_first, both_second, all_second, tables_first, tables_second, ends_first, ends_second, all_first}
 use Rattle.mass_tables.proofs.Draws.{draw_kept, parts_add_up, each_part, no_part, all_parts, all_parts_pos, share_of, class_pos, no_class_pos, class_share, no_class_share}
 use Rattle.mass_tables.proofs.Uniforms.{drawn_next, drawn_ended, drawn_whole}
+use Rattle.frac128.proofs.Divisors.{cancel}
 
 split_weight : (N : ℕ) (m : Weighted End) → weight N (going_on m) + weight N (gone m) ≡ weight N m
 split_weight N [] = refl
@@ -48,7 +48,7 @@ pub ends_whole : (N : ℕ) (x : End) (I : Table) → Wholes N (all_end x I) → 
 ends_whole N x [] h = tt
 ends_whole N x (e ∷ I) h = (h.0, ends_whole N x I h.1)
 
-times_swap : (p q : Fraction) → times p q ≡ times q p
+pub times_swap : (p q : Fraction) → times p q ≡ times q p
 times_swap p q = let a : p.0 * q.0 ≡ q.0 * p.0 = omega arith in let b : p.1 * q.1 ≡ q.1 * p.1 = omega arith in ap (λ x. (x, p.1 * q.1)) a ∙ ap (λ y. (q.0 * p.0, y)) b
 
 -- a table with each weight multiplied by one fraction
@@ -79,21 +79,21 @@ both_weight N x f g =
     let c = amount_append N (λ s. 1) f.ended g.ended in
     omega arith
 
-abbrev set_end : ℕ → Value → State → End
+abbrev pub set_end : ℕ → Value → State → End
 set_end x v s = by_value (λ f. fault f) v (λ z. on (slice_set s x z))
 
-set_sure : (x : ℕ) (v : Value) (s : State) → by_value (λ f. sure (fault f)) v (λ z. sure (on (slice_set s x z))) ≡ sure (set_end x v s)
+pub set_sure : (x : ℕ) (v : Value) (s : State) → by_value (λ f. sure (fault f)) v (λ z. sure (on (slice_set s x z))) ≡ sure (set_end x v s)
 set_sure x (Ok z) s = refl
 set_sure x (Err f) s = refl
 
-abbrev seen_end : Value → State → End
+abbrev pub seen_end : Value → State → End
 seen_end v s = by_value (λ f. fault f) v (λ z. cond (is_zero z) failed (on s))
 
 side_sure : (b : Bool) (s : State) → cond b (sure failed) (sure (on s)) ≡ sure (cond b failed (on s))
 side_sure true s = refl
 side_sure false s = refl
 
-seen_sure : (v : Value) (s : State) → by_value (λ f. sure (fault f)) v (λ z. cond (is_zero z) (sure failed) (sure (on s))) ≡ sure (seen_end v s)
+pub seen_sure : (v : Value) (s : State) → by_value (λ f. sure (fault f)) v (λ z. cond (is_zero z) (sure failed) (sure (on s))) ≡ sure (seen_end v s)
 seen_sure (Ok z) s = side_sure (is_zero z) s
 seen_sure (Err f) s = refl
 
@@ -144,7 +144,7 @@ choose_kept N r ps I least w x z =
     added b S Q D A L W d0 e x y = cancel D _ _ d0 (let z = ap (λ t. t * W) e in omega arith)
 
 -- ---- uniform draws
-sum_ones : (m : ℕ) → sum_below m (λ i. 1) ≡ m
+pub sum_ones : (m : ℕ) → sum_below m (λ i. 1) ≡ m
 sum_ones zero = refl
 sum_ones (suc m) = let i = sum_ones m in omega arith
 
@@ -182,7 +182,7 @@ module _ (n : ℕ) (r : Option ℕ) (N L : ℕ) where
   choose_inside arms I s =
       let b = sum (parts_of arms) in
       let f = arms_flow n r b arms I in
-      record { tables = s.tables; ended = ends_second N (all_end (limit Attempts) (scaled (no_class_weight b r) I)) f.ended s.ended; draws = draws_second N (draws_each (draw_weights b r) I) f.draws s.draws }
+      record { tables = s.tables; ended = ends_second N (all_end (limit Attempts) (scaled (no_class_weight b r) I)) f.ended s.ended; draws = all_second N (draws_each (draw_weights b r) I) f.draws s.draws }
 
   pub first_arm : (b p : ℕ) (a : Statements) (arms : ArmList) (I : Table) → Within N L (arms_flow n r b (arm p a arms) I) → Within N L (block_flow n r a (scaled (class_weight b r p) I))
   first_arm b p a arms I s = both_first N L [] (block_flow n r a (scaled (class_weight b r p) I)) (arms_flow n r b arms I) s
@@ -217,8 +217,8 @@ module _ (n : ℕ) (r : Option ℕ) (N L : ℕ) where
       let A = only (holds v) J in
       let f = block_flow n r b A in
       let g = loop_flow v (block_flow n r b) t f.next in
-      let sf : Within N L f = record { tables = tables_first N L f.tables g.tables s.tables.2; ended = ends_first N f.ended g.ended (ends_second N (faults v J) (f.ended ++ g.ended) s.ended); draws = draws_first N f.draws g.draws s.draws } in
-      let sg : Within N L g = record { tables = tables_second N L f.tables g.tables s.tables.2; ended = ends_second N f.ended g.ended (ends_second N (faults v J) (f.ended ++ g.ended) s.ended); draws = draws_second N f.draws g.draws s.draws } in
+      let sf : Within N L f = record { tables = tables_first N L f.tables g.tables s.tables.2; ended = ends_first N f.ended g.ended (ends_second N (faults v J) (f.ended ++ g.ended) s.ended); draws = all_first N f.draws g.draws s.draws } in
+      let sg : Within N L g = record { tables = tables_second N L f.tables g.tables s.tables.2; ended = ends_second N f.ended g.ended (ends_second N (faults v J) (f.ended ++ g.ended) s.ended); draws = all_second N f.draws g.draws s.draws } in
       let a = guard_weight N v J in
       let x = h A sf in
       let y = kept_turns v b h t f.next sg in
@@ -257,7 +257,7 @@ module _ (n : ℕ) (r : Option ℕ) (N L : ℕ) where
         let f = block_flow n r a A in
         let g = block_flow n r c C in
         let ze = all_end (limit Attempts) Z in
-        let sw : Within N L (both ze f g) = record { tables = s.tables; ended = s.ended; draws = draws_second N (draws_each (draw_weights q.den r) I) (f.draws ++ g.draws) s.draws } in
+        let sw : Within N L (both ze f g) = record { tables = s.tables; ended = s.ended; draws = all_second N (draws_each (draw_weights q.den r) I) (f.draws ++ g.draws) s.draws } in
         let wf = both_first N L ze f g sw in
         let wg = both_second N L ze f g sw in
         let b = both_weight N ze f g in
@@ -284,8 +284,8 @@ module _ (n : ℕ) (r : Option ℕ) (N L : ℕ) where
     kept_all (st ▸ b) p I s =
         let f = statement_flow n r st I in
         let g = block_flow n r b f.next in
-        let sf : Within N L f = record { tables = tables_first N L f.tables g.tables s.tables.2; ended = ends_first N f.ended g.ended s.ended; draws = draws_first N f.draws g.draws s.draws } in
-        let sg : Within N L g = record { tables = tables_second N L f.tables g.tables s.tables.2; ended = ends_second N f.ended g.ended s.ended; draws = draws_second N f.draws g.draws s.draws } in
+        let sf : Within N L f = record { tables = tables_first N L f.tables g.tables s.tables.2; ended = ends_first N f.ended g.ended s.ended; draws = all_first N f.draws g.draws s.draws } in
+        let sg : Within N L g = record { tables = tables_second N L f.tables g.tables s.tables.2; ended = ends_second N f.ended g.ended s.ended; draws = all_second N f.draws g.draws s.draws } in
         let x = kept_one st I p.0 s.tables.0 (head_whole b f.next sg.tables) sf in
         let y = kept_all b p.1 f.next sg in
         let c = amount_append N (λ s. 1) f.ended g.ended in

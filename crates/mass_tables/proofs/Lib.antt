@@ -10,3 +10,4 @@ pub mod Paths
 pub mod AtWidth
 pub mod NoneReached
 pub mod ArmEnds
+pub mod EqualFractions

@@ -12,6 +12,7 @@ use Rattle.gcl_core.specs.WeightedEnds.{Weighted, sure, scaled, taken_on, class_
 use Rattle.gcl_core.specs.Mass.{sum_of}
 use Rattle.mass_tables.specs.Tables.{Table, Flow, going_on, gone, holds, fails, only, faults, all_end, each, both, loop_flow, statement_flow, block_flow, arms_flow}
 use Rattle.mass_tables.proofs.ArmEnds.{arm_ends, choose_weighted}
+use Rattle.mass_tables.proofs.Amounts.{whole_zero}
 
 -- what F gives the entries, added
 abbrev pub sum_of_all : {A : Type 0} → (Fraction → A → ℕ) → Weighted A → ℕ
@@ -381,14 +382,11 @@ pub amount_is : {A : Type 0} (N : ℕ) (H : A → ℕ) (m : Weighted A) → amou
 amount_is N H [] = refl
 amount_is N H (e ∷ m) = ap (λ y. whole N e.0 * H e.1 + y) (amount_is N H m)
 
-whole_none : (N d : ℕ) → whole N (0, d) ≡ 0
-whole_none N d = grind arith
-
 pub amounts_paths : (n : ℕ) (r : Option ℕ) (N : ℕ) (H : End → ℕ) (b : Statements) (I : Table) →
     amount N (λ s. H (on s)) (block_flow n r b I).next + amount N H (block_flow n r b I).ended ≡ amount N H (taken_on I (weighted_ends n r b))
 amounts_paths n r N H b I =
     let F : Fraction → End → ℕ = λ w x. whole N w * H x in
-    let z : Zero F = λ d x. let a = ap (λ y. y * H x) (whole_none N d) in let c : 0 * H x ≡ 0 = omega arith in a ∙ c in
+    let z : Zero F = λ d x. let a = ap (λ y. y * H x) (whole_zero N d) in let c : 0 * H x ≡ 0 = omega arith in a ∙ c in
     let f = block_flow n r b I in
     let a = amount_is N (λ s. H (on s)) f.next in
     let c = amount_is N H f.ended in

@@ -12,7 +12,7 @@ use Rattle.gcl_core.specs.WeightedEnds.{Weighted, scaled, class_weight, no_class
 use Rattle.mass_tables.specs.Tables.{Table, holds, fails, only, faults, all_end, both, loop_flow, statement_flow, block_flow, arms_flow, draws_each, draw_weights}
 use Rattle.mass_tables.specs.Reached.{drawn_each, drawn_bound, loop_draws, statement_draws, block_draws, arms_draws}
 use Rattle.mass_tables.specs.Scale.{whole, amount, weight, Wholes, Within}
-use Rattle.mass_tables.proofs.Amounts.{amount_append, both_first, both_second, draws_second, tables_first, tables_second, ends_first, ends_second, draws_first}
+use Rattle.mass_tables.proofs.Amounts.{amount_append, both_first, both_second, all_second, tables_first, tables_second, ends_first, ends_second, all_first}
 use Rattle.mass_tables.proofs.Kept.{guard_weight, ends_whole, choice_kept, head_whole, arms_weight, choose_inside, first_arm, other_arms, arms_kept, kept_one, kept_all}
 
 -- ---- what draws count, by the states that they are made from
@@ -57,8 +57,8 @@ module _ (n : ℕ) (r : Option ℕ) (N L : ℕ) (H : List ℕ → ℕ) where
       let A = only (holds v) J in
       let f = block_flow n r b A in
       let g = loop_flow v (block_flow n r b) t f.next in
-      let sf : Within N L f = record { tables = tables_first N L f.tables g.tables s.tables.2; ended = ends_first N f.ended g.ended (ends_second N (faults v J) (f.ended ++ g.ended) s.ended); draws = draws_first N f.draws g.draws s.draws } in
-      let sg : Within N L g = record { tables = tables_second N L f.tables g.tables s.tables.2; ended = ends_second N f.ended g.ended (ends_second N (faults v J) (f.ended ++ g.ended) s.ended); draws = draws_second N f.draws g.draws s.draws } in
+      let sf : Within N L f = record { tables = tables_first N L f.tables g.tables s.tables.2; ended = ends_first N f.ended g.ended (ends_second N (faults v J) (f.ended ++ g.ended) s.ended); draws = all_first N f.draws g.draws s.draws } in
+      let sg : Within N L g = record { tables = tables_second N L f.tables g.tables s.tables.2; ended = ends_second N f.ended g.ended (ends_second N (faults v J) (f.ended ++ g.ended) s.ended); draws = all_second N f.draws g.draws s.draws } in
       let a = guard_weight N v J in
       let k = kept_all n r N L b w A sf in
       let x = h A sf (omega arith) in
@@ -89,7 +89,7 @@ module _ (n : ℕ) (r : Option ℕ) (N L : ℕ) (H : List ℕ → ℕ) where
         let f = block_flow n r a A in
         let g = block_flow n r c C in
         let ze = all_end (limit Attempts) Z in
-        let sw : Within N L (both ze f g) = record { tables = s.tables; ended = s.ended; draws = draws_second N (draws_each (draw_weights q.den r) I) (f.draws ++ g.draws) s.draws } in
+        let sw : Within N L (both ze f g) = record { tables = s.tables; ended = s.ended; draws = all_second N (draws_each (draw_weights q.den r) I) (f.draws ++ g.draws) s.draws } in
         let wf = both_first N L ze f g sw in
         let wg = both_second N L ze f g sw in
         let k = choice_kept N q.num q.den r I p.0.at_most_one (let o = p.0.positive in omega arith) w (head_whole n r N L a A wf.tables) (head_whole n r N L c C wg.tables) (ends_whole N (limit Attempts) Z (ends_first N ze (f.ended ++ g.ended) s.ended)) in
@@ -114,8 +114,8 @@ module _ (n : ℕ) (r : Option ℕ) (N L : ℕ) (H : List ℕ → ℕ) where
     none_all (st ▸ b) p I s z =
         let f = statement_flow n r st I in
         let g = block_flow n r b f.next in
-        let sf : Within N L f = record { tables = tables_first N L f.tables g.tables s.tables.2; ended = ends_first N f.ended g.ended s.ended; draws = draws_first N f.draws g.draws s.draws } in
-        let sg : Within N L g = record { tables = tables_second N L f.tables g.tables s.tables.2; ended = ends_second N f.ended g.ended s.ended; draws = draws_second N f.draws g.draws s.draws } in
+        let sf : Within N L f = record { tables = tables_first N L f.tables g.tables s.tables.2; ended = ends_first N f.ended g.ended s.ended; draws = all_first N f.draws g.draws s.draws } in
+        let sg : Within N L g = record { tables = tables_second N L f.tables g.tables s.tables.2; ended = ends_second N f.ended g.ended s.ended; draws = all_second N f.draws g.draws s.draws } in
         let k = kept_one n r N L st I p.0 s.tables.0 (head_whole n r N L b f.next sg.tables) sf in
         let x = none_one st I p.0 s.tables.0 sf z in
         let y = none_all b p.1 f.next sg (omega arith) in

@@ -10,11 +10,12 @@ use Rattle.gcl_core.specs.Draw.{last_end}
 use Rattle.gcl_core.specs.Blocks.{End, on, failed, fault, limit, by_value, by_bound, by_truth, by_class, uniform_ends}
 use Rattle.gcl_core.specs.Fractions.{Fraction}
 use Rattle.gcl_core.specs.WeightedEnds.{Weighted, sure, scaled, taken_on, class_weight, no_class_weight, classes_from, weighted_classes, statement_weighted, uniform_weighted}
+use Rattle.gcl_core.proofs.EqualClasses.{last_of_equal}
 use Rattle.frac128.proofs.Divisors.{product_pos}
 use Rattle.mass_tables.specs.Tables.{Table, Flow, going_on, gone, holds, fails, only, faults, all_end, each, both, loop_flow, statement_flow, block_flow, arms_flow, draws_each, draw_weights, bound_draws}
 use Rattle.mass_tables.specs.Width.{weights, table_weights, fractions}
 use Rattle.mass_tables.proofs.Denominators.{AllPositive}
-use Rattle.mass_tables.proofs.Draws.{class_pos, no_class_pos, uniform_last}
+use Rattle.mass_tables.proofs.Draws.{class_pos, no_class_pos}
 
 abbrev pub Positive : {A : Type 0} → Weighted A → Type 0
 Positive [] = Unit {0}
@@ -38,7 +39,7 @@ t_append : (m n : List Table) → TablesPositive m → TablesPositive n → Tabl
 t_append [] n h k = k
 t_append (e ∷ m) n h k = (h.0, t_append m n h.1 k)
 
-a_append : (m n : List Fraction) → AllPositive m → AllPositive n → AllPositive (m ++ n)
+pub a_append : (m n : List Fraction) → AllPositive m → AllPositive n → AllPositive (m ++ n)
 a_append [] n h k = k
 a_append (e ∷ m) n h k = (h.0, a_append m n h.1 k)
 
@@ -151,7 +152,7 @@ module _ (n : ℕ) (r : Option ℕ) where
   p_uniform : (x : ℕ) (z : ℤ) (s : State) → Positive (uniform_weighted r x z s)
   p_uniform x (pos zero) s = alone
   p_uniform x (pos (suc m)) s =
-      p_taken (weighted_classes (uniform_ends (suc m)) r) _ (p_draw (uniform_ends (suc m)) r (subst (λ k. 0 < k) (sym (uniform_last (suc m))) (omega arith))) (p_class x s)
+      p_taken (weighted_classes (uniform_ends (suc m)) r) _ (p_draw (uniform_ends (suc m)) r (subst (λ k. 0 < k) (sym (last_of_equal (suc m))) (omega arith))) (p_class x s)
   p_uniform x (negsuc m) s = alone
 
   pub p_drawn : (x : ℕ) (v : Value) (s : State) → Positive (by_value (λ f. sure (fault f)) v (λ z. uniform_weighted r x z s))
@@ -221,7 +222,7 @@ module _ (n : ℕ) (r : Option ℕ) where
     p_arms b h (arm q a arms) I w p =
         p_both [] _ _ tt (p_all a (scaled (class_weight b r q) I) w.0 (p_scaled (class_weight b r q) I (class_pos b r q h) p)) (p_arms b h arms I w.1 p)
 
-weights_positive : {A : Type 0} (m : Weighted A) → Positive m → AllPositive (weights m)
+pub weights_positive : {A : Type 0} (m : Weighted A) → Positive m → AllPositive (weights m)
 weights_positive [] h = tt
 weights_positive (e ∷ m) h = (h.0, weights_positive m h.1)
 

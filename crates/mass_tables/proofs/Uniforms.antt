@@ -7,6 +7,7 @@ use Rattle.gcl_core.specs.Value.{State, Value}
 use Rattle.gcl_core.specs.Blocks.{End, on, failed, fault, limit, by_value, by_bound, by_class, uniform_ends}
 use Rattle.gcl_core.specs.Fractions.{Fraction, one, times}
 use Rattle.gcl_core.specs.WeightedEnds.{Weighted, sure, scaled, taken_on, class_weight, no_class_weight, classes_from, weighted_classes, uniform_weighted}
+use Rattle.gcl_core.proofs.EqualClasses.{last_of_equal}
 use Rattle.mass_tables.specs.Tables.{Table, going_on, gone}
 use Rattle.mass_tables.specs.Scale.{whole, Whole, Wholes, amount}
 use Rattle.mass_tables.specs.Counts.{sum_below, part_at, rest_at, drawn, undrawn, multiplied}
@@ -14,7 +15,7 @@ use Rattle.frac128.proofs.Divisors.{product_pos}
 use Rattle.mass_tables.proofs.Wholes.{whole_from}
 use Rattle.mass_tables.proofs.Amounts.{at_on, at_gone, amount_append, amount_going, amount_gone, whole_zero}
 use Rattle.mass_tables.proofs.Linear.{sum_of_all, after_weight, Zero, spread, sum_taken, sum_scaled, amount_is, times_one, zero_after, spread_append}
-use Rattle.mass_tables.proofs.Draws.{uniform_last, class_pos, no_class_pos}
+use Rattle.mass_tables.proofs.Draws.{class_pos, no_class_pos}
 use Rattle.mass_tables.proofs.ArmEnds.{taken_append}
 
 -- what counts an end, at a scale
@@ -59,7 +60,7 @@ module _ (x : ℕ) (r : Option ℕ) where
       sum_of_all F (taken_on (weighted_classes (uniform_ends m) r) (drawn_on s)) ≡ sum_below m (λ i. F (class_weight m r 1) (on (slice_set s x (pos i)))) + F (no_class_weight m r) (limit Attempts)
   draw_sum F m s z =
       let cs = weighted_classes (uniform_ends m) r in
-      let l = uniform_last m in
+      let l = last_of_equal m in
       let a = sum_taken F cs (drawn_on s) z in
       let b : spread F cs (drawn_on s) ≡ spread F (classes_from (class_weight m r) 0 0 (range_with_len (0 + 1) m) ++ (no_class_weight m r, None) ∷ []) (drawn_on s)
       = ap (λ n. spread F (classes_from (class_weight n r) 0 0 (uniform_ends m) ++ (no_class_weight n r, None) ∷ []) (drawn_on s)) l in
@@ -175,11 +176,8 @@ module _ (x : ℕ) (v : State → Value) (r : Option ℕ) where
 
   -- ---- what is whole
 
-  whole_none : (N d : ℕ) → 0 < d → Whole N (0, d)
-  whole_none N d h = (whole_from N (0, d) 0 h (omega arith)).1
-
-  ones : (p : Fraction) → times p one ≡ p
-  ones p = let a : p.0 * 1 ≡ p.0 = omega arith in let b : p.1 * 1 ≡ p.1 = omega arith in ap (λ x. (x, p.1 * 1)) a ∙ ap (λ y. (p.0, y)) b
+  whole_at_zero : (N a d : ℕ) → a ≡ 0 → 0 < d → Whole N (a, d)
+  whole_at_zero N a d e h = rw e (whole_from N (0, d) 0 h (omega arith)).1
 
   abbrev Both : ℕ → Weighted End → Type 0
   Both N m = Wholes N (going_on m) × Wholes N (gone m)
@@ -194,17 +192,11 @@ module _ (x : ℕ) (v : State → Value) (r : Option ℕ) where
   -- of one entry
   sure_whole : (N : ℕ) (w u : Fraction) (x : End) → 0 < w.1 → 0 < u.1 → Both N (scaled w (scaled u (sure x))) → Whole N (times w u)
   sure_whole N (zero, d) (n, c) x pd pc h = whole_at_zero N (zero * n) (d * c) (omega arith) (product_pos d c pd pc)
-    where
-      whole_at_zero : (N a d : ℕ) → a ≡ 0 → 0 < d → Whole N (a, d)
-      whole_at_zero N a d e h = rw e (whole_none N d h)
   sure_whole N (suc n, d) (zero, c) x pd pc h = whole_at_zero N (suc n * zero) (d * c) (omega arith) (product_pos d c pd pc)
-    where
-      whole_at_zero : (N a d : ℕ) → a ≡ 0 → 0 < d → Whole N (a, d)
-      whole_at_zero N a d e h = rw e (whole_none N d h)
-  sure_whole N (suc n, d) (suc m, c) (on s) pd pc h = subst (λ q. Whole N (times (suc n, d) q)) (ones (suc m, c)) h.0.0
-  sure_whole N (suc n, d) (suc m, c) failed pd pc h = subst (λ q. Whole N (times (suc n, d) q)) (ones (suc m, c)) h.1.0
-  sure_whole N (suc n, d) (suc m, c) (fault f) pd pc h = subst (λ q. Whole N (times (suc n, d) q)) (ones (suc m, c)) h.1.0
-  sure_whole N (suc n, d) (suc m, c) (limit l) pd pc h = subst (λ q. Whole N (times (suc n, d) q)) (ones (suc m, c)) h.1.0
+  sure_whole N (suc n, d) (suc m, c) (on s) pd pc h = subst (λ q. Whole N (times (suc n, d) q)) (times_one (suc m, c)) h.0.0
+  sure_whole N (suc n, d) (suc m, c) failed pd pc h = subst (λ q. Whole N (times (suc n, d) q)) (times_one (suc m, c)) h.1.0
+  sure_whole N (suc n, d) (suc m, c) (fault f) pd pc h = subst (λ q. Whole N (times (suc n, d) q)) (times_one (suc m, c)) h.1.0
+  sure_whole N (suc n, d) (suc m, c) (limit l) pd pc h = subst (λ q. Whole N (times (suc n, d) q)) (times_one (suc m, c)) h.1.0
 
   scaled_append : (w : Fraction) (m n : Weighted End) → scaled w (m ++ n) ≡ scaled w m ++ scaled w n
   scaled_append (zero, d) m n = refl
@@ -217,7 +209,7 @@ module _ (x : ℕ) (v : State → Value) (r : Option ℕ) where
   draw_whole N w m s pw h =
       let cs : ℕ → Weighted (Option ℕ) = λ n. classes_from (class_weight n r) (0 + 1) 1 (range_with_len 2 m) in
       let k = drawn_on x r s in
-      let l = uniform_last (suc m) in
+      let l = last_of_equal (suc m) in
       let first : ℕ → Weighted End = λ n. scaled (class_weight n r (1 - 0)) (k (Some 0)) in
       let last : ℕ → Weighted End = λ n. scaled (no_class_weight n r) (k None) in
       let whole_list = taken_on (weighted_classes (uniform_ends (suc m)) r) k in
@@ -234,7 +226,7 @@ module _ (x : ℕ) (v : State → Value) (r : Option ℕ) where
   state_whole N w s h = by_state (v s)
     where
       alone : Whole N (times w one) × Whole N (times w one)
-      alone = let z = subst (Whole N) (sym (ones w)) h in (z, z)
+      alone = let z = subst (Whole N) (sym (times_one w)) h in (z, z)
 
       by_sign : (z : ℤ) → Both N (scaled w (uniform_weighted r x z s)) → Whole N (times w (by_bound z one (λ m. class_weight m r 1))) × Whole N (times w (by_bound z one (λ m. no_class_weight m r)))
       by_sign (pos zero) b = alone

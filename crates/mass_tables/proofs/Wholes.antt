@@ -1,5 +1,5 @@
 -- Sums and products of fractions at a scale, and why one is refused.
-use Rattle.std.proofs.Common.{◌≡◌, ℕ, zero, suc, ◌+◌, ◌*◌, ◌/◌, ◌≤◌, ◌<◌, ◌^◌, Some, None, true, false, cond, Bool, ◌&&◌, refl, sym, ap, ◌∙◌, subst, arith, ⊎_elim}
+use Rattle.std.proofs.Common.{◌≡◌, ℕ, ◌+◌, ◌*◌, ◌/◌, ◌≤◌, ◌<◌, ◌^◌, Some, None, true, false, cond, Bool, ◌&&◌, refl, sym, ap, ◌∙◌, subst, arith, ⊎_elim}
 use Prim.Native.Nat.{◌∣◌}
 use native.Mathlib.Nat.{mul-div_cancel', mul-div_right, dvd-mul_right, le_of_dvd, dvd_of_mul-dvd-mul_left, mul-dvd-mul_left}
 use Rattle.std.proofs.Math.Nat.{le_of_mul-le-mul_right, mul-le-mul_left, mul-le-mul_right}
@@ -9,7 +9,7 @@ use Rattle.std.proofs.lemmas.Nat.Gcd.{IsGcd-swap}
 use Rattle.frac128.specs.Divisor.{gcd}
 use Rattle.frac128.specs.Fraction.{Fraction, lowest, InLowest, fits, if_all_fit, common_of, sum_over, sum_of, if_fits, product_of}
 use Rattle.mass_tables.specs.Scale.{whole, Whole}
-use Rattle.frac128.proofs.Divisors.{gcd_is, gcd_pos, gauss, along_to, coprime_rests, product_pos, lowest_in_lowest}
+use Rattle.frac128.proofs.Divisors.{gcd_is, gcd_pos, gauss, along_to, coprime_rests, product_pos, lowest_in_lowest, cancel, factor_pos}
 use Rattle.frac128.proofs.Terms.{common_result, some_all, some_both, part_pos}
 
 pub whole_from : (N : ℕ) (p : Fraction) (u : ℕ) → 0 < p.1 → p.1 * u ≡ p.0 * N → (whole N p ≡ u) × Whole N p
@@ -17,8 +17,11 @@ whole_from N p u pos e =
     let q : whole N p ≡ u = ap (λ x. x / p.1) (sym e) ∙ mul-div_right u pos in
     (q, record { positive = pos; exact = ap (λ x. p.1 * x) q ∙ e })
 
-pub cancel : (c x y : ℕ) → 0 < c → c * x ≡ c * y → x ≡ y
-cancel c x y pos e = sym (mul-div_right x pos) ∙ ap (λ z. z / c) e ∙ mul-div_right y pos
+pub whole_multiple : (N D : ℕ) (p : Fraction) → Whole N p → (whole (N * D) p ≡ D * whole N p) × Whole (N * D) p
+whole_multiple N D p w = whole_from (N * D) p (D * whole N p) w.positive (multiplied p.0 p.1 (whole N p) N D w.exact)
+  where
+    multiplied : (a b W N D : ℕ) → b * W ≡ a * N → b * (D * W) ≡ a * (N * D)
+    multiplied a b W N D e = let x = ap (λ z. D * z) e in omega arith
 
 pub whole_lowest : (N n d : ℕ) → Whole N (n, d) → (whole N (lowest (n, d)) ≡ whole N (n, d)) × Whole N (lowest (n, d))
 whole_lowest N n d w =
@@ -94,7 +97,7 @@ module _ (N : ℕ) (p q : Fraction) (wp : Whole N p) (wq : Whole N q) where
       let gq : g * (q.1 / g) ≡ q.1 = mul-div_cancel' g (gcd_is p.1 q.1).1 in
       let a : g * (q.1 / g) ∣ g * (p.1 / g * x) = both_sides q.1 N _ _ (sym gq) (regroup g (p.1 / g) p.1 x N gp e) dq in
       let b : q.1 / g ∣ p.1 / g * x = dvd_of_mul-dvd-mul_left (q.1 / g) (gcd_pos p.1 q.1 wq.positive) a in
-      let c : q.1 / g ∣ x = gauss (q.1 / g) (p.1 / g) x (pos_right p.1 x N pos e) (IsGcd-swap _ _ 1 (coprime_rests p.1 q.1 wq.positive)) b in
+      let c : q.1 / g ∣ x = gauss (q.1 / g) (p.1 / g) x (factor_pos p.1 x N pos e) (IsGcd-swap _ _ 1 (coprime_rests p.1 q.1 wq.positive)) b in
       along_to (p.1 * (q.1 / g)) (p.1 * x) N e (mul-dvd-mul_left (q.1 / g) p.1 c)
     where
       both_sides : (a b x y : ℕ) → a ≡ x → b ≡ y → a ∣ b → x ∣ y
@@ -102,10 +105,6 @@ module _ (N : ℕ) (p q : Fraction) (wp : Whole N p) (wq : Whole N q) where
 
       regroup : (g j d x N : ℕ) → g * j ≡ d → d * x ≡ N → N ≡ g * (j * x)
       regroup g j d x N e f = rw (← f, ← e) (omega arith)
-
-      pos_right : (d x N : ℕ) → 0 < N → d * x ≡ N → 0 < x
-      pos_right d zero N pos e = absurd (omega arith)
-      pos_right d (suc x) N pos e = omega arith
 
   -- where the scale times a bound of the sum is below the limit, so is each number of the sum
   sum_fits : (C : ℕ) → 0 < N → 1 ≤ C → N * C < 2 ^ 128 → InLowest p → InLowest q → whole N p + whole N q ≤ N * C → (over < 2 ^ 128) × (numerators < 2 ^ 128)

@@ -18,10 +18,11 @@ use Rattle.gcl_core.specs.WeightedEnds.{Weighted, sure, taken_on, weighted_class
 use Rattle.gcl_core.specs.Fitting.{state_fits}
 use Rattle.gcl_core.proofs.FittingValues.{end_fits, value_fits, set_fits}
 use Rattle.gcl_core.proofs.PartialSums.{last_is, sums_ascend}
+use Rattle.gcl_core.proofs.EqualClasses.{last_of_equal}
 use Rattle.weighing_law.proofs.Comparing.{Compared, cmp_sure, cmp_more, cmp_then}
 use Rattle.weighing_law.proofs.DrawMatching.{class_below}
 use Rattle.weighing_law.proofs.Scales.{loop_scale, statement_scale, block_scale, arms_scale}
-use Rattle.weighing_law.proofs.Uniform.{range_ascends, uniform_last, uniform_length}
+use Rattle.weighing_law.proofs.Uniform.{range_ascends, uniform_length}
 
 module _ (bad : Limit → Type 0) where
   abbrev pub BadEnd : End → Type 0
@@ -125,7 +126,7 @@ module _ (bad : Limit → Type 0) where
     pair_uniform x (pos zero) s f p = pair_sure (K * 1) (fault BadBound) refl
     pair_uniform x (negsuc m) s f p = pair_sure (K * 1) (fault BadBound) refl
     pair_uniform x (pos (suc m)) s f p =
-        let e = uniform_last (suc m) in
+        let e = last_of_equal (suc m) in
         let small : suc m < 2 ^ 63 = ltb-true _ _ f in
         let ends = uniform_ends (suc m) in
         let l = length ends in

@@ -19,11 +19,12 @@ use Rattle.gcl_core.proofs.DrawTrees.{class_sum}
 use Rattle.gcl_core.proofs.TreeWeights.{chi}
 use Rattle.gcl_core.proofs.FittingValues.{end_fits, value_fits}
 use Rattle.gcl_core.proofs.PartialSums.{last_is, sums_ascend}
+use Rattle.gcl_core.proofs.EqualClasses.{last_of_equal}
 use Rattle.weighing_law.proofs.Comparing.{counts_unlimited}
 use Rattle.weighing_law.proofs.DrawMatching.{class_below, draw_entries}
 use Rattle.weighing_law.proofs.LimitedBlocks.{limited_statement, limited_block}
 use Rattle.weighing_law.proofs.Scales.{Scale, loop_scale, statement_scale, block_scale, arms_scale}
-use Rattle.weighing_law.proofs.Uniform.{range_ascends, uniform_last}
+use Rattle.weighing_law.proofs.Uniform.{range_ascends}
 use Rattle.weighing_law.proofs.WeightedLists.{EachEntry, Counts, counts-more, counts_taken_on}
 
 counts-const : {A : Type 0} (N c : ℕ) (G : A → ℕ) (m : Weighted A) (v : ℕ) → Counts N G m v → Counts N (λ a. c * G a) m (c * v)
@@ -97,7 +98,7 @@ module _ (n r K : ℕ) (scale : Scale r K) where
   whole_uniform x (pos zero) s f = whole_sure (K * 1) (fault BadBound)
   whole_uniform x (negsuc m) s f = whole_sure (K * 1) (fault BadBound)
   whole_uniform x (pos (suc m)) s f =
-      let e = uniform_last (suc m) in
+      let e = last_of_equal (suc m) in
       let small : suc m < 2 ^ 63 = ltb-true _ _ f in
       let c = scale (last_end (uniform_ends (suc m))) (omega arith) (omega arith) in
       let stored : ℕ → Weighted End = λ i. sure (on (slice_set s x (pos i))) in

@@ -4,14 +4,15 @@ use Rattle.gcl_core.specs.declared.answers.Limit.TheVariants.{Attempts}
 use Rattle.gcl_core.specs.WeightedEnds.{class_weight, no_class_weight}
 use Rattle.mass_fold.specs.declared.ended.Gone.TheVariants as gone_kind
 use Rattle.mass_fold.specs.Steps.{at_numbers}
-use Rattle.mass_fold.proofs.Bounds.{ones_below, class_above}
+use Rattle.mass_fold.proofs.Bounds.{class_above}
 use Rattle.mass_fold.proofs.Drawings.{added_spread, blamed_spread, blamed_part, blamed_rest, blamed_end, stopped_end}
 use Rattle.mass_fold.proofs.draws.draw_state.Goals as goal
+use Rattle.mass_tables.proofs.Kept.{sum_ones}
 
 pub returns-in-None-clause-cause : goal.returns-in-None-clause-cause
 returns-in-None-clause-cause c =
     let p = c.in-Ok.ensures.ok in
-    let o : 1 ≤ at_numbers c.args.x c.args.bound c.args.s.now (λ s. 1) = let e = ones_below c.args.bound in let h = c.requires.least in omega arith in
+    let o : 1 ≤ at_numbers c.args.x c.args.bound c.args.s.now (λ s. 1) = let e = sum_ones c.args.bound in let h = c.requires.least in omega arith in
     blamed_part _ (class_weight c.args.bound c.args.attempts 1) (no_class_weight c.args.bound c.args.attempts) c.args.next.now.states.entries c.args.ended.now c.args.f.now (at_numbers c.args.x c.args.bound c.args.s.now) (λ G. G (limit Attempts))
     p.part_positive p.part_is o (sym c.in-None.ensures)
 
