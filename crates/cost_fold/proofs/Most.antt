@@ -1,5 +1,5 @@
 -- The draws that a table reaches are whole at its scale, and read no more than the longest reading, by the weight of the table.
-use Rattle.std.proofs.Common.{◌≡◌, ℕ, zero, suc, ◌+◌, ◌-◌, ◌*◌, ◌^◌, ◌≤◌, ◌<◌, max, ℤ, pos, negsuc, Bool, true, false, cond, List, [], ◌∷◌, ◌++◌, Ok, Err, Option, Some, refl, sym, ap, ◌∙◌, subst, arith}
+use Rattle.std.proofs.Common.{◌≡◌, ℕ, zero, suc, ◌+◌, ◌-◌, ◌*◌, ◌^◌, ◌≤◌, ◌<◌, max, ℤ, pos, negsuc, Bool, true, false, cond, List, [], ◌∷◌, ◌++◌, Ok, Err, Some, refl, subst, arith}
 use Rattle.std.proofs.Math.Nat.{mul-le-mul_left, mul-le-mul_right}
 use Rattle.std.proofs.lemmas.Bool.{ltb-true}
 use Rattle.gcl_core.specs.declared.answers.Limit.TheVariants.{Attempts}
@@ -26,7 +26,7 @@ use Rattle.mass_tables.specs.Reached.{Reached, drawn_each, drawn_bound, loop_dra
 use Rattle.mass_tables.specs.Scale.{whole, amount, weight, Wholes, Within}
 use Rattle.mass_tables.proofs.Amounts.{amount_append, both_first, both_second, all_second, tables_first, tables_second, ends_first, ends_second, all_first}
 use Rattle.mass_tables.proofs.Kept.{guard_weight, ends_whole, choice_kept, head_whole, arms_weight, choose_inside, first_arm, other_arms, arms_kept, kept_one, kept_all}
-use Rattle.mass_fold.specs.Metering.{IsPriced, Priced, price}
+use Rattle.mass_fold.specs.Metering.{Priced, price}
 use Rattle.mass_fold.proofs.MeterFolds.{priced_first, priced_second}
 use Rattle.cost_fold.proofs.Prices.{price_most}
 

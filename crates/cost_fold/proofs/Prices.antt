@@ -1,11 +1,11 @@
 -- The bits of a draw, as a whole number of parts, and how many they are at most.
-use Rattle.std.proofs.Common.{◌≡◌, ℕ, zero, suc, ◌+◌, ◌-◌, ◌*◌, ◌^◌, ◌≤◌, ◌<◌, max, List, [], ◌∷◌, Some, sym, ap, ◌∙◌, subst, arith}
+use Rattle.std.proofs.Common.{◌≡◌, ℕ, zero, suc, ◌+◌, ◌-◌, ◌*◌, ◌^◌, ◌≤◌, ◌<◌, List, [], ◌∷◌, Some, sym, ap, ◌∙◌, arith}
 use Rattle.std.proofs.lemmas.Nat.{pow-add, pow_pos}
 use Rattle.std.proofs.Math.Nat.{mul-le-mul_left, mul-le-mul_right, le_of_mul-le-mul_left}
 use Rattle.gcl_core.specs.Draw.{bits_for, last_end}
-use Rattle.gcl_core.specs.Fractions.{Fraction, power_sum}
+use Rattle.gcl_core.specs.Fractions.{power_sum}
 use Rattle.gcl_core.specs.OneDraw.{called_again, strings_to_a_number}
-use Rattle.gcl_core.specs.WeightedEnds.{class_weight, no_class_weight}
+use Rattle.gcl_core.specs.WeightedEnds.{class_weight}
 use Rattle.cost_law.specs.ExpectedBits.{number_bits, attempt_bits, again_weight, draw_bits}
 use Rattle.draw_cost.proofs.Stretches.{by_numbers, undecided_most}
 use Rattle.mass_tables.specs.Reached.{Reached}

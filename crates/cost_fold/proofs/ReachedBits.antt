@@ -6,10 +6,10 @@ use Rattle.gcl_core.specs.Arms.{parts_of}
 use Rattle.gcl_core.specs.Draw.{last_end}
 use Rattle.gcl_core.specs.Parts.{sums_from, partial_sums}
 use Rattle.gcl_core.specs.Value.{State, Value, value_of, is_zero}
-use Rattle.gcl_core.specs.Blocks.{End, on, failed, fault, limit, by_value, by_truth, by_bound, by_class, by_side, by_end, choice_ends, uniform_ends}
+use Rattle.gcl_core.specs.Blocks.{End, on, failed, fault, limit, by_value, by_truth, by_bound, by_class, by_end, choice_ends, uniform_ends}
 use Rattle.gcl_core.specs.Bounds.{StatementIsWeighed, BlockIsWeighed, ArmsAreWeighed}
 use Rattle.gcl_core.specs.Fractions.{Fraction, nothing, plus, times}
-use Rattle.gcl_core.specs.WeightedEnds.{Weighted, scaled, class_weight, no_class_weight, classes_from, weighted_classes, statement_weighted, weighted_ends}
+use Rattle.gcl_core.specs.WeightedEnds.{scaled, class_weight, no_class_weight, classes_from, weighted_classes, statement_weighted, weighted_ends}
 use Rattle.cost_law.specs.ExpectedBits.{draw_bits, on_average, loop_bits, statement_bits, block_bits, arm_bits}
 use Rattle.gcl_core.proofs.PartialSums.{last_is}
 use Rattle.cost_law.proofs.DrawBits.{draw_bits_pos}

@@ -1,17 +1,16 @@
 -- Two lists that count alike at each scale have the same averages.
-use Rattle.std.proofs.Common.{◌≡◌, ℕ, ◌+◌, ◌*◌, ◌<◌, List, [], ◌∷◌, ◌++◌, map, Option, refl, sym, ap, ◌∙◌, arith}
-use Prim.Native.Nat.{◌∣◌}
+use Rattle.std.proofs.Common.{◌≡◌, ℕ, ◌+◌, ◌*◌, ◌<◌, List, [], ◌∷◌, ◌++◌, map, Option, refl, ap, arith}
 use Rattle.std.proofs.lemmas.Nat.Gcd.{dvd_refl}
 use Rattle.gcl_core.specs.Syntax.{Statement, Statements}
 use Rattle.gcl_core.specs.Value.{State}
 use Rattle.gcl_core.specs.Blocks.{End, on, failed, fault, limit, by_end}
 use Rattle.gcl_core.specs.Bounds.{StatementIsWeighed, BlockIsWeighed}
-use Rattle.gcl_core.specs.Fractions.{Fraction, nothing, times}
+use Rattle.gcl_core.specs.Fractions.{Fraction, nothing}
 use Rattle.gcl_core.specs.WeightedEnds.{Weighted, taken_on, statement_weighted, weighted_ends}
 use Rattle.cost_law.specs.ExpectedBits.{on_average}
 use Rattle.frac128.specs.Fraction.{IsEqual}
 use Rattle.frac128.proofs.Divisors.{product_pos, cancel, equal_trans}
-use Rattle.mass_tables.specs.Scale.{whole, Whole, Wholes, AllWhole, amount}
+use Rattle.mass_tables.specs.Scale.{whole, Wholes, AllWhole, amount}
 use Rattle.mass_tables.specs.Tables.{Table, Flow, going_on, statement_flow, block_flow}
 use Rattle.mass_tables.specs.Width.{common_denominator, weights}
 use Rattle.mass_tables.proofs.Amounts.{at_on, amount_going, all_first, all_second}

@@ -1,15 +1,15 @@
 -- What the fold gives, and what all rounds make of it.
-use Rattle.std.proofs.Common.{◌≡◌, ℕ, zero, suc, ◌+◌, ◌-◌, ◌*◌, ◌^◌, ◌≤◌, ◌<◌, Bool, List, [], ◌∷◌, length, Option, Some, None, refl, sym, ap, ◌∙◌, subst, arith}
+use Rattle.std.proofs.Common.{◌≡◌, ℕ, zero, suc, ◌+◌, ◌-◌, ◌*◌, ◌^◌, ◌≤◌, ◌<◌, Bool, List, [], ◌∷◌, length, Some, None, refl, sym, ap, ◌∙◌, subst, arith}
 use Rattle.std.proofs.lemmas.Nat.{pow_pos}
 use Rattle.std.proofs.Math.Nat.{one-le-pow, pow-suc, pow-zero, mul-le-mul_left, mul-le-mul_right, le_of_mul-le-mul_left}
 use Rattle.gcl_core.specs.declared.answers.Answer.{Answer}
 use Rattle.gcl_core.specs.declared.answers.Limits.{Limits}
 use Rattle.gcl_core.specs.Bounds.{BlockIsWeighed}
-use Rattle.gcl_core.specs.Fractions.{Fraction, nothing, one, plus, times, power_sum}
+use Rattle.gcl_core.specs.Fractions.{Fraction, one, times, power_sum}
 use Rattle.gcl_core.specs.Keeping.{IsChecked}
 use Rattle.gcl_core.specs.Longest.{longest}
 use Rattle.gcl_core.specs.Mass.{is_failed, failed_mass}
-use Rattle.gcl_core.specs.Runs.{zeros, InRange, run_on}
+use Rattle.gcl_core.specs.Runs.{zeros, run_on}
 use Rattle.gcl_core.specs.Syntax.{Source}
 use Rattle.gcl_core.specs.WeightedEnds.{sure}
 use Rattle.gcl_core.proofs.Accepted.{checked_weights}
@@ -22,14 +22,14 @@ use Rattle.frac128.specs.Fraction.{InLowest, IsEqual, lowest}
 use Rattle.frac128.proofs.Divisors.{product_pos, lowest_equal, lowest_in_lowest, cancel}
 use Rattle.mass_tables.specs.Reached.{Reached, draws_of}
 use Rattle.mass_tables.specs.Scale.{whole, Whole, Wholes, amount, weight}
-use Rattle.mass_tables.specs.Tables.{Table, peak_of, tables_of}
+use Rattle.mass_tables.specs.Tables.{Table, peak_of}
 use Rattle.mass_tables.specs.Width.{round_width, denominator}
 use Rattle.mass_tables.proofs.AtWidth.{at_width}
 use Rattle.mass_tables.proofs.Positive.{Positive}
 use Rattle.mass_tables.proofs.Wholes.{whole_from, whole_multiple}
-use Rattle.mass_fold.specs.Body.{BitsAt, RoundBits, IsMass}
-use Rattle.mass_fold.specs.Metering.{IsPriced, Priced, price}
-use Rattle.mass_fold.specs.Rounds.{geometric, scale_of, MayRepeat, IsRepeated, RepeatBlames}
+use Rattle.mass_fold.specs.Body.{RoundBits, IsMass}
+use Rattle.mass_fold.specs.Metering.{Priced, price}
+use Rattle.mass_fold.specs.Rounds.{geometric, scale_of, IsRepeated, RepeatBlames}
 use Rattle.mass_fold.proofs.AllRounds.{same_sums}
 use Rattle.mass_fold.proofs.OutcomeRows.{lowest_is}
 use Rattle.mass_fold.proofs.Repeats.{scale_is}

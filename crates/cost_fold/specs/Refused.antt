@@ -1,5 +1,5 @@
 -- Why there are no expected bits: for the spread, for the peak, or for want of memory. This project's own rule.
-use Rattle.std.specs.Prelude.{ℕ, ◌<◌, Some}
+use Rattle.std.specs.Prelude.{◌<◌, Some}
 use Rattle.gcl_core.specs.declared.answers.Limits.{Limits}
 use Rattle.gcl_core.specs.Syntax.{Source}
 use Rattle.mass_tables.specs.Tables.{peak_of}

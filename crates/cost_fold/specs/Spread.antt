@@ -1,5 +1,5 @@
 -- How wide the expected bits of a program are, and why they are refused. This project's own rule.
-use Rattle.std.specs.Prelude.{ℕ, ◌+◌, ◌-◌, ◌*◌, ◌^◌, ◌<◌, ◌≤◌, max, [], ◌∷◌, Some}
+use Rattle.std.specs.Prelude.{ℕ, ◌+◌, ◌-◌, ◌*◌, ◌^◌, max, [], ◌∷◌, Some}
 use Rattle.gcl_core.specs.declared.answers.Limits.{Limits}
 use Rattle.gcl_core.specs.Longest.{longest}
 use Rattle.gcl_core.specs.Mass.{failed_mass}

@@ -1,4 +1,4 @@
-use Rattle.std.proofs.Common.{◌≡◌, ◌<◌, None, Some, refl, subst, arith}
+use Rattle.std.proofs.Common.{Some, refl, subst}
 use Rattle.gcl_core.specs.Views.{source_of}
 use Rattle.mass_fold.specs.Body.{RoundBits}
 use Rattle.cost_fold.proofs.Whole.{body_wide, rounds_wide, cost_is, cost_law}
