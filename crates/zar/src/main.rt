@@ -3,8 +3,20 @@
 
 ghost use Rattle.std.specs.Prelude.{◌<◌, ◌^◌, length};
 
+#[cfg(test)]
+mod comparing;
+#[cfg(test)]
+mod gate_tests;
+#[cfg(test)]
+mod hostile_tests;
+#[cfg(test)]
+mod in_memory;
 mod progress;
+#[cfg(test)]
+mod tests;
 mod wiping;
+#[cfg(test)]
+mod words_tests;
 
 use crate::progress::Progress;
 use crate::wiping::WipingSink;

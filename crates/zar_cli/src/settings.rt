@@ -138,7 +138,7 @@ impl Setting {
 
 impl Verb {
     /// The number that the word behind the verb is, where the verb takes a number.
-    pub fn number(self, word: &str) -> Option<u64>
+    pub(crate) fn number(self, word: &str) -> Option<u64>
         ensures number { result ≡ number_of self word.now }
     {
         match self {
@@ -158,7 +158,7 @@ impl Verb {
     }
 
     /// The word behind the verb is of its form: a number in its range, or the name of a file.
-    pub fn is_first(self, word: &str) -> bool
+    pub(crate) fn is_first(self, word: &str) -> bool
         ensures { result ≡ is_first self word.now }
     {
         match self {
@@ -177,7 +177,7 @@ impl Verb {
     }
 
     // The command takes the option.
-    pub fn allows(self, setting: Setting) -> bool
+    pub(crate) fn allows(self, setting: Setting) -> bool
         ensures { result ≡ allows self setting }
     {
         match self {

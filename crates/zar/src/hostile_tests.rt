@@ -2,10 +2,10 @@
 
 use crate::in_memory::spelled;
 use crate::tests::{TWO_THIRDS, files_of};
-use crate::zar;
 use std::alloc::{AllocError, Global};
 use std::test::Fail;
 use std::thread::Threads;
+use zar_cli::zar;
 use zar_io::{MemSink, Open};
 
 // Which calls fail in turn.

@@ -8,10 +8,10 @@ ghost use Rattle.zar_cli.specs.Output.{Output, TellsWords};
 ghost use Rattle.zar_cli.specs.Seen.{IsQuiet};
 ghost use Rattle.zar_cli.specs.Words.{command_of};
 
-use crate::zar;
 use std::alloc::{AllocError, Global};
 use std::test::Fail;
 use std::thread::Threads;
+use zar_cli::zar;
 use zar_io::{MemFiles, MemSink, Open};
 
 // The words of a call.

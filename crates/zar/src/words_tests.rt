@@ -3,12 +3,10 @@
 ghost use Rattle.std.specs.Prelude.{◌^◌, ◌<◌, length};
 
 use crate::in_memory::spelled;
-use crate::keys::key_named;
-use crate::settings::Verb;
-use crate::{Command, Source, Topic, WordsError, read_words};
 use gcl_core::{Fault, Limit, Outcome, TallyKey};
 use std::alloc::{AllocError, Global};
 use std::test::Fail;
+use zar_cli::{Command, Source, Topic, Verb, WordsError, read_words};
 
 // What the words of a call answer.
 fn read(alloc: Global, call: &[&str]) -> Result<Result<Command, WordsError>, AllocError>
@@ -362,8 +360,20 @@ fn reads_the_numbers_and_the_key_of_hunt(rt: HostRuntime) -> Result<(), Fail> {
     Ok(())
 }
 
+// What a hunt looks for by this word.
+fn wanted(alloc: Global, word: &str) -> Result<Result<TallyKey, WordsError>, AllocError> {
+    let hunted = [
+        "hunt", "p", "--want", word, "--seed", "0", "--from", "0", "--to", "1",
+    ];
+    match read(alloc, &hunted)? {
+        Ok(Command::Hunt(_, _, _, want)) => Ok(Ok(want)),
+        Ok(_) => Ok(Err(WordsError::BadWords { at: 0 })),
+        Err(error) => Ok(Err(error)),
+    }
+}
+
 #[test]
-fn keys_are_named(rt: HostRuntime) {
+fn keys_are_named(rt: HostRuntime) -> Result<(), Fail> {
     let cases: [(&str, Option<Outcome>); 21] = [
         ("0", Some(Outcome::Value(0))),
         ("-0", Some(Outcome::Value(0))),
@@ -388,11 +398,18 @@ fn keys_are_named(rt: HostRuntime) {
         ("000000000000000000005", None),
     ];
     for (word, outcome) in cases {
-        let key = outcome.map(|outcome| TallyKey::Outcome(outcome));
-        assert_eq!(rt; key_named(word), key, "{word}");
+        let want = match outcome {
+            Some(outcome) => Ok(TallyKey::Outcome(outcome)),
+            None => Err(WordsError::BadWords { at: 3 }),
+        };
+        assert_eq!(rt; wanted(rt.alloc(), word)?, want, "{word}");
     }
-    assert_eq!(rt; key_named("more-bits"), Some(TallyKey::MoreBits));
-    assert_eq!(rt; key_named("more bits"), None);
+    assert_eq!(rt; wanted(rt.alloc(), "more-bits")?, Ok(TallyKey::MoreBits));
+    assert_eq!(rt;
+        wanted(rt.alloc(), "more bits")?,
+        Err(WordsError::BadWords { at: 3 })
+    );
+    Ok(())
 }
 
 fn asks_for(alloc: Global, words: &[&str], want: Topic) -> Result<bool, AllocError>

@@ -4,10 +4,10 @@ ghost use Rattle.std.specs.Prelude.{◌≡◌, ◌<◌, ◌^◌, IfOk, OnOk, len
 ghost use Rattle.zar_io.specs.MemFiles.{has_open};
 
 use crate::in_memory::spelled;
-use crate::zar;
 use std::alloc::{AllocError, Global};
 use std::test::Fail;
 use std::thread::Threads;
+use zar_cli::zar;
 use zar_io::{MemFiles, MemSink, Open};
 
 pub(crate) const TWO_THIRDS: &[u8] = b"choice 2/3 { x := 1; } or { x := 2; } return x;";

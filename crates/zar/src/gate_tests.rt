@@ -3,7 +3,6 @@
 ghost use Rattle.std.specs.Prelude.{◌^◌, ◌<◌, length};
 
 use crate::in_memory::spelled;
-use crate::zar;
 use std::alloc::{AllocError, Global};
 use std::marker::Sync;
 use std::sync::atomic::AtomicU64;
@@ -11,6 +10,7 @@ use std::sync::atomic::Ordering::SeqCst;
 use std::test::Fail;
 use std::thread;
 use std::thread::Threads;
+use zar_cli::zar;
 use zar_io::{Gate, MemFiles, MemSink};
 
 // Holds the block that is entered first until the three others were entered.
