@@ -21,7 +21,8 @@ use Rattle.zar_cli.specs.Fits.{greatest_code}
 use Rattle.zar_cli.specs.Output.{Output}
 use Rattle.zar_cli.specs.Seen.{FilesSeen, SinkSeen, IsQuiet, NoWriteFailed}
 use Rattle.zar_cli.specs.Stages.{refusal_in, CountsRead, ClosesAfter}
-use Rattle.zar_cli.specs.Words.{Word, command_of, is_bad}
+use Rattle.zar_cli.specs.Forms.{Word}
+use Rattle.zar_cli.specs.Words.{command_of, is_bad}
 
 -- ---- the statuses of what is said
 

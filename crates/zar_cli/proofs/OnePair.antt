@@ -2,7 +2,8 @@
 use Rattle.std.proofs.Common.{◌≡◌, ℕ, ◌+◌, List, [], ◌∷◌, map, get_or, drop, length, ◌≤◌, arith, refl, Some, Result, Ok, Err, ap, ◌∙◌}
 use Rattle.zar_cli.specs.declared.settings.Setting.{Setting}
 use Rattle.zar_cli.specs.declared.settings.Verb.{Verb}
-use Rattle.zar_cli.specs.Words.{Word, Options, setting_named, if_taken, with_value, or_bad_value, or_bad_name, with_pair, options_from}
+use Rattle.zar_cli.specs.Forms.{Word}
+use Rattle.zar_cli.specs.OptionWords.{Options, setting_named, if_taken, with_value, or_bad_value, or_bad_name, with_pair, options_from}
 
 pub options_go : (v : Verb) (i : ℕ) (o o' : Options) (name value : Word) (rest : List Word) (setting : Setting) → if_taken v (setting_named name) o ≡ Some setting
     → with_value setting value o ≡ Some o' → options_from v i o (name ∷ value ∷ rest) ≡ options_from v (i + 2) o' rest

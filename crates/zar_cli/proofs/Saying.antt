@@ -22,7 +22,7 @@ use Rattle.zar_cli.specs.Output.{Output, says, reading, on_bits, written, spelle
 use Rattle.zar_cli.specs.Readings.{InFile, NoneInFile, GivesOnBits, Gives}
 use Rattle.zar_cli.specs.Seen.{FilesSeen, IsQuiet}
 use Rattle.zar_cli.specs.Stages.{CountsRead, MissesOneOf, IsStage}
-use Rattle.zar_cli.specs.Words.{Word}
+use Rattle.zar_cli.specs.Forms.{Word}
 use Rattle.zar_cli.proofs.Refusals.{fits_more}
 
 -- a call that counted no fault refuses no read

@@ -11,7 +11,8 @@ use Rattle.zar_cli.specs.Fits.{names_in, Fits}
 use Rattle.zar_cli.specs.Output.{Output, TellsWords}
 use Rattle.zar_cli.specs.Seen.{FilesSeen, SinkSeen, IsQuiet, NoWriteFailed}
 use Rattle.zar_cli.specs.Stages.{refusal_in, CountsRead, ClosesAfter, MissesOneOf}
-use Rattle.zar_cli.specs.Words.{Word, command_of, is_bad}
+use Rattle.zar_cli.specs.Forms.{Word}
+use Rattle.zar_cli.specs.Words.{command_of, is_bad}
 
 -- ---- what is said
 

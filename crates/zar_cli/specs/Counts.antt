@@ -19,7 +19,7 @@ use Rattle.zar_cli.specs.declared.said.Said.{Said}
 use Rattle.zar_cli.specs.declared.said.Said.TheVariants.{Shown}
 use Rattle.zar_cli.specs.declared.settings.TheConstants.{USUAL_BUDGET, USUAL_WORKERS, GENERATED_STREAMS}
 use Rattle.zar_cli.specs.Tables.{audit_text, tally_rows_text}
-use Rattle.zar_cli.specs.Words.{limits_of, no_options}
+use Rattle.zar_cli.specs.OptionWords.{limits_of, no_options}
 
 -- a text of this kind is shown
 abbrev pub Shows : (List ℕ → Type 0) → Result Said Refusal → Type 0

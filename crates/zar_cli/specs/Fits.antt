@@ -8,7 +8,7 @@ use Rattle.zar_cli.specs.declared.said.Said.TheVariants.{Answered, Accepted, Cos
 use Rattle.zar_cli.specs.declared.command.Command.{Command}
 use Rattle.zar_cli.specs.declared.command.Command.TheVariants.{Sample, Mass, Cost, Posterior, Audit, Tally, Hunt, Check, Show, Code, Gen, Fast, Help}
 use Rattle.zar_cli.specs.declared.command.Source.TheVariants.{File, Stream}
-use Rattle.zar_cli.specs.Words.{Word}
+use Rattle.zar_cli.specs.Forms.{Word}
 use Rattle.zar_cli.specs.Output.{Output}
 
 -- the names of the files that a command reads, in their order

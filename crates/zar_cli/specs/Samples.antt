@@ -11,7 +11,7 @@ use Rattle.zar_cli.specs.declared.command.Command.TheVariants.{Sample}
 use Rattle.zar_cli.specs.declared.command.Source.TheVariants.{File}
 use Rattle.zar_cli.specs.declared.said.Said.TheVariants.{Answered}
 use Rattle.zar_cli.specs.Output.{Output, IsOutput}
-use Rattle.zar_cli.specs.Words.{Word}
+use Rattle.zar_cli.specs.Forms.{Word}
 
 pub record SamplesExactly (text : List ℕ) (p : Source) (l : Limits) : Type 0 where
   -- over files that hold the text and some bits, the command says how the program's run on the bits ends

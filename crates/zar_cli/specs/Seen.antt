@@ -1,6 +1,6 @@
 -- What files and sinks show of themselves before and after a call.
 use Rattle.std.specs.Prelude.{◌≡◌, ℕ, ◌+◌, ◌^◌, ◌<◌, Bool, List, Option}
-use Rattle.zar_cli.specs.Words.{Word}
+use Rattle.zar_cli.specs.Forms.{Word}
 
 -- files: whether they tell what they hold, the bytes of each name, the names that may be missing, the faults counted, and whether a
 -- file is open after the call

@@ -1,7 +1,7 @@
 // The keys that words name.
 
 ghost use Rattle.std.specs.Prelude.{◌≡◌};
-ghost use Rattle.zar_cli.specs.Words.{value_in, key_named};
+ghost use Rattle.zar_cli.specs.Forms.{value_in, key_named};
 
 use crate::settings::number_in;
 use gcl_core::{Fault, Limit, Outcome, TallyKey};

@@ -59,7 +59,7 @@ pub const NO_OPTIONS: Options<'static> = Options {
 impl<'a> Options<'a> {
     ghost use Rattle.std.specs.Prelude.{option_map, IfSome};
     ghost use Rattle.gcl_core.specs.Runs.{InRange};
-    ghost use Rattle.zar_cli.specs.Words.{setting_named, is_given, excludes, if_taken, with_value, limits_of, range_of};
+    ghost use Rattle.zar_cli.specs.OptionWords.{setting_named, is_given, excludes, if_taken, with_value, limits_of, range_of};
     ghost use Rattle.tally_range.specs.Ranges.{IsRange, IsWorkers};
     ghost use Rattle.zar_cli.specs.OptionsView.{options_of};
 

@@ -1,7 +1,7 @@
 // The pairs of an option and its value.
 
 ghost use Rattle.std.specs.Prelude.{◌≡◌, ◌+◌, ◌^◌, ◌<◌, length, Ok, Err, map, string_bytes, MatchResult};
-ghost use Rattle.zar_cli.specs.Words.{options_from};
+ghost use Rattle.zar_cli.specs.OptionWords.{options_from};
 ghost use Rattle.zar_cli.specs.OptionsView.{options_of};
 
 use crate::options::Options;

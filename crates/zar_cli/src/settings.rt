@@ -3,7 +3,9 @@
 ghost use Rattle.std.specs.Prelude.{◌≡◌, ◌≤◌, true, length, IfSome};
 ghost use Rattle.std.specs.List.{list_all};
 ghost use Rattle.std.specs.Str.Parse.{digits_value};
-ghost use Rattle.zar_cli.specs.Words.{verb_named, setting_named, is_limit, is_bits, is_range, allows, is_digit, number_in, number_of, is_first};
+ghost use Rattle.zar_cli.specs.Forms.{is_digit, number_in};
+ghost use Rattle.zar_cli.specs.OptionWords.{setting_named, purpose_of, allows};
+ghost use Rattle.zar_cli.specs.Words.{verb_named, number_of, is_first};
 
 use dice_roll::{LEAST_LABELS, MOST_LABELS};
 use generated_program::GREATEST_NUMBER;
@@ -40,6 +42,27 @@ pub enum Setting {
     Turns,
     Attempts,
     Rounds,
+    Want,
+}
+
+/// What an option is for.
+#[derive(Clone, Copy)]
+pub enum Purpose {
+    /// The bits of one run.
+    OneRun,
+    /// The bits of a stream, or of each stream of a range.
+    Streams,
+    /// Which streams are gone through, and by how many workers.
+    Range,
+    /// How deep an audit goes.
+    Depth,
+    /// How many flips a roll may make.
+    Flips,
+    /// How many turns each entry of a loop has.
+    Turns,
+    /// How many attempts each draw has, and a run how many rounds.
+    Tries,
+    /// Which way to end is wanted.
     Want,
 }
 
@@ -108,31 +131,19 @@ pub fn setting_named(word: &str) -> Option<Setting>
 }
 
 impl Setting {
-    // A limit of turns, of attempts or of rounds.
-    fn is_limit(self) -> bool
-        ensures { result ≡ is_limit self }
+    fn purpose(self) -> Purpose
+        ensures { result ≡ purpose_of self }
     {
-        matches!(self, Setting::Turns | Setting::Attempts | Setting::Rounds)
-    }
-
-    // Where the bits of a sample come from.
-    fn is_bits(self) -> bool
-        ensures { result ≡ is_bits self }
-    {
-        matches!(
-            self,
-            Setting::Bits | Setting::Seed | Setting::Stream | Setting::Budget
-        )
-    }
-
-    // Which streams are gone through, and by how many workers.
-    fn is_range(self) -> bool
-        ensures { result ≡ is_range self }
-    {
-        matches!(
-            self,
-            Setting::Seed | Setting::Budget | Setting::From | Setting::To | Setting::Workers
-        )
+        match self {
+            Setting::Bits | Setting::Stream => Purpose::OneRun,
+            Setting::Seed | Setting::Budget => Purpose::Streams,
+            Setting::From | Setting::To | Setting::Workers => Purpose::Range,
+            Setting::Depth => Purpose::Depth,
+            Setting::Flips => Purpose::Flips,
+            Setting::Turns => Purpose::Turns,
+            Setting::Attempts | Setting::Rounds => Purpose::Tries,
+            Setting::Want => Purpose::Want,
+        }
     }
 }
 
@@ -180,16 +191,24 @@ impl Verb {
     pub(crate) fn allows(self, setting: Setting) -> bool
         ensures { result ≡ allows self setting }
     {
+        let purpose = setting.purpose();
         match self {
-            Verb::Sample => setting.is_limit() || setting.is_bits(),
-            Verb::Mass | Verb::Cost => setting.is_limit(),
-            Verb::Posterior => matches!(setting, Setting::Turns),
-            Verb::Audit => setting.is_limit() || matches!(setting, Setting::Depth),
-            Verb::Tally => setting.is_limit() || setting.is_range(),
-            Verb::Hunt => {
-                setting.is_limit() || setting.is_range() || matches!(setting, Setting::Want)
-            }
-            Verb::Fast => setting.is_bits() || matches!(setting, Setting::Flips),
+            Verb::Sample => matches!(
+                purpose,
+                Purpose::OneRun | Purpose::Streams | Purpose::Turns | Purpose::Tries
+            ),
+            Verb::Mass | Verb::Cost => matches!(purpose, Purpose::Turns | Purpose::Tries),
+            Verb::Posterior => matches!(purpose, Purpose::Turns),
+            Verb::Audit => matches!(purpose, Purpose::Depth | Purpose::Turns | Purpose::Tries),
+            Verb::Tally => matches!(
+                purpose,
+                Purpose::Streams | Purpose::Range | Purpose::Turns | Purpose::Tries
+            ),
+            Verb::Hunt => matches!(
+                purpose,
+                Purpose::Streams | Purpose::Range | Purpose::Turns | Purpose::Tries | Purpose::Want
+            ),
+            Verb::Fast => matches!(purpose, Purpose::OneRun | Purpose::Streams | Purpose::Flips),
             Verb::Check | Verb::Show | Verb::Code | Verb::Gen => false,
         }
     }

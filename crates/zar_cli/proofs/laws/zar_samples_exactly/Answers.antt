@@ -8,7 +8,7 @@ use Rattle.zar_cli.specs.declared.command.Command.TheVariants.{Sample}
 use Rattle.zar_cli.specs.declared.command.Source.TheVariants.{File}
 use Rattle.zar_cli.specs.declared.said.Said.TheVariants.{Answered}
 use Rattle.zar_cli.specs.Output.{Output, IsOutput, reading, on_bits, spelled}
-use Rattle.zar_cli.specs.Words.{Word}
+use Rattle.zar_cli.specs.Forms.{Word}
 use Rattle.zar_cli.proofs.laws.zar_samples_exactly.Goals as goal
 
 -- what is said of a file of bits, from what is said of the text

@@ -1,0 +1,47 @@
+-- The forms of the words of a call: the name of a file, a number, and a key of a tally.
+use Rattle.std.specs.Prelude.{ℕ, ◌-◌, ◌^◌, nat_le, Bool, true, false, ◌&&◌, ◌==◌, ℤ, pos, neg_ℤ, List, [], ◌∷◌, length, codes, Option, Some, None, option_map, if◌then◌else◌}
+use Rattle.std.specs.List.{list_all}
+use Rattle.std.specs.Str.{bytes_eq}
+use Rattle.std.specs.Str.Parse.{digits_value}
+use Rattle.gcl_core.specs.declared.answers.Fault.TheVariants as fault
+use Rattle.gcl_core.specs.declared.answers.Limit.TheVariants as limit
+use Rattle.gcl_core.specs.declared.answers.Outcome.TheVariants as outcome
+use Rattle.gcl_core.specs.declared.answers.TallyKey.{TallyKey}
+use Rattle.gcl_core.specs.declared.answers.TallyKey.TheVariants as key
+
+abbrev pub Word : Type 0
+Word = List ℕ
+
+-- a file's name is any word that is not empty
+abbrev pub is_name : Word → Bool
+is_name [] = false
+is_name (b ∷ bs) = true
+
+abbrev pub is_digit : ℕ → Bool
+is_digit b = nat_le 48 b && nat_le b 57
+
+-- a number is 1 to 20 digits, leading zeros allowed, with a value in its range
+abbrev pub number_in : ℕ → ℕ → Word → Option ℕ
+number_in least most word =
+    if nat_le 1 (length word) && nat_le (length word) 20 && list_all is_digit word && nat_le least (digits_value 10 word) && nat_le (digits_value 10 word) most
+    then Some (digits_value 10 word) else None
+
+-- a value is a number with an optional minus sign, the code 45, before it, and has 64 bits
+abbrev pub value_in : Word → Option ℤ
+value_in [] = None
+value_in (b ∷ bs) = if b == 45 then option_map (λ n. neg_ℤ (pos n)) (number_in 0 (2 ^ 63) bs) else option_map pos (number_in 0 (2 ^ 63 - 1) (b ∷ bs))
+
+-- to end in a value
+abbrev pub value_key : Word → Option TallyKey
+value_key word = option_map (λ v. key.Outcome (outcome.Value v)) (value_in word)
+
+-- to end in a fault, at a limit or where the bits run out, by a word, and else in a value
+abbrev pub key_named : Word → Option TallyKey
+key_named word =
+    if bytes_eq word (codes "overflow") then Some (key.Outcome (outcome.Fault fault.Overflow))
+    else (if bytes_eq word (codes "zero-divisor") then Some (key.Outcome (outcome.Fault fault.ZeroDivisor))
+    else (if bytes_eq word (codes "bad-bound") then Some (key.Outcome (outcome.Fault fault.BadBound))
+    else (if bytes_eq word (codes "turns") then Some (key.Outcome (outcome.Limit limit.Turns))
+    else (if bytes_eq word (codes "attempts") then Some (key.Outcome (outcome.Limit limit.Attempts))
+    else (if bytes_eq word (codes "rounds") then Some (key.Outcome (outcome.Limit limit.Rounds))
+    else (if bytes_eq word (codes "more-bits") then Some key.MoreBits else value_key word))))))
