@@ -3,11 +3,13 @@ use Rattle.std.specs.Prelude.{ℕ, ◌-◌, ◌^◌, nat_le, Bool, true, false, 
 use Rattle.std.specs.List.{list_all}
 use Rattle.std.specs.Str.{bytes_eq}
 use Rattle.std.specs.Str.Parse.{digits_value}
+use Rattle.gcl_core.specs.Pieces.{is_digit}
 use Rattle.gcl_core.specs.declared.answers.Fault.TheVariants as fault
 use Rattle.gcl_core.specs.declared.answers.Limit.TheVariants as limit
 use Rattle.gcl_core.specs.declared.answers.Outcome.TheVariants as outcome
 use Rattle.gcl_core.specs.declared.answers.TallyKey.{TallyKey}
 use Rattle.gcl_core.specs.declared.answers.TallyKey.TheVariants as key
+use Rattle.zar_cli.specs.declared.settings.TheConstants.{MOST_DIGITS}
 
 abbrev pub Word : Type 0
 Word = List ℕ
@@ -17,13 +19,10 @@ abbrev pub is_name : Word → Bool
 is_name [] = false
 is_name (b ∷ bs) = true
 
-abbrev pub is_digit : ℕ → Bool
-is_digit b = nat_le 48 b && nat_le b 57
-
--- a number is 1 to 20 digits, leading zeros allowed, with a value in its range
+-- a number is 1 to `MOST_DIGITS` digits, leading zeros allowed, with a value in its range
 abbrev pub number_in : ℕ → ℕ → Word → Option ℕ
 number_in least most word =
-    if nat_le 1 (length word) && nat_le (length word) 20 && list_all is_digit word && nat_le least (digits_value 10 word) && nat_le (digits_value 10 word) most
+    if nat_le 1 (length word) && nat_le (length word) MOST_DIGITS && list_all is_digit word && nat_le least (digits_value 10 word) && nat_le (digits_value 10 word) most
     then Some (digits_value 10 word) else None
 
 -- a value is a number with an optional minus sign, the code 45, before it, and has 64 bits

@@ -3,7 +3,9 @@
 ghost use Rattle.std.specs.Prelude.{◌≡◌, ◌≤◌, true, length, IfSome};
 ghost use Rattle.std.specs.List.{list_all};
 ghost use Rattle.std.specs.Str.Parse.{digits_value};
-ghost use Rattle.zar_cli.specs.Forms.{is_digit, number_in};
+ghost use Rattle.gcl_core.specs.Pieces.{is_digit};
+ghost use Rattle.zar_cli.specs.declared.settings.TheConstants.{MOST_DIGITS};
+ghost use Rattle.zar_cli.specs.Forms.{number_in};
 ghost use Rattle.zar_cli.specs.OptionWords.{setting_named, purpose_of, allows};
 ghost use Rattle.zar_cli.specs.Words.{verb_named, number_of, is_first};
 
@@ -66,6 +68,8 @@ pub enum Purpose {
     Want,
 }
 
+/// The most digits of a number.
+pub const MOST_DIGITS: usize = 20;
 /// The limit of turns, of attempts and of rounds where none is given.
 pub const USUAL_LIMIT: u64 = 1000;
 /// The limit of turns under which masses, expected bits and bounds are worked out where none is given.
@@ -214,9 +218,9 @@ impl Verb {
     }
 }
 
-// The value of at most 20 digits.
+// The value of at most `MOST_DIGITS` digits.
 fn value_of(digits: &[u8]) -> u128
-    requires few { length digits.now ≤ 20 }
+    requires few { length digits.now ≤ MOST_DIGITS }
     requires digits { list_all is_digit digits.now ≡ true }
     ensures { result ≡ digits_value 10 digits.now }
 {
@@ -233,14 +237,14 @@ fn are_digits(bytes: &[u8]) -> bool
     bytes.iter().all(|byte| b'0' <= *byte && *byte <= b'9')
 }
 
-// The value of 1 to 20 digits, if it is in range.
+// The value of 1 to `MOST_DIGITS` digits, if it is in range.
 #[tactic(auto, using(std::proofs::lemmas::Bool::Decides::nat_tests))]
 pub fn number_in(least: u64, most: u64, word: &str) -> Option<u64>
     ensures number { result ≡ number_in least most word.now }
     ensures range { IfSome result (λ n. (least ≤ n) × (n ≤ most)) }
 {
     let digits = word.as_bytes();
-    if digits.is_empty() || digits.len() > 20 || !are_digits(digits) {
+    if digits.is_empty() || digits.len() > MOST_DIGITS || !are_digits(digits) {
         return None;
     }
     let value = value_of(digits);
