@@ -3,8 +3,8 @@ use Rattle.std.proofs.Common.{◌≡◌, ℕ, zero, suc, ◌<◌, Bool, true, fa
 use Rattle.std.specs.Prelude.{if◌then◌else◌, Contains}
 use Rattle.gcl_core.specs.declared.answers.Answer.{Answer}
 use Rattle.gcl_core.specs.declared.answers.Outcome.{Outcome}
-use Rattle.gcl_core.specs.Outcomes.{same_outcome}
-use Rattle.gcl_core.specs.Order.{is_before}
+use Rattle.gcl_core.specs.meaning.Outcomes.{same_outcome}
+use Rattle.gcl_core.specs.meaning.Order.{is_before}
 use Rattle.gcl_core.proofs.OutcomeOrder.{before_differs, after_differs}
 use Rattle.gcl_core.proofs.SameOutcomes.{same_outcomes, outcome_itself}
 use Rattle.audit_walk.specs.Rows.{Rows, row_count, IsBeforeAll, Ascend, AreAboveZero, IsRows}

@@ -2,8 +2,8 @@
 use Rattle.std.proofs.Common.{ℕ, ◌^◌, Bool, List, sym, subst, ◌∙◌}
 use Rattle.gcl_core.specs.declared.answers.Answer.{Answer}
 use Rattle.gcl_core.specs.declared.answers.Limits.{Limits}
-use Rattle.gcl_core.specs.Fractions.{IsShare, IsWithinShare}
-use Rattle.gcl_core.specs.Syntax.{Source}
+use Rattle.gcl_core.specs.weighing.Fractions.{IsShare, IsWithinShare}
+use Rattle.gcl_core.specs.meaning.Syntax.{Source}
 use Rattle.weighing_law.specs.Weighing.{WeighsExactly, limited_mass}
 use Rattle.audit_walk.specs.Audited.{IsAuditOf}
 use Rattle.audit_walk.specs.Laws.{ShowsMasses}

@@ -2,8 +2,8 @@
 use Rattle.std.proofs.Common.{◌≡◌, ℕ, ◌+◌, ◌<◌, ◌^◌, Bool, true, false, [], ◌∷◌, ◌++◌, length, append_assoc, refl, sym, ap, ◌∙◌, subst, arith}
 use Rattle.std.specs.Prelude.{if◌then◌else◌}
 use Rattle.gcl_core.specs.declared.answers.Outcome.{Outcome}
-use Rattle.gcl_core.specs.Outcomes.{same_outcome}
-use Rattle.gcl_core.specs.Order.{is_before}
+use Rattle.gcl_core.specs.meaning.Outcomes.{same_outcome}
+use Rattle.gcl_core.specs.meaning.Order.{is_before}
 use Rattle.gcl_core.proofs.OutcomeOrder.{before_trans}
 use Rattle.audit_walk.specs.Rows.{Rows, row_count, sum_of_counts, IsBeforeAll, Ascend, AreAboveZero, IsRows}
 use Rattle.audit_walk.specs.inner.Sums.{AddsUp}

@@ -4,8 +4,8 @@ use Rattle.std.specs.Prelude.{if◌then◌else◌}
 use Rattle.gcl_core.specs.declared.answers.Answer.{Answer}
 use Rattle.gcl_core.specs.declared.answers.Answer.TheVariants.{Ended, MoreBits}
 use Rattle.gcl_core.specs.declared.answers.Outcome.{Outcome}
-use Rattle.gcl_core.specs.Outcomes.{same_outcome}
-use Rattle.gcl_core.specs.StringWeight.{string_weight_from, answer_in, outcome_weight}
+use Rattle.gcl_core.specs.meaning.Outcomes.{same_outcome}
+use Rattle.gcl_core.specs.weighing.StringWeight.{string_weight_from, answer_in, outcome_weight}
 use Rattle.weighing_law.specs.Prefixes.{needs_more}
 use Rattle.weighing_law.proofs.EndedStrings.{strings_that-ext, all_alike}
 use Rattle.weighing_law.proofs.StringWeights.{weight_ended, weight_short, weight_goes_on, weight_behind}

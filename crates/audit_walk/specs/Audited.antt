@@ -2,7 +2,7 @@
 use Rattle.std.specs.Prelude.{◌≡◌, ◌<◌, ◌↔◌, ℕ, Bool, List, Contains}
 use Rattle.gcl_core.specs.declared.answers.Answer.{Answer}
 use Rattle.gcl_core.specs.declared.answers.Outcome.{Outcome}
-use Rattle.gcl_core.specs.StringWeight.{outcome_weight}
+use Rattle.gcl_core.specs.weighing.StringWeight.{outcome_weight}
 use Rattle.weighing_law.specs.Counting.{strings_that}
 use Rattle.weighing_law.specs.Prefixes.{needs_more}
 use Rattle.audit_walk.specs.Rows.{Rows, IsRows, row_count}

@@ -2,8 +2,8 @@
 use Rattle.std.specs.Prelude.{◌≡◌, ◌^◌, ℕ}
 use Rattle.gcl_core.specs.declared.answers.Limits.{Limits}
 use Rattle.gcl_core.specs.declared.answers.Outcome.{Outcome}
-use Rattle.gcl_core.specs.Fractions.{IsShare, IsWithinShare}
-use Rattle.gcl_core.specs.Syntax.{Source}
+use Rattle.gcl_core.specs.weighing.Fractions.{IsShare, IsWithinShare}
+use Rattle.gcl_core.specs.meaning.Syntax.{Source}
 use Rattle.weighing_law.specs.Weighing.{limited_mass}
 use Rattle.audit_walk.specs.Rows.{Rows, row_count}
 

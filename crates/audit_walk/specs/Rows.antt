@@ -1,8 +1,8 @@
 -- Rows of an outcome and a count: outcomes ascend, and counts are above 0. This project's own rule.
 use Rattle.std.specs.Prelude.{◌≡◌, ◌+◌, ◌<◌, ℕ, true, List, [], ◌∷◌, if◌then◌else◌}
 use Rattle.gcl_core.specs.declared.answers.Outcome.{Outcome}
-use Rattle.gcl_core.specs.Order.{is_before}
-use Rattle.gcl_core.specs.Outcomes.{same_outcome}
+use Rattle.gcl_core.specs.meaning.Order.{is_before}
+use Rattle.gcl_core.specs.meaning.Outcomes.{same_outcome}
 
 abbrev pub Rows : Type 0
 Rows = List (Outcome × ℕ)

@@ -2,7 +2,7 @@
 
 ghost use Rattle.std.specs.Prelude.{◌≡◌, ◌+◌, ◌^◌, ◌≤◌, Bool, List, IfOk};
 ghost use Rattle.gcl_core.specs.declared.answers.Answer.{Answer};
-ghost use Rattle.gcl_core.specs.Runs.{InRange};
+ghost use Rattle.gcl_core.specs.meaning.LimitRange.{InRange};
 ghost use Rattle.sampler_code.specs.Assembled.{IsRunOf};
 ghost use Rattle.audit_walk.specs.Audited.{IsAuditOf};
 ghost use Rattle.audit_walk.specs.Rows.{sum_of_counts};
@@ -24,7 +24,7 @@ const FORKS: u32 = 4;
 /// How the runs of a sampler end on the bit strings of one length, of at most [`MOST_DEPTH`] bits, under limits in range. The rows are
 /// exactly the outcomes that some string ends in, each with its weight at the scale of 2 to that length; `undecided` is the number of
 /// strings of that length on which the run needs more. Counts and undecided strings add up to all strings. An error comes only where
-/// memory is wanting, in whichever thread.
+/// memory runs out, in whichever thread.
 pub fn audit<R: Threads + Sync>(
     rt: &R,
     alloc: Global,

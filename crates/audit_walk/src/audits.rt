@@ -41,7 +41,7 @@ impl Audit {
         }
     }
 
-    // Two audits added. An error comes only where memory is wanting.
+    // Two audits added. An error comes only where memory runs out.
     pub(crate) fn add(self, alloc: Global, other: Audit) -> Result<Audit, AllocError>
         requires fits { sum_of_counts self.rows + self.undecided + (sum_of_counts other.rows + other.undecided) < 2 ^ 64 }
         ensures { IfOk result (λ a. AddsUp self.rows other.rows a.rows × (a.undecided ≡ self.undecided + other.undecided)) }

@@ -2,7 +2,7 @@
 
 ghost use Rattle.std.specs.Prelude.{◌≡◌, ◌+◌, ◌^◌, ◌<◌, true, IfOk};
 ghost use Rattle.std.specs.Ordering.{MatchOrdering};
-ghost use Rattle.gcl_core.specs.Order.{is_before};
+ghost use Rattle.gcl_core.specs.meaning.Order.{is_before};
 ghost use Rattle.audit_walk.specs.Rows.{IsRows, sum_of_counts};
 ghost use Rattle.audit_walk.specs.inner.Sums.{AddsUp};
 
@@ -101,7 +101,7 @@ impl AuditRows {
         Ok(AuditRows { rows })
     }
 
-    // The rows of both, the counts of an outcome of both added. An error comes only where memory is wanting.
+    // The rows of both, the counts of an outcome of both added. An error comes only where memory runs out.
     pub(crate) fn add(self, alloc: Global, other: AuditRows) -> Result<AuditRows, AllocError>
         requires fits { sum_of_counts self + sum_of_counts other < 2 ^ 64 }
         ensures sums { IfOk result (λ r. AddsUp self other r) }

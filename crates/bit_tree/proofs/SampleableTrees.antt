@@ -1,7 +1,7 @@
 -- The tied tree of a program is sampleable.
 use Rattle.std.proofs.Common.{ℕ, length, Option, Some, None}
-use Rattle.gcl_core.specs.Syntax.{Statement, skip, assign, branch, loop, choice, choice_among, uniform, observe, Statements, done, ◌▸◌, ArmList, no_arm, arm, Source}
-use Rattle.gcl_core.specs.Bounds.{StatementBelow, BlockBelow, ArmsBelow, VariablesBelow, BlockIsWeighed}
+use Rattle.gcl_core.specs.meaning.Syntax.{Statement, Skip, Set, If, While, Choice, Choose, Uniform, Observe, Statements, done, ◌▸◌, ArmList, no_arm, arm, Source}
+use Rattle.gcl_core.specs.meaning.Bounds.{StatementBelow, BlockBelow, ArmsBelow, VariablesBelow, BlockIsWeighed}
 use Rattle.choice_tree.specs.Tree.{ChoiceTree, ChoiceTrees}
 use Rattle.choice_tree.specs.TreeOf.{in_front, member_of, members_of, arm_trees, tree_of}
 use Rattle.choice_tree.proofs.WellFormedTrees.{members_well_formed}
@@ -20,14 +20,14 @@ module _ (vars : ℕ) where
 
   mutual
     member_below : (s : Statement) → StatementBelow vars s → MemberBelow (member_of s)
-    member_below skip h = tt
-    member_below (assign x e) h = h
-    member_below (branch e a c) h = (h.0, members_below a h.1, members_below c h.2)
-    member_below (loop e a) h = (h.0, members_below a h.1)
-    member_below (choice p a c) h = (members_below a h.0, (members_below c h.1, tt))
-    member_below (choice_among arms) h = arms_below arms h
-    member_below (uniform x e) h = h
-    member_below (observe e) h = (h, tt, tt)
+    member_below Skip h = tt
+    member_below (Set x e) h = h
+    member_below (If e a c) h = (h.0, members_below a h.1, members_below c h.2)
+    member_below (While e a) h = (h.0, members_below a h.1)
+    member_below (Choice p a c) h = (members_below a h.0, (members_below c h.1, tt))
+    member_below (Choose arms) h = arms_below arms h
+    member_below (Uniform x e) h = h
+    member_below (Observe e) h = (h, tt, tt)
 
     pub members_below : (b : Statements) → BlockBelow vars b → RowBelow vars (row_debiased (members_of b))
     members_below done h = tt

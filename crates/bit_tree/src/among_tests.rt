@@ -2,8 +2,8 @@
 // parts are 3, 2 and 1, and its draw has the ends 3, 5 and 6, over numbers of three bits.
 
 ghost use Rattle.std.specs.Prelude.{◌≡◌, pos, IfOk};
-ghost use Rattle.gcl_core.specs.Syntax.{number, assign, choice_among, done, ◌▸◌, no_arm, arm};
-ghost use Rattle.gcl_core.specs.Views.{statement_of};
+ghost use Rattle.gcl_core.specs.meaning.Syntax.{Num, Set, Choose, done, ◌▸◌, no_arm, arm};
+ghost use Rattle.gcl_core.specs.meaning.Views.{statement_of};
 
 use crate::tests::{one, set, sets_in_pick};
 use crate::{Bt, debias, tie};
@@ -15,7 +15,7 @@ use std::alloc::{AllocError, Global};
 use std::test::Fail;
 
 fn choose(alloc: Global) -> Result<Stmt, AllocError>
-    ensures { IfOk result (λ s. statement_of s ≡ choice_among (arm 6 (assign 0 (number (pos 1)) ▸ done) (arm 4 (assign 0 (number (pos 2)) ▸ done) (arm 2 (assign 0 (number (pos 3)) ▸ done) no_arm)))) }
+    ensures { IfOk result (λ s. statement_of s ≡ Choose (arm 6 (Set 0 (Num (pos 1)) ▸ done) (arm 4 (Set 0 (Num (pos 2)) ▸ done) (arm 2 (Set 0 (Num (pos 3)) ▸ done) no_arm)))) }
 {
     let first = set(alloc, 1)?;
     let second = set(alloc, 2)?;
@@ -37,7 +37,7 @@ fn program(alloc: Global) -> Result<Option<Checked>, AllocError> {
     .ok())
 }
 
-// The numbers 0 to 2 are of class 0, 3 and 4 of class 1, and 5 of class 2; 6 and 7 are called again.
+// The numbers 0 to 2 are of class 0, 3 and 4 of class 1, and 5 of class 2; 6 and 7 are rejected.
 const ATTEMPTS: &[(&[bool], Attempt)] = &[
     (&[false], Attempt::MoreBits),
     (&[false, false], Attempt::Class(0, 2)),

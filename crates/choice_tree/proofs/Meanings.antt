@@ -2,13 +2,13 @@
 use Rattle.std.proofs.Common.{◌≡◌, ℕ, zero, suc, ℤ, Bool, List, Option, Some, None, Ok, Err, refl, ap, ◌∙◌}
 use Rattle.gcl_core.specs.declared.answers.Fault.{Fault}
 use Rattle.gcl_core.specs.declared.answers.Limit.TheVariants.{Attempts}
-use Rattle.gcl_core.specs.Arms.{parts_of}
-use Rattle.gcl_core.specs.Syntax.{Statement, skip, assign, branch, loop, choice, choice_among, uniform, observe, Statements, done, ◌▸◌, ArmList, no_arm, arm}
-use Rattle.gcl_core.specs.Value.{State, Value, value_of}
-use Rattle.gcl_core.specs.Reading.{Reading, gives, more_bits, after}
-use Rattle.gcl_core.specs.Draw.{draw_on}
-use Rattle.gcl_core.specs.Parts.{partial_sums}
-use Rattle.gcl_core.specs.Blocks.{End, on, failed, fault, limit, by_value, by_truth, by_class, by_side, by_end, choice_ends, loop_on, statement_on, block_on, arm_on}
+use Rattle.gcl_core.specs.meaning.Arms.{parts_of}
+use Rattle.gcl_core.specs.meaning.Syntax.{Statement, Skip, Set, If, While, Choice, Choose, Uniform, Observe, Statements, done, ◌▸◌, ArmList, no_arm, arm}
+use Rattle.gcl_core.specs.meaning.Value.{State, Value, value_of}
+use Rattle.gcl_core.specs.meaning.Reading.{Reading, gives, more_bits, after}
+use Rattle.gcl_core.specs.meaning.Draw.{draw_on, choice_ends}
+use Rattle.gcl_core.specs.meaning.Parts.{partial_sums}
+use Rattle.gcl_core.specs.meaning.Blocks.{End, on, failed, fault, limit, by_value, by_truth, by_class, by_side, by_end, loop_on, statement_on, block_on, arm_on}
 use Rattle.choice_tree.specs.Tree.{ChoiceTree, ChoiceTrees}
 use Rattle.choice_tree.specs.TreeOf.{in_front, member_of, members_of, arm_trees, tree_of}
 use Rattle.choice_tree.specs.Meaning.{choice_tree_on, choice_row_on, choice_arm_on}
@@ -63,18 +63,18 @@ module _ (n r : ℕ) where
 
   mutual
     member_means : (st : Statement) (s : State) (w : List Bool) → member_on (member_of st) s w ≡ statement_on n r st s w
-    member_means skip s w = refl
-    member_means (assign x e) s w = refl
-    member_means (branch e a c) s w =
+    member_means Skip s w = refl
+    member_means (Set x e) s w = refl
+    member_means (If e a c) s w =
         value_same (λ f. gives (fault f) w) (value_of e s) _ _ (λ v. truth_same v _ _ _ _ (members_mean a s w) (members_mean c s w))
-    member_means (loop e a) s w = loop_same (value_of e) _ _ n s w (λ s w. members_mean a s w)
-    member_means (choice p a c) s w =
+    member_means (While e a) s w = loop_same (value_of e) _ _ n s w (λ s w. members_mean a s w)
+    member_means (Choice p a c) s w =
         after_same (draw_on (choice_ends p) r w) _ _ (λ class rest. class_same (gives (limit Attempts) rest) class _ _ (λ i.
         side_same i _ _ _ _ (members_mean a s rest) (members_mean c s rest)))
-    member_means (choice_among arms) s w =
+    member_means (Choose arms) s w =
         after_same (draw_on (partial_sums (parts_of arms)) r w) _ _ (λ class rest. class_same (gives (limit Attempts) rest) class _ _ (λ i. arm_means arms i s rest))
-    member_means (uniform x e) s w = refl
-    member_means (observe e) s w = refl
+    member_means (Uniform x e) s w = refl
+    member_means (Observe e) s w = refl
 
     members_mean : (b : Statements) (s : State) (w : List Bool) → choice_row_on n r (members_of b) s w ≡ block_on n r b s w
     members_mean done s w = refl

@@ -3,8 +3,8 @@ use Rattle.std.proofs.Common.{◌≡◌, ◌∙◌, ℕ, ◌+◌, ◌<◌, List,
 use Rattle.std.proofs.lemmas.List.{at_drop_more}
 use Rattle.gcl_core.specs.declared.syntax.Block.{Block}
 use Rattle.gcl_core.specs.declared.syntax.Stmt.{Stmt}
-use Rattle.gcl_core.specs.Views as statements
-use Rattle.gcl_core.specs.Views.{statement_of, statements_of, arm_list_of}
+use Rattle.gcl_core.specs.meaning.Views as statements
+use Rattle.gcl_core.specs.meaning.Views.{statement_of, statements_of, arm_list_of}
 use Rattle.choice_tree.specs.declared.tree.Cf.{Cf}
 use Rattle.choice_tree.specs.Tree.{ChoiceTree, ChoiceTrees, no_tree, ◌▹◌}
 use Rattle.choice_tree.specs.TreeOf.{in_front, member_of, members_of, arm_trees, tree_of}

@@ -1,8 +1,8 @@
 -- The tree of a block with such weights and parts is well formed.
 use Rattle.std.proofs.Common.{◌≡◌, length, Option, Some, None, refl, arith}
-use Rattle.gcl_core.specs.Arms.{parts_of}
-use Rattle.gcl_core.specs.Bounds.{StatementIsWeighed, BlockIsWeighed, ArmsAreWeighed}
-use Rattle.gcl_core.specs.Syntax.{Statement, skip, assign, branch, loop, choice, choice_among, uniform, observe, Statements, done, ◌▸◌, ArmList, no_arm, arm}
+use Rattle.gcl_core.specs.meaning.Arms.{parts_of}
+use Rattle.gcl_core.specs.meaning.Bounds.{StatementIsWeighed, BlockIsWeighed, ArmsAreWeighed}
+use Rattle.gcl_core.specs.meaning.Syntax.{Statement, Skip, Set, If, While, Choice, Choose, Uniform, Observe, Statements, done, ◌▸◌, ArmList, no_arm, arm}
 use Rattle.choice_tree.specs.Tree.{ChoiceTree, ChoiceTrees, count}
 use Rattle.choice_tree.specs.TreeOf.{in_front, member_of, members_of, arm_trees}
 use Rattle.choice_tree.specs.WellFormed.{IsWellFormed, AreWellFormed}
@@ -22,14 +22,14 @@ tree_for_each (arm p b arms) = let e = tree_for_each arms in omega (arith, e)
 
 mutual
   member_well_formed : (s : Statement) → StatementIsWeighed s → MemberIsWellFormed (member_of s)
-  member_well_formed skip h = tt
-  member_well_formed (assign x e) h = tt
-  member_well_formed (branch e a c) h = (members_well_formed a h.0, members_well_formed c h.1)
-  member_well_formed (loop e a) h = members_well_formed a h
-  member_well_formed (choice p a c) h = (h.0, members_well_formed a h.1, members_well_formed c h.2)
-  member_well_formed (choice_among arms) h = (h.0, tree_for_each arms, arms_well_formed arms h.1)
-  member_well_formed (uniform x e) h = tt
-  member_well_formed (observe e) h = (tt, tt)
+  member_well_formed Skip h = tt
+  member_well_formed (Set x e) h = tt
+  member_well_formed (If e a c) h = (members_well_formed a h.0, members_well_formed c h.1)
+  member_well_formed (While e a) h = members_well_formed a h
+  member_well_formed (Choice p a c) h = (h.0, members_well_formed a h.1, members_well_formed c h.2)
+  member_well_formed (Choose arms) h = (h.0, tree_for_each arms, arms_well_formed arms h.1)
+  member_well_formed (Uniform x e) h = tt
+  member_well_formed (Observe e) h = (tt, tt)
 
   pub members_well_formed : (b : Statements) → BlockIsWeighed b → AreWellFormed (members_of b)
   members_well_formed done h = tt

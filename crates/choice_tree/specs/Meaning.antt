@@ -3,30 +3,30 @@
 -- class of its draw.
 use Rattle.std.specs.Prelude.{ℕ, zero, suc, Bool, List, slice_set}
 use Rattle.gcl_core.specs.declared.answers.Limit.TheVariants.{Attempts}
-use Rattle.gcl_core.specs.Value.{State, value_of}
-use Rattle.gcl_core.specs.Reading.{Reading, gives, after}
-use Rattle.gcl_core.specs.Draw.{draw_on}
-use Rattle.gcl_core.specs.Blocks.{End, on, failed, fault, limit, by_value, by_truth, by_class, by_side, by_end, choice_ends, uniform_on, loop_on}
-use Rattle.gcl_core.specs.Parts.{partial_sums}
-use Rattle.choice_tree.specs.Tree.{ChoiceTree, fails, sets, tests, chooses, chooses_among, draws_below, in_order, repeats, ChoiceTrees, no_tree, ◌▹◌}
+use Rattle.gcl_core.specs.meaning.Value.{State, value_of}
+use Rattle.gcl_core.specs.meaning.Reading.{Reading, gives, after}
+use Rattle.gcl_core.specs.meaning.Draw.{draw_on, choice_ends}
+use Rattle.gcl_core.specs.meaning.Blocks.{End, on, failed, fault, limit, by_value, by_truth, by_class, by_side, by_end, uniform_on, loop_on}
+use Rattle.gcl_core.specs.meaning.Parts.{partial_sums}
+use Rattle.choice_tree.specs.Tree.{ChoiceTree, Fail, Set, Test, Choice, Choose, Uniform, Row, Fix, ChoiceTrees, no_tree, ◌▹◌}
 
 -- under limits of n turns for each entry of a repetition and r attempts for each draw
 module _ (n r : ℕ) where
   abbrev mutual
     pub choice_tree_on : ChoiceTree → State → List Bool → Reading End
-    choice_tree_on fails s w = gives failed w
-    choice_tree_on (sets x e) s w = by_value (λ f. gives (fault f) w) (value_of e s) (λ v. gives (on (slice_set s x v)) w)
-    choice_tree_on (tests e a c) s w =
+    choice_tree_on Fail s w = gives failed w
+    choice_tree_on (Set x e) s w = by_value (λ f. gives (fault f) w) (value_of e s) (λ v. gives (on (slice_set s x v)) w)
+    choice_tree_on (Test e a c) s w =
         by_value (λ f. gives (fault f) w) (value_of e s) (λ v. by_truth v (choice_tree_on a s w) (choice_tree_on c s w))
-    choice_tree_on (chooses p a c) s w =
+    choice_tree_on (Choice p a c) s w =
         after (draw_on (choice_ends p) r w)
         (λ class rest. by_class (gives (limit Attempts) rest) class (λ i. by_side i (choice_tree_on a s rest) (choice_tree_on c s rest)))
-    choice_tree_on (chooses_among ps ts) s w =
+    choice_tree_on (Choose ps ts) s w =
         after (draw_on (partial_sums ps) r w)
         (λ class rest. by_class (gives (limit Attempts) rest) class (λ i. choice_arm_on ts i s rest))
-    choice_tree_on (draws_below x e) s w = by_value (λ f. gives (fault f) w) (value_of e s) (λ v. uniform_on r x v s w)
-    choice_tree_on (in_order ts) s w = choice_row_on ts s w
-    choice_tree_on (repeats e a) s w = loop_on (value_of e) (choice_tree_on a) n s w
+    choice_tree_on (Uniform x e) s w = by_value (λ f. gives (fault f) w) (value_of e s) (λ v. uniform_on r x v s w)
+    choice_tree_on (Row ts) s w = choice_row_on ts s w
+    choice_tree_on (Fix e a) s w = loop_on (value_of e) (choice_tree_on a) n s w
 
     pub choice_row_on : ChoiceTrees → State → List Bool → Reading End
     choice_row_on no_tree s w = gives (on s) w

@@ -2,19 +2,19 @@
 -- with choices among several arms and draws below a bound as forms of their own.
 use Rattle.std.specs.Prelude.{ℕ, zero, suc, ◌+◌, List, Option, Some, None}
 use Rattle.gcl_core.specs.declared.syntax.Weight.{Weight}
-use Rattle.gcl_core.specs.Syntax.{Expression}
+use Rattle.gcl_core.specs.meaning.Syntax.{Expression}
 
 infixr 5 ◌▹◌
 mutual
   pub data ChoiceTree : Type 0 where
-    fails : ChoiceTree
-    sets : ℕ → Expression → ChoiceTree
-    tests : Expression → ChoiceTree → ChoiceTree → ChoiceTree
-    chooses : Weight → ChoiceTree → ChoiceTree → ChoiceTree
-    chooses_among : List ℕ → ChoiceTrees → ChoiceTree
-    draws_below : ℕ → Expression → ChoiceTree
-    in_order : ChoiceTrees → ChoiceTree
-    repeats : Expression → ChoiceTree → ChoiceTree
+    Fail : ChoiceTree
+    Set : ℕ → Expression → ChoiceTree
+    Test : Expression → ChoiceTree → ChoiceTree → ChoiceTree
+    Choice : Weight → ChoiceTree → ChoiceTree → ChoiceTree
+    Choose : List ℕ → ChoiceTrees → ChoiceTree
+    Uniform : ℕ → Expression → ChoiceTree
+    Row : ChoiceTrees → ChoiceTree
+    Fix : Expression → ChoiceTree → ChoiceTree
 
   pub data ChoiceTrees : Type 0 where
     no_tree : ChoiceTrees

@@ -1,8 +1,9 @@
 -- The tree of a block: a row of the trees of its statements, in their order. A choice among several has the parts and the trees of its arms.
 use Rattle.std.specs.Prelude.{Option, Some, None}
-use Rattle.gcl_core.specs.Arms.{parts_of}
-use Rattle.gcl_core.specs.Syntax.{Statement, skip, assign, branch, loop, choice, choice_among, uniform, observe, Statements, done, ◌▸◌, ArmList, no_arm, arm}
-use Rattle.choice_tree.specs.Tree.{ChoiceTree, fails, sets, tests, chooses, chooses_among, draws_below, in_order, repeats, ChoiceTrees, no_tree, ◌▹◌}
+use Rattle.gcl_core.specs.meaning.Arms.{parts_of}
+use Rattle.gcl_core.specs.meaning.Syntax.{Statement, Statements, done, ◌▸◌, ArmList, no_arm, arm}
+use Rattle.gcl_core.specs.meaning.Syntax as source
+use Rattle.choice_tree.specs.Tree.{ChoiceTree, Fail, Set, Test, Choice, Choose, Uniform, Row, Fix, ChoiceTrees, no_tree, ◌▹◌}
 
 -- the trees, with one more in front where there is one
 abbrev pub in_front : Option ChoiceTree → ChoiceTrees → ChoiceTrees
@@ -12,14 +13,14 @@ in_front (Some t) ts = t ▹ ts
 abbrev mutual
   -- the tree of a statement; a `skip` has none
   pub member_of : Statement → Option ChoiceTree
-  member_of skip = None
-  member_of (assign x e) = Some (sets x e)
-  member_of (branch e a c) = Some (tests e (in_order (members_of a)) (in_order (members_of c)))
-  member_of (loop e a) = Some (repeats e (in_order (members_of a)))
-  member_of (choice p a c) = Some (chooses p (in_order (members_of a)) (in_order (members_of c)))
-  member_of (choice_among arms) = Some (chooses_among (parts_of arms) (arm_trees arms))
-  member_of (uniform x e) = Some (draws_below x e)
-  member_of (observe e) = Some (tests e (in_order no_tree) fails)
+  member_of source.Skip = None
+  member_of (source.Set x e) = Some (Set x e)
+  member_of (source.If e a c) = Some (Test e (Row (members_of a)) (Row (members_of c)))
+  member_of (source.While e a) = Some (Fix e (Row (members_of a)))
+  member_of (source.Choice p a c) = Some (Choice p (Row (members_of a)) (Row (members_of c)))
+  member_of (source.Choose arms) = Some (Choose (parts_of arms) (arm_trees arms))
+  member_of (source.Uniform x e) = Some (Uniform x e)
+  member_of (source.Observe e) = Some (Test e (Row no_tree) Fail)
 
   pub members_of : Statements → ChoiceTrees
   members_of done = no_tree
@@ -27,7 +28,7 @@ abbrev mutual
 
   pub arm_trees : ArmList → ChoiceTrees
   arm_trees no_arm = no_tree
-  arm_trees (arm p b arms) = in_order (members_of b) ▹ arm_trees arms
+  arm_trees (arm p b arms) = Row (members_of b) ▹ arm_trees arms
 
 abbrev pub tree_of : Statements → ChoiceTree
-tree_of b = in_order (members_of b)
+tree_of b = Row (members_of b)

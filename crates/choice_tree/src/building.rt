@@ -2,12 +2,12 @@
 
 ghost use Rattle.std.specs.Prelude.{◌≡◌, ℕ, Bool, List, IfOk};
 ghost use Rattle.std.specs.Option.{option_map};
-ghost use Rattle.gcl_core.specs.Arms.{parts_of};
-ghost use Rattle.gcl_core.specs.Value.{State};
-ghost use Rattle.gcl_core.specs.Blocks.{block_on};
-ghost use Rattle.gcl_core.specs.Views.{expression_of, statement_of, statements_of, list_of_arms};
+ghost use Rattle.gcl_core.specs.meaning.Arms.{parts_of};
+ghost use Rattle.gcl_core.specs.meaning.Value.{State};
+ghost use Rattle.gcl_core.specs.meaning.Blocks.{block_on};
+ghost use Rattle.gcl_core.specs.meaning.Views.{expression_of, statement_of, statements_of, list_of_arms};
 ghost use Rattle.choice_tree.specs.Meaning.{choice_tree_on};
-ghost use Rattle.choice_tree.specs.Tree.{fails, tests, in_order, no_tree};
+ghost use Rattle.choice_tree.specs.Tree.{Fail, Test, Row, no_tree};
 ghost use Rattle.choice_tree.specs.TreeOf.{member_of, members_of, arm_trees, tree_of};
 ghost use Rattle.choice_tree.specs.Views.{choice_tree_of, choice_trees_of};
 ghost use Rattle.choice_tree.specs.WellFormed.{IsWellFormed};
@@ -67,7 +67,7 @@ fn arm_row(alloc: Global, arms: &Arms) -> Result<CfRow, AllocError>
 // The test that fails where the value is 0, and else does nothing.
 #[tactic(auto, using(crate::proofs::ViewLemmas::views))]
 fn observation(alloc: Global, e: &Expr) -> Result<Cf, AllocError>
-    ensures { IfOk result (λ t. choice_tree_of t ≡ tests (expression_of e.now) (in_order no_tree) fails) }
+    ensures { IfOk result (λ t. choice_tree_of t ≡ Test (expression_of e.now) (Row no_tree) Fail) }
 {
     let members = Vec::new(alloc);
     let passes = Box::new(alloc, Cf::Row(CfRow { members }))?;
@@ -108,7 +108,7 @@ fn member(alloc: Global, s: &Stmt) -> Result<Option<Cf>, AllocError>
 }
 
 /// The choice-fix tree of a program's body: a row of the trees of its statements, in their order. It means on bits what the body does,
-/// from every state and under all limits, and is well formed. It refuses where memory is wanting.
+/// from every state and under all limits, and is well formed. It refuses where memory runs out.
 pub fn to_tree(alloc: Global, p: &Checked) -> Result<Cf, AllocError>
     ensures tree { IfOk result (λ t. choice_tree_of t ≡ tree_of (statements_of p.now.body)) }
     ensures meaning { IfOk result (λ t. (n r : ℕ) (s : State) (w : List Bool) →

@@ -2,7 +2,7 @@
 
 ghost use Rattle.std.specs.Prelude.{◌≡◌, ◌<◌, ◌^◌, IfOk};
 ghost use Rattle.std.specs.List.{sum};
-ghost use Rattle.gcl_core.specs.Parts.{partial_sums};
+ghost use Rattle.gcl_core.specs.meaning.Parts.{partial_sums};
 
 use std::alloc::{AllocError, Global};
 use std::marker::Model;
@@ -29,7 +29,7 @@ impl Parts {
         Parts { list }
     }
 
-    /// The first part, that and the second, up to the sum of all: the ends of the draw. It refuses where memory is wanting.
+    /// The first part, that and the second, up to the sum of all: the ends of the draw. It refuses where memory runs out.
     pub fn partial_sums(&self, alloc: Global) -> Result<Vec<u64>, AllocError>
         requires { sum self.now < 2 ^ 64 }
         ensures { IfOk result (λ v. v.items ≡ partial_sums self.now) }

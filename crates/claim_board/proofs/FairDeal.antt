@@ -5,7 +5,7 @@ use native.Mathlib.Decide.{dec_le, ℕ_discrete}
 use Rattle.std.proofs.lemmas.Bool.Decides.{nat_tests}
 use Rattle.number_lists.specs.Total.{total}
 use Rattle.number_lists.specs.Numbers.{times, once_below, ascends}
-use Rattle.claim_board.specs.Deal.{Worker, Deal, fresh, start, worker_at, draws, Claims, Runs, AreDealt, DealsFairly}
+use Rattle.claim_board.specs.Deal.{Worker, Deal, fresh, start, worker_at, after_draw, Claims, Runs, AreDealt, DealsFairly}
 use Rattle.number_lists.proofs.Totals.{total_put, total_get}
 use Rattle.number_lists.proofs.Times.{times-append, once_more, once_inside, once_outside, above_all, ascends-snoc}
 
@@ -30,21 +30,21 @@ min_inside n m h = (omega arith, omega arith)
 pub min_outside : (n m : ℕ) → m ≤ n → (min n m ≡ m) × (min (n + 1) m ≡ m)
 min_outside n m h = (omega arith, omega arith)
 
-pub draws_inside : (blocks n : ℕ) (k : Worker) → n < blocks → draws blocks n k ≡ record { dealt = k.dealt ++ n ∷ []; ended = k.ended }
+pub draws_inside : (blocks n : ℕ) (k : Worker) → n < blocks → after_draw blocks n k ≡ record { dealt = k.dealt ++ n ∷ []; ended = k.ended }
 draws_inside blocks n k h = ap (λ (b : Bool). cond b (record { dealt = k.dealt ++ n ∷ []; ended = k.ended }) (record { dealt = k.dealt; ended = true })) (test_true n blocks h)
 
-pub draws_outside : (blocks n : ℕ) (k : Worker) → blocks ≤ n → draws blocks n k ≡ record { dealt = k.dealt; ended = true }
+pub draws_outside : (blocks n : ℕ) (k : Worker) → blocks ≤ n → after_draw blocks n k ≡ record { dealt = k.dealt; ended = true }
 draws_outside blocks n k h = ap (λ (b : Bool). cond b (record { dealt = k.dealt ++ n ∷ []; ended = k.ended }) (record { dealt = k.dealt; ended = true })) (test_false n blocks h)
 
 -- a list of which each number was drawn before n
-drawn : (blocks n : ℕ) (k : Worker) (x : ℕ) → times x (draws blocks n k).dealt + once_below x (min n blocks) ≡ times x k.dealt + once_below x (min (n + 1) blocks)
+drawn : (blocks n : ℕ) (k : Worker) (x : ℕ) → times x (after_draw blocks n k).dealt + once_below x (min n blocks) ≡ times x k.dealt + once_below x (min (n + 1) blocks)
 drawn blocks n k x = dite (dec_le blocks n)
-    (λ out. let e = min_outside n blocks out in let d : (draws blocks n k).dealt ≡ k.dealt = ap (λ (z : Worker). z.dealt) (draws_outside blocks n k out) in
+    (λ out. let e = min_outside n blocks out in let d : (after_draw blocks n k).dealt ≡ k.dealt = ap (λ (z : Worker). z.dealt) (draws_outside blocks n k out) in
     rw (d, e.0, e.1) refl)
-    (λ not. let inside : n < blocks = omega arith in let e = min_inside n blocks inside in let d : (draws blocks n k).dealt ≡ k.dealt ++ n ∷ [] = ap (λ (z : Worker). z.dealt) (draws_inside blocks n k inside) in
+    (λ not. let inside : n < blocks = omega arith in let e = min_inside n blocks inside in let d : (after_draw blocks n k).dealt ≡ k.dealt ++ n ∷ [] = ap (λ (z : Worker). z.dealt) (draws_inside blocks n k inside) in
     rw (d, e.0, e.1) (omega (arith, times-append x k.dealt (n ∷ []), once_more x n)))
 
-draws_fair : (blocks n : ℕ) (k : Worker) → WorkerFair blocks n k → ((x : ℕ) → 0 < times x k.dealt → x < n) → WorkerFair blocks (n + 1) (draws blocks n k)
+draws_fair : (blocks n : ℕ) (k : Worker) → WorkerFair blocks n k → ((x : ℕ) → 0 < times x k.dealt → x < n) → WorkerFair blocks (n + 1) (after_draw blocks n k)
 draws_fair blocks n k f below = dite (dec_le blocks n)
     (λ out. subst (λ (z : Worker). WorkerFair blocks (n + 1) z) (sym (draws_outside blocks n k out)) (f.0, λ _. omega arith))
     (λ not. subst (λ (z : Worker). WorkerFair blocks (n + 1) z) (sym (draws_inside blocks n k (omega arith))) (ascends-snoc k.dealt n f.0 (above_all k.dealt n below), λ q. let le = f.1 q in omega arith))
@@ -52,8 +52,8 @@ draws_fair blocks n k f below = dite (dec_le blocks n)
 worker_later : (blocks n : ℕ) (k : Worker) → WorkerFair blocks n k → WorkerFair blocks (n + 1) k
 worker_later blocks n k f = (f.0, λ q. let le = f.1 q in omega arith)
 
-fair_claim : (blocks : ℕ) (d : Deal) (w : ℕ) → Fair blocks d → w < length d.workers → Fair blocks (record { next = d.next + 1; workers = set d.workers w (draws blocks d.next (worker_at d.workers w)) })
-fair_claim blocks d w f h = let k : Worker = worker_at d.workers w in let k' : Worker = draws blocks d.next k in (
+fair_claim : (blocks : ℕ) (d : Deal) (w : ℕ) → Fair blocks d → w < length d.workers → Fair blocks (record { next = d.next + 1; workers = set d.workers w (after_draw blocks d.next (worker_at d.workers w)) })
+fair_claim blocks d w f h = let k : Worker = worker_at d.workers w in let k' : Worker = after_draw blocks d.next k in (
   (λ x. let sum = total_put (λ (z : Worker). times x z.dealt) d.workers w fresh k' h in let was = f.0 x in let one = drawn blocks d.next k x in omega arith),
   (λ v q. let here : v < length d.workers = subst (λ (n : ℕ). v < n) (length-set d.workers w k') q in dite (ℕ_discrete v w)
       (λ same. subst (λ (u : ℕ). WorkerFair blocks (d.next + 1) (worker_at (set d.workers w k') u)) (sym same)

@@ -13,7 +13,7 @@ use Rattle.claim_board.specs.declared.hand.Terms.{Terms}
 use Rattle.claim_board.specs.declared.pass.TheConstants.{MOST_BLOCKS, MOST_PASSES}
 use Rattle.number_lists.specs.Total.{total}
 use Rattle.number_lists.specs.Numbers.{times, once_below, is_above}
-use Rattle.claim_board.specs.Deal.{Worker, Deal, fresh, start, worker_at, draws, Runs}
+use Rattle.claim_board.specs.Deal.{Worker, Deal, fresh, start, worker_at, after_draw, Runs}
 use Rattle.claim_board.specs.Views.{first_hand, spent_hand, makes, made_by, joined, took, closes, drawing}
 use Rattle.claim_board.specs.Rule.{dealt_of, ended_of, Shows, made, Kept, Holds}
 use Rattle.number_lists.proofs.Totals.{total_set, total_snoc, total_at, two_at, total_only, total_le}
@@ -51,7 +51,7 @@ once_alone p = grind (arith, nat_tests)
 -- The pass of the number p draws n: the dealing goes on by one claim of p
 pub runs_on : (blocks workers n : ℕ) (views : List Hand) (id p : ℕ) (v w : Hand) (kept : Kept blocks workers n views) → get_elem? views id ≡ some v → v.numbers ≡ p ∷ [] → v.ended ≡ []
     → w.numbers ≡ v.numbers → w.made ≡ v.made
-    → ((k : Worker) → v.dealt ≡ k.dealt → k.ended ≡ false → (w.dealt ≡ (draws blocks n k).dealt) × (w.ended ≡ cond (draws blocks n k).ended (p ∷ []) []))
+    → ((k : Worker) → v.dealt ≡ k.dealt → k.ended ≡ false → (w.dealt ≡ (after_draw blocks n k).dealt) × (w.ended ≡ cond (after_draw blocks n k).ended (p ∷ []) []))
     → (events : List ℕ) × (d : Deal) × Runs blocks (start workers) events d × (length events ≡ n + 1) × (d.next ≡ n + 1) × (length d.workers ≡ workers)
     × ((j : ℕ) (u : Hand) → get_elem? (set views id w) j ≡ some u → Shows d.workers u)
     × ((q : ℕ) → made (set views id w) ≤ q → worker_at d.workers q ≡ fresh)
@@ -59,7 +59,7 @@ runs_on blocks workers n views id p v w kept at one no_end same_numbers same_mad
     let d : Deal = kept.run.1 in
     let ws : List Worker = d.workers in
     let k : Worker = worker_at ws p in
-    let k' : Worker = draws blocks d.next k in
+    let k' : Worker = after_draw blocks d.next k in
     let shows : Shows ws v = kept.run.6 id v at in
     let mine : times p v.numbers ≡ 1 = ap (times p) one ∙ once_alone p in
     let all_p = kept.numbers p in
@@ -71,7 +71,7 @@ runs_on blocks workers n views id p v w kept at one no_end same_numbers same_mad
     let made_same : made (set views id w) ≡ made views = let t = total_set (λ (u : Hand). u.made) views id v w at in omega arith in
     let at_next : d.next ≡ n = kept.run.4 in
     let there : worker_at (set ws p k') p ≡ k' = get_or-set_same ws p k' fresh inside in
-    let s = subst (λ (m : ℕ). (w.dealt ≡ (draws blocks m k).dealt) × (w.ended ≡ cond (draws blocks m k).ended (p ∷ []) [])) (sym at_next) (steps k dealt idle) in (
+    let s = subst (λ (m : ℕ). (w.dealt ≡ (after_draw blocks m k).dealt) × (w.ended ≡ cond (after_draw blocks m k).ended (p ∷ []) [])) (sym at_next) (steps k dealt idle) in (
       kept.run.0 ++ p ∷ [],
       record { next = d.next + 1; workers = set ws p k' },
       runs_snoc blocks (start workers) kept.run.0 d p _ kept.run.2 (inside, idle, refl),
@@ -98,14 +98,14 @@ runs_on blocks workers n views id p v w kept at one no_end same_numbers same_mad
     )
 
 took_step : (blocks n p : ℕ) (v : Hand) → v.ended ≡ [] → n < blocks → (k : Worker) → v.dealt ≡ k.dealt → k.ended ≡ false
-    → ((took n v).dealt ≡ (draws blocks n k).dealt) × ((took n v).ended ≡ cond (draws blocks n k).ended (p ∷ []) [])
+    → ((took n v).dealt ≡ (after_draw blocks n k).dealt) × ((took n v).ended ≡ cond (after_draw blocks n k).ended (p ∷ []) [])
 took_step blocks n p v no_end inside k same idle = let is = draws_inside blocks n k inside in (
   ap (λ (xs : List ℕ). xs ++ n ∷ []) same ∙ sym (ap (λ (z : Worker). z.dealt) is),
   no_end ∙ sym (ap (λ (b : Bool). cond b (p ∷ []) []) (ap (λ (z : Worker). z.ended) is ∙ idle)),
 )
 
 closes_step : (blocks n p : ℕ) (v : Hand) → v.numbers ≡ p ∷ [] → v.ended ≡ [] → blocks ≤ n → (k : Worker) → v.dealt ≡ k.dealt → k.ended ≡ false
-    → ((closes v).dealt ≡ (draws blocks n k).dealt) × ((closes v).ended ≡ cond (draws blocks n k).ended (p ∷ []) [])
+    → ((closes v).dealt ≡ (after_draw blocks n k).dealt) × ((closes v).ended ≡ cond (after_draw blocks n k).ended (p ∷ []) [])
 closes_step blocks n p v one no_end out k same idle = let is = draws_outside blocks n k out in (
   same ∙ sym (ap (λ (z : Worker). z.dealt) is),
   (λ i. no_end i ++ one i) ∙ sym (ap (λ (b : Bool). cond b (p ∷ []) []) (ap (λ (z : Worker). z.ended) is)),

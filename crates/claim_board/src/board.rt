@@ -10,7 +10,7 @@ use atomic_table::Table;
 use std::alloc::{AllocError, Global};
 
 impl Board {
-    /// A board of the blocks 0 to `blocks - 1`, and a pass for each worker, which was dealt nothing yet. An `Err` comes only for want of memory.
+    /// A board of the blocks 0 to `blocks - 1`, and a pass for each worker, which was dealt nothing yet. An `Err` comes only where memory runs out.
     pub fn new(alloc: Global, blocks: u64, workers: u32) -> Result<(Board, Vec<Pass>), AllocError>
         requires blocks { blocks ≤ MOST_BLOCKS }
         requires workers { (0 < workers) × (workers ≤ MOST_PASSES) }

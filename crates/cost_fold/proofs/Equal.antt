@@ -1,9 +1,9 @@
 -- Fractions of one value, and averages of them.
 use Rattle.std.proofs.Common.{◌≡◌, ℕ, zero, suc, ◌+◌, ◌*◌, ◌<◌, Bool, true, false, not, cond, [], ◌∷◌, ◌++◌, Ok, Err, refl, sym, ap, ◌∙◌, subst, arith}
-use Rattle.gcl_core.specs.Value.{State, Value, is_zero}
-use Rattle.gcl_core.specs.Blocks.{End, on, failed, fault, limit, by_value, by_truth, by_end}
-use Rattle.gcl_core.specs.Fractions.{Fraction, nothing, plus, times}
-use Rattle.gcl_core.specs.WeightedEnds.{Weighted, scaled, taken_on}
+use Rattle.gcl_core.specs.meaning.Value.{State, Value, is_zero}
+use Rattle.gcl_core.specs.meaning.Blocks.{End, on, failed, fault, limit, by_value, by_truth, by_end}
+use Rattle.gcl_core.specs.weighing.Fractions.{Fraction, zero_share, plus, times}
+use Rattle.gcl_core.specs.weighing.WeightedEnds.{Weighted, scaled, taken_on}
 use Rattle.cost_law.specs.ExpectedBits.{on_average}
 use Rattle.frac128.specs.Fraction.{IsEqual}
 use Rattle.frac128.proofs.Divisors.{product_pos}
@@ -18,7 +18,7 @@ pair_is a b c d e f = let x : ◌≡◌ {A = Fraction} (a, b) (c, b) = ap (λ x.
 pub plus_assoc : (p q t : Fraction) → plus (plus p q) t ≡ plus p (plus q t)
 plus_assoc p q t = pair_is _ _ _ _ (omega arith) (omega arith)
 
-pub nothing_plus : (q : Fraction) → q ≡ plus nothing q
+pub nothing_plus : (q : Fraction) → q ≡ plus zero_share q
 nothing_plus q = pair_is q.0 q.1 _ _ (omega arith) (omega arith)
 
 -- ---- averages
@@ -85,7 +85,7 @@ pub none_more : (w0 w1 x0 x1 a0 a1 : ℕ) → x0 * a1 ≡ a0 * x1 → x0 * (w1 *
 none_more w0 w1 x0 x1 a0 a1 e = let z = ap (λ z. z * w1) e in omega arith
 
 -- the entries that go on
-pub average_going : (m : Weighted End) (g : State → Fraction) → IsEqual (on_average (going_on m) g) (on_average m (λ e. by_end (λ e. nothing) e g))
+pub average_going : (m : Weighted End) (g : State → Fraction) → IsEqual (on_average (going_on m) g) (on_average m (λ e. by_end (λ e. zero_share) e g))
 average_going [] g = refl
 average_going ((w, on s) ∷ m) g = equal_plus (times w (g s)) (times w (g s)) _ _ refl (average_going m g)
 average_going ((w, failed) ∷ m) g = none_more w.0 w.1 _ _ _ _ (average_going m g)
@@ -95,7 +95,7 @@ average_going ((w, limit l) ∷ m) g = none_more w.0 w.1 _ _ _ _ (average_going 
 -- by a guard
 module _ (v : State → Value) (f g : State → Fraction) where
   abbrev guarded : Value → State → Fraction
-  guarded o s = by_value (λ e. nothing) o (λ z. by_truth z (f s) (g s))
+  guarded o s = by_value (λ e. zero_share) o (λ z. by_truth z (f s) (g s))
 
   pub average_guard : (I : Table) → IsEqual (on_average I (λ s. guarded (v s) s)) (plus (on_average (only (holds v) I) f) (on_average (only (fails v) I) g))
   average_guard [] = refl

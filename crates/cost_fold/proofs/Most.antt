@@ -3,17 +3,17 @@ use Rattle.std.proofs.Common.{◌≡◌, ℕ, zero, suc, ◌+◌, ◌-◌, ◌*�
 use Rattle.std.proofs.Math.Nat.{mul-le-mul_left, mul-le-mul_right}
 use Rattle.std.proofs.lemmas.Bool.{ltb-true}
 use Rattle.gcl_core.specs.declared.answers.Limit.TheVariants.{Attempts}
-use Rattle.gcl_core.specs.Syntax.{Expression, Statement, skip, assign, branch, loop, choice, choice_among, uniform, observe, Statements, done, ◌▸◌, ArmList, no_arm, arm}
+use Rattle.gcl_core.specs.meaning.Syntax.{Expression, Statement, Skip, Set, If, While, Choice, Choose, Uniform, Observe, Statements, done, ◌▸◌, ArmList, no_arm, arm}
 use Rattle.std.specs.List.{sum}
-use Rattle.gcl_core.specs.Arms.{parts_of}
-use Rattle.gcl_core.specs.Parts.{partial_sums}
-use Rattle.gcl_core.specs.Bounds.{StatementIsWeighed, BlockIsWeighed, ArmsAreWeighed, ExpressionFits, StatementFits, BlockFits, ArmsFit}
-use Rattle.gcl_core.specs.Draw.{bits_for, last_end}
-use Rattle.gcl_core.specs.Fitting.{state_fits}
-use Rattle.gcl_core.specs.Longest.{longest_statement, longest, longest_arm}
-use Rattle.gcl_core.specs.Value.{State, Value, value_of, fits_64}
-use Rattle.gcl_core.specs.Blocks.{End, on, failed, fault, limit, by_value, by_bound, choice_ends, uniform_ends}
-use Rattle.gcl_core.specs.WeightedEnds.{Weighted, scaled, taken_on, class_weight, no_class_weight, statement_weighted}
+use Rattle.gcl_core.specs.meaning.Arms.{parts_of}
+use Rattle.gcl_core.specs.meaning.Parts.{partial_sums}
+use Rattle.gcl_core.specs.meaning.Bounds.{StatementIsWeighed, BlockIsWeighed, ArmsAreWeighed, ExpressionFits, StatementFits, BlockFits, ArmsFit}
+use Rattle.gcl_core.specs.meaning.Draw.{bits_for, last_end, choice_ends, uniform_ends}
+use Rattle.gcl_core.specs.meaning.Fitting.{state_fits}
+use Rattle.gcl_core.specs.weighing.LongestReading.{longest_statement, longest, longest_arm}
+use Rattle.gcl_core.specs.meaning.Value.{State, Value, value_of, fits_64}
+use Rattle.gcl_core.specs.meaning.Blocks.{End, on, failed, fault, limit, by_value, by_bound}
+use Rattle.gcl_core.specs.weighing.WeightedEnds.{Weighted, scaled, taken_on, class_weight, no_class_weight, statement_weighted}
 use Rattle.gcl_core.proofs.PartialSums.{last_is}
 use Rattle.gcl_core.proofs.Classes.{bits_le}
 use Rattle.gcl_core.proofs.FittingValues.{end_fits, value_fits}
@@ -175,11 +175,11 @@ module _ (n r N L M : ℕ) where
 
   mutual
     statement_most : (st : Statement) → StatementIsWeighed st → StatementFits st → StatementMost st
-    statement_most skip w f I wi a x s k = (none_most r N M (weight N I) 0, fit_step skip w f I a)
-    statement_most (assign y e) w f I wi a x s k = (none_most r N M (weight N I) 0, fit_step (assign y e) w f I a)
-    statement_most (observe e) w f I wi a x s k = (none_most r N M (weight N I) 0, fit_step (observe e) w f I a)
-    statement_most (uniform y e) w f I wi a x s k = (most_bound r N M e I f a wi k, fit_step (uniform y e) w f I a)
-    statement_most (branch e p q) w f I wi a x s k =
+    statement_most Skip w f I wi a x s k = (none_most r N M (weight N I) 0, fit_step Skip w f I a)
+    statement_most (Set y e) w f I wi a x s k = (none_most r N M (weight N I) 0, fit_step (Set y e) w f I a)
+    statement_most (Observe e) w f I wi a x s k = (none_most r N M (weight N I) 0, fit_step (Observe e) w f I a)
+    statement_most (Uniform y e) w f I wi a x s k = (most_bound r N M e I f a wi k, fit_step (Uniform y e) w f I a)
+    statement_most (If e p q) w f I wi a x s k =
         let v = value_of e in
         let A = only (holds v) I in
         let C = only (fails v) I in
@@ -196,7 +196,7 @@ module _ (n r N L M : ℕ) where
         let d = most_up r N M D (weight N A) (weight N A) (longest n r p) m (omega arith) (omega arith) y.0 in
         let e = most_up r N M E (weight N C) (weight N C) (longest n r q) m (omega arith) (omega arith) z.0 in
         (most_up r N M (D ++ E) (weight N A + weight N C) (weight N I) m m (omega arith) (omega arith) (most_beside r N M D E (weight N A) (weight N C) m d e), each-append state_fits F.next G.next y.1 z.1)
-    statement_most (choice c p q) w f I wi a x s k =
+    statement_most (Choice c p q) w f I wi a x s k =
         let A = scaled (class_weight c.den (Some r) c.num) I in
         let C = scaled (class_weight c.den (Some r) (c.den - c.num)) I in
         let Z = scaled (no_class_weight c.den (Some r)) I in
@@ -220,7 +220,7 @@ module _ (n r N L M : ℕ) where
         let e = most_up r N M E (weight N C) (weight N C) (longest n r q) m (omega arith) (omega arith) z.0 in
         let both_sides = most_up r N M (D ++ E) (weight N A + weight N C) (weight N I) m m (omega arith) (omega arith) (most_beside r N M D E (weight N A) (weight N C) m d e) in
         (most_after r N M B (D ++ E) (weight N I) (bits_for c.den * r) m (most_each r N M (choice_ends c) I wi (priced_first (Some r) M B (D ++ E) k)) both_sides, each-append state_fits F.next G.next y.1 z.1)
-    statement_most (choice_among arms) w f I wi a x s k =
+    statement_most (Choose arms) w f I wi a x s k =
         let b = sum (parts_of arms) in
         let ends = partial_sums (parts_of arms) in
         let B = drawn_each ends I in
@@ -230,7 +230,7 @@ module _ (n r N L M : ℕ) where
         let d = most_up r N M D (arms_weight N b (Some r) (parts_of arms) I) (weight N I) (longest_arm n r arms) (longest_arm n r arms) (omega arith) (omega arith) y.0 in
         let each = most_each r N M ends I wi (priced_first (Some r) M B D k) in
         (most_after r N M B D (weight N I) (bits_for b * r) (longest_arm n r arms) (subst (λ b. DrawsMost r N M B (weight N I) (bits_for b * r)) (last_is (parts_of arms)) each) d, y.1)
-    statement_most (loop e p) w f I wi a x s k = turns_most (value_of e) p w (block_most p w f.1) n I wi a s k
+    statement_most (While e p) w f I wi a x s k = turns_most (value_of e) p w (block_most p w f.1) n I wi a s k
 
     pub block_most : (b : Statements) → BlockIsWeighed b → BlockFits b → (I : Table) → Wholes N I → AllFit I → Within N L (block_flow n (Some r) b I) → Priced (Some r) M (block_draws n (Some r) b I) →
         DrawsMost r N M (block_draws n (Some r) b I) (weight N I) (longest n r b) × AllFit (block_flow n (Some r) b I).next

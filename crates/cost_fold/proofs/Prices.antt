@@ -2,10 +2,9 @@
 use Rattle.std.proofs.Common.{◌≡◌, ℕ, zero, suc, ◌+◌, ◌-◌, ◌*◌, ◌^◌, ◌≤◌, ◌<◌, List, [], ◌∷◌, Some, sym, ap, ◌∙◌, arith}
 use Rattle.std.proofs.lemmas.Nat.{pow-add, pow_pos}
 use Rattle.std.proofs.Math.Nat.{mul-le-mul_left, mul-le-mul_right, le_of_mul-le-mul_left}
-use Rattle.gcl_core.specs.Draw.{bits_for, last_end}
-use Rattle.gcl_core.specs.Fractions.{power_sum}
-use Rattle.gcl_core.specs.OneDraw.{called_again, strings_to_a_number}
-use Rattle.gcl_core.specs.WeightedEnds.{class_weight}
+use Rattle.gcl_core.specs.meaning.Draw.{bits_for, last_end, rejected_numbers, strings_to_a_number}
+use Rattle.gcl_core.specs.weighing.Fractions.{power_sum}
+use Rattle.gcl_core.specs.weighing.WeightedEnds.{class_weight}
 use Rattle.cost_law.specs.ExpectedBits.{number_bits, attempt_bits, again_weight, draw_bits}
 use Rattle.draw_cost.proofs.Stretches.{by_numbers, undecided_most}
 use Rattle.mass_tables.specs.Reached.{Reached}
@@ -20,7 +19,7 @@ module _ (ends : List ℕ) where
   k = number_bits ends
 
   abbrev q : ℕ
-  q = called_again (last_end ends)
+  q = rejected_numbers (last_end ends)
 
   abbrev U : ℕ
   U = (attempt_bits ends).0
@@ -31,7 +30,7 @@ module _ (ends : List ℕ) where
   more_bits : (r : ℕ) → 2 ^ (k * suc r) ≡ 2 ^ k * 2 ^ (k * r)
   more_bits r = let p : k * suc r ≡ k + k * r = omega arith in ap (λ n. 2 ^ n) p ∙ pow-add 2 k (k * r)
 
-  -- the sum of the weights of being called again, by the strings that are read to one number
+  -- the sum of the weights of being rejected, by the strings that are read to one number
   sum_strings : (r : ℕ) → (power_sum (again_weight ends) r).0 * 2 ^ (k * r) ≡ 2 ^ k * S r * (power_sum (again_weight ends) r).1
   sum_strings zero = omega arith
   sum_strings (suc r) =
@@ -94,4 +93,4 @@ priced_at r g [] h = tt
 priced_at r g (e ∷ D) h =
     let b = last_end e.1 in
     let le : bits_for b * r ≤ g = omega arith in
-    (record { one = power_whole (1 * strings_to_a_number (bits_for b) (called_again b) r) (bits_for b * r) g le; none = power_whole (called_again b ^ r) (bits_for b * r) g le }, priced_at r g D (omega arith))
+    (record { one = power_whole (1 * strings_to_a_number (bits_for b) (rejected_numbers b) r) (bits_for b * r) g le; none = power_whole (rejected_numbers b ^ r) (bits_for b * r) g le }, priced_at r g D (omega arith))

@@ -4,14 +4,15 @@ use Rattle.std.proofs.lemmas.Nat.{pow_pos}
 use Rattle.std.proofs.Math.Nat.{one-le-pow, pow-suc, pow-zero, mul-le-mul_left, mul-le-mul_right, le_of_mul-le-mul_left}
 use Rattle.gcl_core.specs.declared.answers.Answer.{Answer}
 use Rattle.gcl_core.specs.declared.answers.Limits.{Limits}
-use Rattle.gcl_core.specs.Bounds.{BlockIsWeighed}
-use Rattle.gcl_core.specs.Fractions.{Fraction, one, times, power_sum}
-use Rattle.gcl_core.specs.Keeping.{IsChecked}
-use Rattle.gcl_core.specs.Longest.{longest}
-use Rattle.gcl_core.specs.Mass.{is_failed, failed_mass}
-use Rattle.gcl_core.specs.Runs.{zeros, run_on}
-use Rattle.gcl_core.specs.Syntax.{Source}
-use Rattle.gcl_core.specs.WeightedEnds.{sure}
+use Rattle.gcl_core.specs.meaning.Bounds.{BlockIsWeighed}
+use Rattle.gcl_core.specs.weighing.Fractions.{Fraction, one, times, power_sum}
+use Rattle.gcl_core.specs.meaning.Keeping.{IsChecked}
+use Rattle.gcl_core.specs.weighing.LongestReading.{longest}
+use Rattle.gcl_core.specs.weighing.Mass.{is_failed, failed_mass}
+use Rattle.gcl_core.specs.meaning.Runs.{run_on}
+use Rattle.gcl_core.specs.meaning.Outcomes.{zeros}
+use Rattle.gcl_core.specs.meaning.Syntax.{Source}
+use Rattle.gcl_core.specs.weighing.WeightedEnds.{sure}
 use Rattle.gcl_core.proofs.Accepted.{checked_weights}
 use Rattle.gcl_core.proofs.FittingValues.{zeros_fit}
 use Rattle.cost_law.specs.Costing.{CostsExactly}

@@ -1,7 +1,7 @@
--- Why there are no expected bits: for the spread, for the peak, or for want of memory. This project's own rule.
+-- Why there are no expected bits: for the spread, for the peak, or where memory runs out. This project's own rule.
 use Rattle.std.specs.Prelude.{◌<◌, Some}
 use Rattle.gcl_core.specs.declared.answers.Limits.{Limits}
-use Rattle.gcl_core.specs.Syntax.{Source}
+use Rattle.gcl_core.specs.meaning.Syntax.{Source}
 use Rattle.mass_tables.specs.Tables.{peak_of}
 use Rattle.cost_fold.specs.declared.error.CostError.{CostError}
 use Rattle.cost_fold.specs.declared.error.CostError.TheVariants.{TooWide, TooManyStates, OutOfMemory}

@@ -1,9 +1,9 @@
 -- How wide the expected bits of a program are, and why they are refused. This project's own rule.
 use Rattle.std.specs.Prelude.{ℕ, ◌+◌, ◌-◌, ◌*◌, ◌^◌, max, [], ◌∷◌, Some}
 use Rattle.gcl_core.specs.declared.answers.Limits.{Limits}
-use Rattle.gcl_core.specs.Longest.{longest}
-use Rattle.gcl_core.specs.Mass.{failed_mass}
-use Rattle.gcl_core.specs.Syntax.{Source}
+use Rattle.gcl_core.specs.weighing.LongestReading.{longest}
+use Rattle.gcl_core.specs.weighing.Mass.{failed_mass}
+use Rattle.gcl_core.specs.meaning.Syntax.{Source}
 use Rattle.cost_law.specs.ExpectedBits.{number_bits}
 use Rattle.mass_tables.specs.Reached.{Reached, draws_of}
 use Rattle.mass_tables.specs.Width.{denominator, round_width}

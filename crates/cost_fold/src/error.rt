@@ -13,6 +13,6 @@ pub enum CostError {
     TooWide,
     /// More than 65,536 states at one point.
     TooManyStates,
-    /// Memory is wanting.
+    /// Memory ran out.
     OutOfMemory,
 }

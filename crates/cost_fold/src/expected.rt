@@ -2,15 +2,16 @@
 
 ghost use Rattle.std.specs.Prelude.{◌≡◌, Some, IfOk, IfErr};
 ghost use Rattle.frac128.specs.Fraction.{lowest};
-ghost use Rattle.gcl_core.specs.Keeping.{IsChecked};
-ghost use Rattle.gcl_core.specs.Runs.{InRange, run_on};
-ghost use Rattle.gcl_core.specs.Views.{source_of};
+ghost use Rattle.gcl_core.specs.meaning.Keeping.{IsChecked};
+ghost use Rattle.gcl_core.specs.meaning.Runs.{run_on};
+ghost use Rattle.gcl_core.specs.meaning.LimitRange.{InRange};
+ghost use Rattle.gcl_core.specs.meaning.Views.{source_of};
 ghost use Rattle.cost_law.specs.Costing.{CostsExactly};
 ghost use Rattle.cost_law.specs.ExpectedBits.{expected_bits};
 ghost use Rattle.mass_fold.specs.Refused.{RoundRefused};
 ghost use Rattle.cost_fold.specs.Refused.{CostRefused};
 ghost use Rattle.gcl_core.specs.declared.answers.Limits.{Limits};
-ghost use Rattle.gcl_core.specs.Syntax.{Source};
+ghost use Rattle.gcl_core.specs.meaning.Syntax.{Source};
 
 use crate::error::CostError;
 use frac128::Frac;
@@ -37,7 +38,7 @@ fn refusal(error: MassError) -> CostError
 /// body is such an L.
 ///
 /// `TooWide` comes only where the spread of the program under the limits is above 2^128 − 1, and `TooManyStates` only where some point
-/// of the program is reached with more than 65,536 states. `OutOfMemory` comes where memory is wanting.
+/// of the program is reached with more than 65,536 states. `OutOfMemory` comes where memory runs out.
 pub fn cost(alloc: Global, p: &Checked, l: &Limits) -> Result<Frac, CostError>
     requires { InRange l.now }
     ensures bits { IfOk result (λ f. f ≡ lowest (expected_bits (source_of p.now) l.now)) }

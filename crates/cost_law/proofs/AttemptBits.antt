@@ -2,7 +2,7 @@
 use Rattle.std.proofs.Common.{◌≡◌, ℕ, zero, suc, ◌+◌, ◌*◌, ◌^◌, ◌<◌, ◌≤◌, ◌-◌, Bool, true, false, cond, List, [], ◌∷◌, ◌++◌, length, refl, sym, ap, ◌∙◌, arith, length-append}
 use Rattle.std.specs.Prelude.{◌==◌}
 use Rattle.std.specs.Option.{option_eq}
-use Rattle.gcl_core.specs.Draw.{class_of, have_one_class, bit, first_of, decides}
+use Rattle.gcl_core.specs.meaning.Draw.{class_of, have_one_class, bit, first_of, decides}
 use Rattle.gcl_core.proofs.AttemptTrees.{attempt_tree, decided_same}
 use Rattle.gcl_core.proofs.Classes.{all_below-each, option_same}
 use Rattle.gcl_core.proofs.Strings.{spelled_from-push}

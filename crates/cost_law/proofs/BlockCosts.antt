@@ -6,24 +6,24 @@ use Rattle.std.proofs.lemmas.Bool.{ltb-true}
 use Rattle.std.proofs.Math.Nat.{mul-le-mul_right}
 use Rattle.gcl_core.specs.declared.answers.Fault.TheVariants.{BadBound}
 use Rattle.gcl_core.specs.declared.answers.Limit.TheVariants.{Turns, Attempts}
-use Rattle.gcl_core.specs.Bounds.{StatementIsWeighed, BlockIsWeighed, ArmsAreWeighed, StatementFits, BlockFits, ArmsFit}
-use Rattle.gcl_core.specs.Arms.{parts_of}
-use Rattle.gcl_core.specs.Parts.{partial_sums}
-use Rattle.gcl_core.specs.Syntax.{Statement, skip, assign, branch, loop, choice, choice_among, uniform, observe, Statements, done, ◌▸◌, ArmList, no_arm, arm}
-use Rattle.gcl_core.specs.Value.{State, Value, value_of, is_zero, fits_64}
-use Rattle.gcl_core.specs.Reading.{Reading, gives, after}
-use Rattle.gcl_core.specs.Draw.{bits_for, last_end, draw_on}
-use Rattle.gcl_core.specs.Blocks.{End, on, failed, fault, limit, by_value, by_truth, by_bound, by_class, by_side, by_end, choice_ends, uniform_ends, uniform_on, loop_on, statement_on, block_on, arm_on}
-use Rattle.gcl_core.specs.Fractions.{Fraction, nothing}
-use Rattle.gcl_core.specs.Longest.{longest_statement, longest, longest_arm}
-use Rattle.gcl_core.specs.OneDraw.{Ascends}
-use Rattle.gcl_core.specs.WeightedEnds.{Weighted, weighted_classes, statement_weighted, weighted_ends}
+use Rattle.gcl_core.specs.meaning.Bounds.{StatementIsWeighed, BlockIsWeighed, ArmsAreWeighed, StatementFits, BlockFits, ArmsFit}
+use Rattle.gcl_core.specs.meaning.Arms.{parts_of}
+use Rattle.gcl_core.specs.meaning.Parts.{partial_sums}
+use Rattle.gcl_core.specs.meaning.Syntax.{Statement, Skip, Set, If, While, Choice, Choose, Uniform, Observe, Statements, done, ◌▸◌, ArmList, no_arm, arm}
+use Rattle.gcl_core.specs.meaning.Value.{State, Value, value_of, is_zero, fits_64}
+use Rattle.gcl_core.specs.meaning.Reading.{Reading, gives, after}
+use Rattle.gcl_core.specs.meaning.Draw.{bits_for, last_end, draw_on, choice_ends, uniform_ends}
+use Rattle.gcl_core.specs.meaning.Blocks.{End, on, failed, fault, limit, by_value, by_truth, by_bound, by_class, by_side, by_end, uniform_on, loop_on, statement_on, block_on, arm_on}
+use Rattle.gcl_core.specs.weighing.Fractions.{Fraction, zero_share}
+use Rattle.gcl_core.specs.weighing.LongestReading.{longest_statement, longest, longest_arm}
+use Rattle.gcl_core.specs.weighing.OneDraw.{Ascends}
+use Rattle.gcl_core.specs.weighing.WeightedEnds.{Weighted, weighted_classes, statement_weighted, weighted_ends}
 use Rattle.gcl_core.proofs.Classes.{bits_le}
 use Rattle.gcl_core.proofs.DrawTrees.{draw_tree, draw_runs, draw_within}
 use Rattle.gcl_core.proofs.PartialSums.{last_is, sums_ascend}
 use Rattle.weighing_law.proofs.BlockMatching.{statement_matches, block_matches}
 use Rattle.weighing_law.proofs.DrawMatching.{class_below, draw_matches}
-use Rattle.gcl_core.specs.Fitting.{state_fits}
+use Rattle.gcl_core.specs.meaning.Fitting.{state_fits}
 use Rattle.gcl_core.proofs.FittingValues.{end_fits, value_fits}
 use Rattle.gcl_core.proofs.EqualClasses.{last_of_equal}
 use Rattle.weighing_law.proofs.Matching.{Matches}
@@ -36,7 +36,7 @@ abbrev Reader : Type 0
 Reader = List Bool → Reading End
 
 -- ---- going on by cases
-value_costs : (d : ℕ) (v : Value) (go : ℤ → Reader) (k : ℤ → Fraction) → ((z : ℤ) → v ≡ Ok z → Costs d (go z) (k z)) → Costs d (λ w. by_value (λ f. gives (fault f) w) v (λ z. go z w)) (by_value (λ f. nothing) v k)
+value_costs : (d : ℕ) (v : Value) (go : ℤ → Reader) (k : ℤ → Fraction) → ((z : ℤ) → v ≡ Ok z → Costs d (go z) (k z)) → Costs d (λ w. by_value (λ f. gives (fault f) w) v (λ z. go z w)) (by_value (λ f. zero_share) v k)
 value_costs d (Ok z) go k h = h z refl
 value_costs d (Err f) go k h = costs_none d (fault f)
 
@@ -48,14 +48,14 @@ truth_costs d z a c m n p q = by_test (is_zero z)
     by_test false = p
 
 end_costs : (d : ℕ) (e : End) (go : State → Reader) (k : State → Fraction) → end_fits e ≡ true → ((s : State) → state_fits s ≡ true → Costs d (go s) (k s)) →
-    Costs d (λ w. by_end (λ x. gives x w) e (λ s. go s w)) (by_end (λ x. nothing) e k)
+    Costs d (λ w. by_end (λ x. gives x w) e (λ s. go s w)) (by_end (λ x. zero_share) e k)
 end_costs d (on s) go k p h = h s p
 end_costs d failed go k p h = costs_none d failed
 end_costs d (fault f) go k p h = costs_none d (fault f)
 end_costs d (limit l) go k p h = costs_none d (limit l)
 
 class_costs : (d : ℕ) (o : Option ℕ) (go : ℕ → Reader) (k : ℕ → Fraction) → ((i : ℕ) → Costs d (go i) (k i)) →
-    Costs d (λ w. by_class (gives (limit Attempts) w) o (λ i. go i w)) (by_class nothing o k)
+    Costs d (λ w. by_class (gives (limit Attempts) w) o (λ i. go i w)) (by_class zero_share o k)
 class_costs d None go k h = costs_none d (limit Attempts)
 class_costs d (Some i) go k h = h i
 
@@ -69,10 +69,10 @@ loop_costs : (d : ℕ) (guard : State → Value) (body : State → Reader) (bits
     (t : ℕ) (s : State) → state_fits s ≡ true → Costs (t * d) (loop_on guard body t s) (loop_bits guard bits m t s)
 loop_costs d guard body bits m h g zero s p = at_once (guard s)
   where
-    at_once : (v : Value) → Costs (0 * d) (λ w. by_value (λ f. gives (fault f) w) v (λ z. by_truth z (gives (limit Turns) w) (gives (on s) w))) nothing
+    at_once : (v : Value) → Costs (0 * d) (λ w. by_value (λ f. gives (fault f) w) v (λ z. by_truth z (gives (limit Turns) w) (gives (on s) w))) zero_share
     at_once (Ok z) = by_test (is_zero z)
       where
-        by_test : (b : Bool) → Costs (0 * d) (λ w. cond b (gives (on s) w) (gives (limit Turns) w)) nothing
+        by_test : (b : Bool) → Costs (0 * d) (λ w. cond b (gives (on s) w) (gives (limit Turns) w)) zero_share
         by_test true = costs_none (0 * d) (on s)
         by_test false = costs_none (0 * d) (limit Turns)
     at_once (Err f) = costs_none (0 * d) (fault f)
@@ -97,37 +97,37 @@ drawn_costs r m x s small =
     (costs_same (d * r) (draw_on (uniform_ends m) r) (draw_bits (uniform_ends m) r) _ (λ o. by_class (limit Attempts) o (λ i. on (slice_set s x (pos i))))
     (draw_costs (uniform_ends m) r (range_ascends 0 m)) (elim [ Some i ↦ λ w. refl | None ↦ λ w. refl ]))
 
-uniform_costs : (r x : ℕ) (z : ℤ) (s : State) → fits_64 z ≡ true → Costs (63 * r) (uniform_on r x z s) (by_bound z nothing (λ m. draw_bits (uniform_ends m) r))
+uniform_costs : (r x : ℕ) (z : ℤ) (s : State) → fits_64 z ≡ true → Costs (63 * r) (uniform_on r x z s) (by_bound z zero_share (λ m. draw_bits (uniform_ends m) r))
 uniform_costs r x (pos zero) s f = costs_none (63 * r) (fault BadBound)
 uniform_costs r x (pos (suc m)) s f = drawn_costs r (suc m) x s (ltb-true _ _ f)
 uniform_costs r x (negsuc m) s f = costs_none (63 * r) (fault BadBound)
 
 -- ---- statements
 module _ (n r : ℕ) where
-  none_value : (v : Value) (go : ℤ → End) → Costs 0 (λ w. by_value (λ f. gives (fault f) w) v (λ z. gives (go z) w)) nothing
+  none_value : (v : Value) (go : ℤ → End) → Costs 0 (λ w. by_value (λ f. gives (fault f) w) v (λ z. gives (go z) w)) zero_share
   none_value (Ok z) go = costs_none 0 (go z)
   none_value (Err f) go = costs_none 0 (fault f)
 
   mutual
     statement_costs : (st : Statement) → StatementIsWeighed st → StatementFits st → (s : State) → state_fits s ≡ true → Costs (longest_statement n r st) (statement_on n r st s) (statement_bits n r st s)
-    statement_costs skip ok f s p = costs_none 0 (on s)
-    statement_costs (assign x e) ok f s p = none_value (value_of e s) (λ z. on (slice_set s x z))
-    statement_costs (observe e) ok f s p = observed (value_of e s)
+    statement_costs Skip ok f s p = costs_none 0 (on s)
+    statement_costs (Set x e) ok f s p = none_value (value_of e s) (λ z. on (slice_set s x z))
+    statement_costs (Observe e) ok f s p = observed (value_of e s)
       where
-        observed : (v : Value) → Costs 0 (λ w. by_value (λ f. gives (fault f) w) v (λ z. by_truth z (gives (on s) w) (gives failed w))) nothing
+        observed : (v : Value) → Costs 0 (λ w. by_value (λ f. gives (fault f) w) v (λ z. by_truth z (gives (on s) w) (gives failed w))) zero_share
         observed (Ok z) = by_test (is_zero z)
           where
-            by_test : (b : Bool) → Costs 0 (λ w. cond b (gives failed w) (gives (on s) w)) nothing
+            by_test : (b : Bool) → Costs 0 (λ w. cond b (gives failed w) (gives (on s) w)) zero_share
             by_test true = costs_none 0 failed
             by_test false = costs_none 0 (on s)
         observed (Err g) = costs_none 0 (fault g)
-    statement_costs (branch e a c) ok f s p =
+    statement_costs (If e a c) ok f s p =
         let d = max (longest n r a) (longest n r c) in
         value_costs d (value_of e s) _ _
         (λ z q. truth_costs d z _ _ _ _
         (costs_up (longest n r a) d _ _ (omega arith) (block_costs a ok.0 f.1 s p))
         (costs_up (longest n r c) d _ _ (omega arith) (block_costs c ok.1 f.2 s p)))
-    statement_costs (choice w a c) ok f s p =
+    statement_costs (Choice w a c) ok f s p =
         let d = max (longest n r a) (longest n r c) in
         let up : Ascends 0 (choice_ends w) = (omega arith, (ok.0.at_most_one, tt)) in
         costs_then (class_below 2) failed (bits_for w.den * r) d (draw_on (choice_ends w) r) (draw_bits (choice_ends w) r) (weighted_classes (choice_ends w) (Some r)) _ _
@@ -135,7 +135,7 @@ module _ (n r : ℕ) where
         (λ o q. class_costs d o _ _ (λ i. side_costs d i _ _ _ _
         (costs_up (longest n r a) d _ _ (omega arith) (block_costs a ok.1 f.0 s p))
         (costs_up (longest n r c) d _ _ (omega arith) (block_costs c ok.2 f.1 s p))))
-    statement_costs (choice_among arms) ok f s p =
+    statement_costs (Choose arms) ok f s p =
         let ps = parts_of arms in
         let ends = partial_sums ps in
         let d = longest_arm n r arms in
@@ -143,9 +143,9 @@ module _ (n r : ℕ) where
         costs_at (bits_for (last_end ends) * r + d) (bits_for (sum ps) * r + d) _ _ (ap (λ b. bits_for b * r + d) (last_is ps))
         (costs_then (class_below (length ends)) failed (bits_for (last_end ends) * r) d (draw_on ends r) (draw_bits ends r) (weighted_classes ends (Some r)) _ _
         (draw_costs ends r up) (draw_matches ends r up) (λ o q. class_costs d o _ _ (λ i. arm_costs arms ok.1 f i s p)))
-    statement_costs (uniform x e) ok f s p =
+    statement_costs (Uniform x e) ok f s p =
         value_costs (63 * r) (value_of e s) _ _ (λ z q. uniform_costs r x z s (value_fits e s z f p q))
-    statement_costs (loop e a) ok f s p =
+    statement_costs (While e a) ok f s p =
         loop_costs (longest n r a) (value_of e) (block_on n r a) (block_bits n r a) (weighted_ends n (Some r) a) (block_costs a ok f.1) (block_matches n r a ok f.1) n s p
 
     pub block_costs : (b : Statements) → BlockIsWeighed b → BlockFits b → (s : State) → state_fits s ≡ true → Costs (longest n r b) (block_on n r b s) (block_bits n r b s)

@@ -4,15 +4,16 @@ use Rattle.std.proofs.lemmas.Nat.{pow_pos}
 use Rattle.gcl_core.specs.declared.answers.Answer.{Answer}
 use Rattle.gcl_core.specs.declared.answers.Limits.{Limits}
 use Rattle.gcl_core.specs.declared.answers.Outcome.{Outcome}
-use Rattle.gcl_core.specs.Blocks.{block_on}
-use Rattle.gcl_core.specs.Draw.{bits_for, last_end, attempt_on, draw_on}
-use Rattle.gcl_core.specs.Keeping.{IsChecked}
-use Rattle.gcl_core.specs.Mass.{is_failed, failed_mass}
-use Rattle.gcl_core.specs.OneDraw.{Ascends}
-use Rattle.gcl_core.specs.Runs.{zeros, rounds_on, answer_of, run_on}
-use Rattle.gcl_core.specs.StringWeight.{reading_to, answer_in}
-use Rattle.gcl_core.specs.Syntax.{Source}
-use Rattle.gcl_core.specs.WeightedEnds.{weighted_ends}
+use Rattle.gcl_core.specs.meaning.Blocks.{block_on}
+use Rattle.gcl_core.specs.meaning.Draw.{bits_for, last_end, attempt_on, draw_on}
+use Rattle.gcl_core.specs.meaning.Keeping.{IsChecked}
+use Rattle.gcl_core.specs.weighing.Mass.{is_failed, failed_mass}
+use Rattle.gcl_core.specs.weighing.OneDraw.{Ascends}
+use Rattle.gcl_core.specs.meaning.Runs.{rounds_on, answer_of, run_on}
+use Rattle.gcl_core.specs.meaning.Outcomes.{zeros}
+use Rattle.gcl_core.specs.weighing.StringWeight.{reading_to, answer_in}
+use Rattle.gcl_core.specs.meaning.Syntax.{Source}
+use Rattle.gcl_core.specs.weighing.WeightedEnds.{weighted_ends}
 use Rattle.gcl_core.proofs.Accepted.{checked_weights}
 use Rattle.gcl_core.proofs.AttemptTrees.{attempt_runs, attempt_within}
 use Rattle.gcl_core.proofs.DrawTrees.{draw_tree, draw_runs, draw_within}

@@ -3,9 +3,9 @@
 use Rattle.std.specs.Prelude.{ℕ, ◌*◌, ◌^◌, ◌≤◌, Bool, List}
 use Rattle.gcl_core.specs.declared.answers.Answer.{Answer}
 use Rattle.gcl_core.specs.declared.answers.Limits.{Limits}
-use Rattle.gcl_core.specs.Fractions.{Fraction, IsShare, IsWithinShare}
-use Rattle.gcl_core.specs.Longest.{longest}
-use Rattle.gcl_core.specs.Syntax.{Source}
+use Rattle.gcl_core.specs.weighing.Fractions.{Fraction, IsShare, IsWithinShare}
+use Rattle.gcl_core.specs.weighing.LongestReading.{longest}
+use Rattle.gcl_core.specs.meaning.Syntax.{Source}
 use Rattle.weighing_law.specs.Weighing.{Suffices}
 use Rattle.cost_law.specs.SummedLengths.{attempt_lengths, draw_lengths, run_lengths}
 use Rattle.cost_law.specs.ExpectedBits.{number_bits, attempt_bits, draw_bits}

@@ -4,10 +4,10 @@
 ghost use Rattle.std.specs.Prelude.{◌≡◌, ℕ, Bool, List};
 ghost use Rattle.gcl_core.specs.declared.answers.Answer.{Answer};
 ghost use Rattle.gcl_core.specs.declared.answers.Limits.{Limits};
-ghost use Rattle.gcl_core.specs.Keeping.{IsChecked};
-ghost use Rattle.gcl_core.specs.OneDraw.{Ascends};
-ghost use Rattle.gcl_core.specs.Runs.{run_on};
-ghost use Rattle.gcl_core.specs.Syntax.{Source};
+ghost use Rattle.gcl_core.specs.meaning.Keeping.{IsChecked};
+ghost use Rattle.gcl_core.specs.weighing.OneDraw.{Ascends};
+ghost use Rattle.gcl_core.specs.meaning.Runs.{run_on};
+ghost use Rattle.gcl_core.specs.meaning.Syntax.{Source};
 ghost use Rattle.cost_law.specs.Costing.{DrawCosts, CostsExactly};
 ghost use Rattle.cost_law.specs.ExpectedBits.{expected_bits};
 

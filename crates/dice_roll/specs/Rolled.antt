@@ -6,14 +6,14 @@ use Rattle.dice_roll.specs.declared.answers.Roll.TheVariants.{Label, Limit, More
 use Rattle.dice_roll.specs.FastRoll.{fast_roll}
 
 -- the flips that were made
-abbrev pub flips_of : Roll → ℕ
-flips_of (Label c n) = n
-flips_of (Limit n) = n
-flips_of (MoreBits n) = n
+abbrev pub flips_made : Roll → ℕ
+flips_made (Label c n) = n
+flips_made (Limit n) = n
+flips_made (MoreBits n) = n
 
 -- a roll among m labels with at most so many flips needs each bit of w that it reads: those before it give no label
 pub record NeedsEach (m flips : ℕ) (w : List Bool) : Type 0 where
-  pub needed : (k : ℕ) → k < flips_of (fast_roll m flips w) → fast_roll m flips (take k w) ≡ MoreBits k
+  pub needed : (k : ℕ) → k < flips_made (fast_roll m flips w) → fast_roll m flips (take k w) ≡ MoreBits k
 
 -- an answer of a roll among m labels with at most so many flips: a label is one of the m, the limit is reached at the
 -- last flip, and where bits are missing a flip was still to be made

@@ -5,7 +5,7 @@ ghost use Rattle.zar_io.specs.Bits.{broken_after};
 ghost use Rattle.dice_roll.specs.declared.rules.TheConstants as rule;
 ghost use Rattle.dice_roll.specs.FastRoll.{fast_roll};
 ghost use Rattle.dice_roll.specs.Fair.{IsFair};
-ghost use Rattle.dice_roll.specs.Rolled.{flips_of, NeedsEach, IsWithin, ended_by};
+ghost use Rattle.dice_roll.specs.Rolled.{flips_made, NeedsEach, IsWithin, ended_by};
 
 use crate::answers::Roll;
 use zar_io::{Bits, Failed};
@@ -22,7 +22,7 @@ pub fn roll<B: Bits>(m: u64, flips: u64, bits: &mut B) -> Result<Roll, Failed>
     requires high { m ≤ rule.MOST_LABELS }
     requires few { flips ≤ rule.MOST_FLIPS }
     ensures answer { IfOk result (λ r. IsTrue B.told → fast_roll m flips (B.left bits.old) ≡ r) }
-    ensures taken { IfOk result (λ r. IsTrue B.told → B.left bits.new ≡ drop (flips_of r) (B.left bits.old)) }
+    ensures taken { IfOk result (λ r. IsTrue B.told → B.left bits.new ≡ drop (flips_made r) (B.left bits.old)) }
     ensures needed { NeedsEach m flips (B.left bits.old) }
     ensures within { IfOk result (IsWithin m flips) }
     ensures ended { B.ended bits.new ≡ ended_by result (B.ended bits.old) }

@@ -3,14 +3,13 @@ use Rattle.std.proofs.Common.{◌≡◌, ℕ, zero, suc, ◌+◌, ◌*◌, ◌^�
 use Rattle.std.specs.Prelude.{nat_lt}
 use Rattle.std.proofs.lemmas.Bool.{cases_lt, lt-ltb, le-ltb}
 use Rattle.std.proofs.lemmas.Nat.{pow_pos}
-use Rattle.gcl_core.specs.Draw.{have_one_class}
-use Rattle.gcl_core.specs.Blocks.{uniform_ends}
+use Rattle.gcl_core.specs.meaning.Draw.{have_one_class, uniform_ends}
 use Rattle.gcl_core.proofs.EqualClasses.{equal_again, equal_more}
 use Rattle.gcl_core.proofs.Sums.{two_more}
-use Rattle.draw_cost.specs.Undecided.{undecided_at, undecided_below}
+use Rattle.draw_cost.specs.inner.Undecided.{undecided_at, undecided_below}
 
 module _ (m : ℕ) where
-  -- stretches whose numbers are all called again
+  -- stretches whose numbers are all rejected
   none_below : (n first : ℕ) → m ≤ first → undecided_at (uniform_ends m) n first ≡ 0
   none_below zero first le = refl
   none_below (suc n) first le =

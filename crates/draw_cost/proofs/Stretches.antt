@@ -1,12 +1,12 @@
 -- Strings that do not decide, by the stretches of the numbers that they begin.
 use Rattle.std.proofs.Common.{◌≡◌, ℕ, zero, suc, ◌+◌, ◌*◌, ◌^◌, ◌≤◌, Bool, true, false, cond, ◌-◌, List, [], ◌∷◌, ◌++◌, length, refl, sym, ap, ◌∙◌, arith}
 use Rattle.std.proofs.lemmas.Nat.{pow_pos}
-use Rattle.gcl_core.specs.Draw.{have_one_class, first_of, last_end, bits_for}
+use Rattle.gcl_core.specs.meaning.Draw.{have_one_class, first_of, last_end, bits_for}
 use Rattle.gcl_core.proofs.Sums.{two_more}
 use Rattle.cost_law.specs.ExpectedBits.{undecided_from, number_bits, attempt_bits}
 use Rattle.cost_law.proofs.AttemptBits.{length-push, free_of, first-push}
 use Rattle.draw_tree.proofs.Halves.{first_half, second_half}
-use Rattle.draw_cost.specs.Undecided.{undecided_at}
+use Rattle.draw_cost.specs.inner.Undecided.{undecided_at}
 
 pub by_numbers : (ends : List ℕ) (k n : ℕ) (u : List Bool) → length u + n ≡ k → undecided_from ends k n u ≡ undecided_at ends n (first_of k u)
 by_numbers ends k zero u e = refl

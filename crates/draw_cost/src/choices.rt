@@ -2,11 +2,10 @@
 
 ghost use Rattle.std.specs.Prelude.{◌≡◌, ◌≤◌, ◌+◌, ◌*◌, ◌^◌, length};
 ghost use Rattle.gcl_core.specs.declared.rules.TheConstants.{GREATEST_DENOMINATOR};
-ghost use Rattle.gcl_core.specs.Blocks.{choice_ends};
-ghost use Rattle.gcl_core.specs.Bounds.{IsWeight};
-ghost use Rattle.gcl_core.specs.Draw.{last_end, bits_for};
+ghost use Rattle.gcl_core.specs.meaning.Bounds.{IsWeight};
+ghost use Rattle.gcl_core.specs.meaning.Draw.{last_end, bits_for, choice_ends};
 ghost use Rattle.cost_law.specs.ExpectedBits.{attempt_bits};
-ghost use Rattle.draw_cost.specs.Undecided.{undecided_at};
+ghost use Rattle.draw_cost.specs.inner.Undecided.{undecided_at};
 
 use draw_tree::bits_for;
 use gcl_core::{Weight, draws};

@@ -23,7 +23,7 @@ const ARMS: [([u64; 3], u128); 4] = [
     ([0, 1, 1], 0),
 ];
 
-// A die: the empty string, 0, 1, 00, 01 and 10, so 8 + 4 + 4 + 2 + 2 + 2. Five sides: the same, since 10 has 4 and what is called again.
+// A die: the empty string, 0, 1, 00, 01 and 10, so 8 + 4 + 4 + 2 + 2 + 2. Five sides: the same, since 10 has 4 and what is rejected.
 const SIDES: [(u64, u128); 6] = [(1, 0), (2, 2), (3, 8), (4, 8), (5, 22), (6, 22)];
 
 fn choices_are() -> bool {

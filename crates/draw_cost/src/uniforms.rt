@@ -1,14 +1,13 @@
 // The bits of one attempt of a uniform draw.
 
 ghost use Rattle.std.specs.Prelude.{◌≡◌, ◌≤◌, ◌<◌, ◌*◌, ◌^◌};
-ghost use Rattle.gcl_core.specs.Blocks.{uniform_ends};
-ghost use Rattle.gcl_core.specs.Draw.{bits_for};
+ghost use Rattle.gcl_core.specs.meaning.Draw.{bits_for, uniform_ends};
 ghost use Rattle.cost_law.specs.ExpectedBits.{attempt_bits};
-ghost use Rattle.draw_cost.specs.Undecided.{undecided_below};
+ghost use Rattle.draw_cost.specs.inner.Undecided.{undecided_below};
 
 use draw_tree::bits_for;
 
-// The same of the first `rest` of 2^depth numbers, each with a class of its own, where the others are called again: of the halves the
+// The same of the first `rest` of 2^depth numbers, each with a class of its own, where the others are rejected: of the halves the
 // first has either all of its numbers among them, or the second none.
 fn undecided(depth: u32, rest: u64) -> u128
     requires depth { depth ≤ 63 }

@@ -2,7 +2,7 @@
 use Rattle.std.proofs.Common.{◌≡◌, ℕ, ◌≤◌, ◌<◌, ◌^◌, Option, Some, None, List, length, arith}
 use Rattle.std.specs.Prelude.{IfSome}
 use Rattle.gcl_core.specs.declared.rules.TheConstants.{MOST_ARMS}
-use Rattle.gcl_core.specs.Draw.{class_of}
+use Rattle.gcl_core.specs.meaning.Draw.{class_of}
 use Rattle.gcl_core.proofs.Classes.{class_within}
 
 pub small_class : (ends : List ℕ) (j : ℕ) (class : Option ℕ) → length ends ≤ MOST_ARMS → class ≡ class_of ends j → IfSome class (λ i. i < 2 ^ 32)

@@ -2,7 +2,7 @@
 
 ghost use Rattle.std.specs.Prelude.{◌≡◌, ◌≤◌, ◌+◌, ◌*◌, ◌^◌, true, false, Bool, List, length, IfOk, IfNone, MatchOption};
 ghost use Rattle.gcl_core.specs.declared.rules.TheConstants.{GREATEST_DENOMINATOR, MOST_ARMS};
-ghost use Rattle.gcl_core.specs.Draw.{last_end, bits_for, class_of, have_one_class, attempt_on};
+ghost use Rattle.gcl_core.specs.meaning.Draw.{last_end, bits_for, class_of, have_one_class, attempt_on};
 ghost use Rattle.draw_tree.specs.Coalescing.{IsCoalesced, coalesced};
 ghost use Rattle.draw_tree.specs.Decided.{decided_from, decided_draw};
 ghost use Rattle.draw_tree.specs.Flips.{leaf, flip_count};
@@ -47,7 +47,7 @@ fn decided(alloc: Global, depth: u32, ends: &[u64], first: u64) -> Result<Draw, 
 
 /// The decided draw of some ends, at most [`gcl_core::MOST_ARMS`], of which the last is at most 2^62: the one draw without a flip of two equal leaves in
 /// which each number leads to its class. It is built from the ends, without the perfect draw, which coalesces to it, and has at most
-/// m * k flips for m ends and numbers of k bits. An attempt at it is the attempt among the classes. It refuses where memory is wanting.
+/// m * k flips for m ends and numbers of k bits. An attempt at it is the attempt among the classes. It refuses where memory runs out.
 pub fn direct(alloc: Global, ends: &[u64]) -> Result<Draw, AllocError>
     requires few { length ends.now ≤ MOST_ARMS }
     requires low { last_end ends.now ≤ GREATEST_DENOMINATOR }

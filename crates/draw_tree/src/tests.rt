@@ -2,7 +2,7 @@
 
 ghost use Rattle.std.specs.Prelude.{◌≤◌, ◌<◌, length};
 ghost use Rattle.gcl_core.specs.declared.rules.TheConstants.{GREATEST_DENOMINATOR, MOST_ARMS};
-ghost use Rattle.gcl_core.specs.Draw.{last_end};
+ghost use Rattle.gcl_core.specs.meaning.Draw.{last_end};
 
 use crate::{Attempt, Draw, LAST_END_OF_COMPLETE, attempt, bits_for, coalesce, direct, perfect};
 use std::alloc::{AllocError, Global};

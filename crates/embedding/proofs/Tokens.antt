@@ -1,7 +1,7 @@
 -- How many tokens a text has.
 use Rattle.std.proofs.Common.{ℕ, ◌-◌, ◌≤◌, List, [], ◌∷◌, length, arith}
 use Rattle.gcl_core.specs.declared.tokens.Token.{Token}
-use Rattle.gcl_core.specs.Spans.{StandInOrder}
+use Rattle.gcl_core.specs.text.Spans.{StandInOrder}
 
 -- no more than bytes from the first to the end
 pub tokens_fewer : (from : ℕ) (ts : List Token) (end : ℕ) → StandInOrder from ts end → length ts ≤ end - from

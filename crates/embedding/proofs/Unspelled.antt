@@ -2,13 +2,13 @@
 use Rattle.std.proofs.Common.{◌≡◌, ◌≢◌, ℕ, List, Some, None, Result, ◌∙◌, refl, sym, ap, subst, arith}
 use Rattle.std.specs.Result.{IsErrAnd, IsErrOf}
 use Rattle.gcl_core.specs.declared.tokens.Token.{Token}
-use Rattle.gcl_core.specs.Acceptance.{Refusal, refusal_of}
-use Rattle.gcl_core.specs.Derivation.{Derives}
-use Rattle.gcl_core.specs.Lexing.{IsLexed, text_too_long, bad_byte, number_too_wide, name_too_long}
-use Rattle.gcl_core.specs.Nesting.{Nests}
-use Rattle.gcl_core.specs.Syntax.{Source}
-use Rattle.gcl_core.specs.Texts.{Spells}
-use Rattle.gcl_core.specs.Words.{kinds_of}
+use Rattle.gcl_core.specs.text.Acceptance.{Refusal, refusal_of}
+use Rattle.gcl_core.specs.text.Derivation.{Derives}
+use Rattle.gcl_core.specs.text.Lexing.{IsLexed, text_too_long, bad_byte, number_too_wide, name_too_long}
+use Rattle.gcl_core.specs.text.Nesting.{Nests}
+use Rattle.gcl_core.specs.meaning.Syntax.{Source}
+use Rattle.gcl_core.specs.text.Texts.{Spells}
+use Rattle.gcl_core.specs.text.Words.{kinds_of}
 use Rattle.gcl_lex.specs.declared.error.LexError.{LexError}
 use Rattle.gcl_lex.specs.declared.error.LexError.TheVariants as lexed
 use Rattle.gcl_lex.specs.Lexes.{Refuses}
@@ -20,7 +20,7 @@ pub by_error : {A E : Type 0} (r : Result A E) (e : E) (P : E → Type 0) → Is
 by_error r e P known is = subst (λ s. IsErrAnd s P) is known
 
 module _ (text : List ℕ) (p : Source) (spells : Spells text p) where
-  -- its tokens are not refused but for want of memory
+  -- its tokens are not refused but where memory runs out
   pub is_lexed : (e : LexError) → Refuses text e → e ≢ lexed.OutOfMemory → ⊥
   is_lexed lexed.TextTooLong h ne = h.no_tokens text_too_long refl spells.has.tokens spells.has.lexed
   is_lexed (lexed.BadByte at) h ne = h.no_tokens (bad_byte at) refl spells.has.tokens spells.has.lexed

@@ -1,8 +1,9 @@
 // Runs on bits of one's own.
 
 ghost use Rattle.std.specs.Prelude.{◌≡◌, IfOk, IsTrue};
-ghost use Rattle.gcl_core.specs.Runs.{InRange, run_on};
-ghost use Rattle.gcl_core.specs.Views.{source_of};
+ghost use Rattle.gcl_core.specs.meaning.Runs.{run_on};
+ghost use Rattle.gcl_core.specs.meaning.LimitRange.{InRange};
+ghost use Rattle.gcl_core.specs.meaning.Views.{source_of};
 ghost use Rattle.sampler_run.specs.Sampled.{CountsRun};
 
 use gcl_core::{Answer, Checked, Limits};

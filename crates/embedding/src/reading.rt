@@ -1,9 +1,9 @@
 // From a text to its program.
 
 ghost use Rattle.std.specs.Prelude.{IfOk, IsErrOf};
-ghost use Rattle.gcl_core.specs.Syntax.{Source};
-ghost use Rattle.gcl_core.specs.Texts.{Spells};
-ghost use Rattle.gcl_core.specs.Views.{source_of};
+ghost use Rattle.gcl_core.specs.meaning.Syntax.{Source};
+ghost use Rattle.gcl_core.specs.text.Texts.{Spells};
+ghost use Rattle.gcl_core.specs.meaning.Views.{source_of};
 
 use crate::error::ReadError;
 use gcl_check::check;

@@ -2,8 +2,9 @@
 
 ghost use Rattle.std.specs.Prelude.{◌≡◌, ◌<◌, ℕ, length, Some, slice_get, IfOk, IfErr, IfSome, IfNone, Contains};
 ghost use Rattle.frac128.specs.Fraction.{Fraction};
-ghost use Rattle.gcl_core.specs.Runs.{InRange, run_on};
-ghost use Rattle.gcl_core.specs.Views.{source_of};
+ghost use Rattle.gcl_core.specs.meaning.Runs.{run_on};
+ghost use Rattle.gcl_core.specs.meaning.LimitRange.{InRange};
+ghost use Rattle.gcl_core.specs.meaning.Views.{source_of};
 ghost use Rattle.mass_fold.specs.Refused.{MassRefused};
 ghost use Rattle.weighing_law.specs.Weighing.{WeighsExactly, limited_mass};
 ghost use Rattle.embedding.specs.Chance.{IsChance};

@@ -3,10 +3,10 @@ use Rattle.std.proofs.Common.{◌≡◌, ℕ, zero, suc, ◌+◌, ◌<◌, ℤ, 
 use Rattle.std.specs.Prelude.{nat_lt, if◌then◌else◌}
 use Rattle.std.proofs.lemmas.List.{drop-drop}
 use Rattle.gcl_core.specs.declared.answers.Fault.{Fault}
-use Rattle.gcl_core.specs.Value.{State, Value}
+use Rattle.gcl_core.specs.meaning.Value.{State, Value}
 use Rattle.formula.specs.declared.op.Op.{Op}
 use Rattle.formula.specs.declared.running.Point.{Point}
-use Rattle.formula.specs.OnStack.{Moved, on, fails, stuck, pushed, move, after_move, only, run, CameTo, Goes}
+use Rattle.formula.specs.inner.OnStack.{Moved, on, fails, stuck, pushed, move, after_move, the_one_value, run, CameTo, Goes}
 use Rattle.formula.specs.Forms.{values}
 use Rattle.formula.proofs.Runs.{run_drop}
 use Rattle.formula.proofs.Slots.{values_length}
@@ -72,7 +72,7 @@ module _ (room : ℕ) (vars : State) where
   run_fails steps op i s slots f a e c h =
       failed (move room vars op i s) i slots f a (λ k u. run room vars (i + 1) k (drop (suc i) steps) u) c (ap (λ l. run room vars i 0 l s) (sym e) ∙ h)
 
-  only_top : (top : ℤ) (held : ℕ) (slots : List ℤ) (a : Value) → only (values top held slots) ≡ Some a → Ok top ≡ a
+  only_top : (top : ℤ) (held : ℕ) (slots : List ℤ) (a : Value) → the_one_value (values top held slots) ≡ Some a → Ok top ≡ a
   only_top top zero slots a e = absurd (cc)
   only_top top (suc zero) slots a e = cc
   only_top top (suc (suc n)) slots a e = absurd (cc)

@@ -4,12 +4,13 @@ use Rattle.std.specs.Prelude.{slice_index_or, if◌then◌else◌}
 use Rattle.std.proofs.lemmas.List.{append-nil}
 use Rattle.gcl_core.specs.declared.syntax.BinOp.{BinOp}
 use Rattle.gcl_core.specs.declared.syntax.BinOp.TheVariants.{Add, Sub, Mul, Div, Rem, Eq, Ne, Lt, Le, Gt, Ge, And, Or}
-use Rattle.gcl_core.specs.Syntax.{Expression, number, truth, variable, negative, opposite, binary}
-use Rattle.gcl_core.specs.Value.{State, Value, value_of, Reads, truth_number, is_zero, within_64, applied, or_settled, ◌>>=◌}
+use Rattle.gcl_core.specs.meaning.Syntax.{Expression}
+use Rattle.gcl_core.specs.meaning.Syntax as source
+use Rattle.gcl_core.specs.meaning.Value.{State, Value, value_of, ExpressionBelow, truth_number, is_zero, within_64, applied, short_circuited, ◌>>=◌}
 use Rattle.formula.specs.declared.op.Op.{Op}
 use Rattle.formula.specs.declared.op.Op.TheVariants.{Push, Truth, Load, Neg, Not, Bin, AndSkip, OrSkip, Settle}
-use Rattle.formula.specs.Steps.{between, gap, kept, joining, size, steps_at, steps_of, depth}
-use Rattle.formula.specs.OnStack.{on, stuck, with_top, pushed, on_to, move, after_move, only, run}
+use Rattle.formula.specs.Steps.{settling, steps_between, kept, joining, step_count, steps_at, steps_of, depth}
+use Rattle.formula.specs.inner.OnStack.{on, stuck, with_top, pushed, on_to, move, after_move, the_one_value, run}
 use Rattle.formula.proofs.Lists.{regroup, steps_length}
 
 -- a fault, or on with the value
@@ -93,9 +94,9 @@ module _ (room : ℕ) (vars : State) where
       ∙ run_plain op x b (i + 0) (i + 0 + length B) n B r s (omega arith) (h (Bin op ∷ r) (x ∷ s) (omega arith))
 
   run_right : (op : BinOp) (x : ℤ) (b : Value) (i t n need : ℕ) (B r : List Op) (s : List ℤ) →
-      n ≡ t → t ≡ i + gap op + length B + 1 → length s + (need + kept op) ≤ room →
-      RunsTo b B (i + gap op) (i + gap op + length B) need →
-      run room vars i 0 (between op t ++ (B ++ joining op ∷ r)) (x ∷ s) ≡ bind (or_settled op x (b >>= λ y. applied op x y)) (λ v. run room vars n 0 r (v ∷ s))
+      n ≡ t → t ≡ i + steps_between op + length B + 1 → length s + (need + kept op) ≤ room →
+      RunsTo b B (i + steps_between op) (i + steps_between op + length B) need →
+      run room vars i 0 (settling op t ++ (B ++ joining op ∷ r)) (x ∷ s) ≡ bind (short_circuited op x (b >>= λ y. applied op x y)) (λ v. run room vars n 0 r (v ∷ s))
   unfolding run
   run_right And (pos zero) b i t n need B r s f e le h =
       ap (λ l. run room vars i 0 (AndSkip t ∷ l) (pos 0 ∷ s)) (sym (append_assoc B (Settle ∷ []) r))
@@ -125,16 +126,16 @@ module _ (room : ℕ) (vars : State) where
   run_right Ge x b i t n need B r s f e le h = run_simple Ge x b i t n need B r s f e le h
 
   run_two : (op : BinOp) (a b : Value) (A B : List Op) (i j t n need_a need_b : ℕ) (r : List Op) (s : List ℤ) →
-      j ≡ i + length A + gap op → t ≡ j + length B + 1 → n ≡ t → length s + max need_a (need_b + kept op) ≤ room →
+      j ≡ i + length A + steps_between op → t ≡ j + length B + 1 → n ≡ t → length s + max need_a (need_b + kept op) ≤ room →
       RunsTo a A i (i + length A) need_a → RunsTo b B j (j + length B) need_b →
-      run room vars i 0 (A ++ (between op t ++ (B ++ joining op ∷ r))) s
-      ≡ bind (a >>= λ x. or_settled op x (b >>= λ y. applied op x y)) (λ v. run room vars n 0 r (v ∷ s))
+      run room vars i 0 (A ++ (settling op t ++ (B ++ joining op ∷ r))) s
+      ≡ bind (a >>= λ x. short_circuited op x (b >>= λ y. applied op x y)) (λ v. run room vars n 0 r (v ∷ s))
   run_two op a b A B i j t n na nb r s ej et en le ha hb =
-      let hb' : RunsTo b B (i + length A + gap op) (i + length A + gap op + length B) nb = subst (λ j. RunsTo b B j (j + length B) nb) ej hb in
-      ha (between op t ++ (B ++ joining op ∷ r)) s (omega arith)
-      ∙ bind_same a (λ x. run room vars (i + length A) 0 (between op t ++ (B ++ joining op ∷ r)) (x ∷ s)) (λ x. bind (or_settled op x (b >>= λ y. applied op x y)) (λ v. run room vars n 0 r (v ∷ s)))
+      let hb' : RunsTo b B (i + length A + steps_between op) (i + length A + steps_between op + length B) nb = subst (λ j. RunsTo b B j (j + length B) nb) ej hb in
+      ha (settling op t ++ (B ++ joining op ∷ r)) s (omega arith)
+      ∙ bind_same a (λ x. run room vars (i + length A) 0 (settling op t ++ (B ++ joining op ∷ r)) (x ∷ s)) (λ x. bind (short_circuited op x (b >>= λ y. applied op x y)) (λ v. run room vars n 0 r (v ∷ s)))
       (λ x. run_right op x b (i + length A) t n nb B r s en (omega arith) (omega arith) hb')
-      ∙ bind_bind a (λ x. or_settled op x (b >>= λ y. applied op x y)) (λ v. run room vars n 0 r (v ∷ s))
+      ∙ bind_bind a (λ x. short_circuited op x (b >>= λ y. applied op x y)) (λ v. run room vars n 0 r (v ∷ s))
 
   run_one : (op : Op) (f : ℤ → Value) (a : Value) (A : List Op) (i n need : ℕ) (r : List Op) (s : List ℤ) →
       n ≡ i + length A + 1 → length s + need ≤ room → RunsTo a A i (i + length A) need →
@@ -159,29 +160,29 @@ module _ (room : ℕ) (vars : State) where
   loaded : (x i : ℕ) (s : List ℤ) → x < length vars → move room vars (Load x) i s ≡ pushed room (slice_index_or vars x (pos 0)) s
   loaded x i s lt = ap (λ b. if b then pushed room (slice_index_or vars x (pos 0)) s else stuck) (lt-ltb x (length vars) lt)
 
-  pub runs : (e : Expression) (i : ℕ) → Reads e (length vars) → RunsTo (value_of e vars) (steps_at e i) i (i + length (steps_at e i)) (depth e)
-  runs (number z) i h = λ r s le. run_atom (Push z) z i (i + 1) r s refl (omega arith) refl
-  runs (truth b) i h = λ r s le. run_atom (Truth b) (truth_number b) i (i + 1) r s refl (omega arith) refl
-  runs (variable x) i h = λ r s le. run_atom (Load x) (slice_index_or vars x (pos 0)) i (i + 1) r s refl (omega arith) (loaded x i s h)
-  runs (negative a) i h = λ r s le.
+  pub runs : (e : Expression) (i : ℕ) → ExpressionBelow e (length vars) → RunsTo (value_of e vars) (steps_at e i) i (i + length (steps_at e i)) (depth e)
+  runs (source.Num z) i h = λ r s le. run_atom (Push z) z i (i + 1) r s refl (omega arith) refl
+  runs (source.Truth b) i h = λ r s le. run_atom (Truth b) (truth_number b) i (i + 1) r s refl (omega arith) refl
+  runs (source.Var x) i h = λ r s le. run_atom (Load x) (slice_index_or vars x (pos 0)) i (i + 1) r s refl (omega arith) (loaded x i s h)
+  runs (source.Neg a) i h = λ r s le.
       run_one Neg (λ x. within_64 (neg_ℤ x)) (value_of a vars) (steps_at a i) i _ (depth a) r s (omega (arith, length-append (steps_at a i) (Neg ∷ []))) le (runs a i h) (λ x j. refl)
-  runs (opposite a) i h = λ r s le.
+  runs (source.Not a) i h = λ r s le.
       run_one Not (λ x. Ok (truth_number (is_zero x))) (value_of a vars) (steps_at a i) i _ (depth a) r s (omega (arith, length-append (steps_at a i) (Not ∷ []))) le (runs a i h) (λ x j. refl)
-  runs (binary op a b) i h = λ r s le.
-      let t = i + (size a + gap op + size b + 1) in
-      let j = i + (size a + gap op) in
+  runs (source.Bin op a b) i h = λ r s le.
+      let t = i + (step_count a + steps_between op + step_count b + 1) in
+      let j = i + (step_count a + steps_between op) in
       let A = steps_at a i in
       let B = steps_at b j in
       let la = steps_length a i in
       let lb = steps_length b j in
-      ap (λ l. run room vars i 0 l s) (regroup A (between op t) B (joining op) r)
-      ∙ run_two op (value_of a vars) (value_of b vars) A B i j t _ (depth a) (depth b) r s (omega arith) (omega arith) (omega (arith, steps_length (binary op a b) i)) le (runs a i h.0) (runs b j h.1)
+      ap (λ l. run room vars i 0 l s) (regroup A (settling op t) B (joining op) r)
+      ∙ run_two op (value_of a vars) (value_of b vars) A B i j t _ (depth a) (depth b) r s (omega arith) (omega arith) (omega (arith, steps_length (source.Bin op a b) i)) le (runs a i h.0) (runs b j h.1)
 
   -- the whole
-  pub runs_whole : (e : Expression) → Reads e (length vars) → depth e ≤ room → run room vars 0 0 (steps_of e) [] ≡ Some (value_of e vars)
+  pub runs_whole : (e : Expression) → ExpressionBelow e (length vars) → depth e ≤ room → run room vars 0 0 (steps_of e) [] ≡ Some (value_of e vars)
   unfolding run
   runs_whole e h le =
       ap (λ l. run room vars 0 0 l []) (sym (append-nil (steps_of e)))
       ∙ runs e 0 h [] [] (omega arith)
-      ∙ bind_same (value_of e vars) (λ y. only (y ∷ [])) (λ y. Some (Ok y)) (λ y. refl)
+      ∙ bind_same (value_of e vars) (λ y. the_one_value (y ∷ [])) (λ y. Some (Ok y)) (λ y. refl)
       ∙ bind_some (value_of e vars)

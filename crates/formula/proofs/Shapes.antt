@@ -2,8 +2,9 @@
 use Rattle.std.proofs.Common.{◌≡◌, ℕ, ◌+◌, max, List, [], ◌∷◌, ◌++◌, ℤ, Ok, Err, refl, sym, ap, ◌∙◌, subst}
 use Rattle.gcl_core.specs.declared.syntax.BinOp.{BinOp}
 use Rattle.gcl_core.specs.declared.syntax.BinOp.TheVariants.{And, Or}
-use Rattle.gcl_core.specs.Value.{State, Value, value_of, ◌>>=◌, applied, or_settled, Reads}
-use Rattle.gcl_core.specs.Syntax.{Expression, binary}
+use Rattle.gcl_core.specs.meaning.Value.{State, Value, value_of, ◌>>=◌, applied, short_circuited, ExpressionBelow}
+use Rattle.gcl_core.specs.meaning.Syntax.{Expression}
+use Rattle.gcl_core.specs.meaning.Syntax as source
 use Rattle.formula.specs.declared.op.Op.{Op}
 use Rattle.formula.specs.declared.op.Op.TheVariants.{Bin}
 use Rattle.formula.specs.declared.op.Atom.{Atom}
@@ -12,7 +13,7 @@ use Rattle.formula.specs.declared.op.Term.{Term}
 use Rattle.formula.specs.declared.op.Term.TheVariants.{One, Two}
 use Rattle.formula.specs.declared.op.Form.{Form}
 use Rattle.formula.specs.declared.op.Form.TheVariants.{Short, Joined, Long}
-use Rattle.formula.specs.Steps.{between, gap, kept, joining, size, steps_at, steps_of, depth}
+use Rattle.formula.specs.Steps.{settling, steps_between, kept, joining, step_count, steps_at, steps_of, depth}
 use Rattle.formula.specs.ReadBack.{expression_in}
 use Rattle.formula.specs.Forms.{atom_expression, atom_value, AtomReads, term_steps, term_expression, IsTerm, term_depth, TermReads, term_value, joined_steps, joined_value, form_steps, FormOf}
 use Rattle.formula.proofs.ReadingBack.{stands_for}
@@ -40,7 +41,7 @@ term_deep (Two _ (Num n) (Var y)) h = refl
 term_deep (Two _ (Var x) (Num m)) h = refl
 term_deep (Two _ (Var x) (Var y)) h = refl
 
-term_reads : (t : Term) (n : ℕ) → Reads (term_expression t) n → TermReads t n
+term_reads : (t : Term) (n : ℕ) → ExpressionBelow (term_expression t) n → TermReads t n
 term_reads (One (Num x)) n r = tt
 term_reads (One (Var x)) n r = r
 term_reads (Two op (Num x) (Num y)) n r = (tt, tt)
@@ -48,7 +49,7 @@ term_reads (Two op (Num x) (Var y)) n r = (tt, r.1)
 term_reads (Two op (Var x) (Num y)) n r = (r.0, tt)
 term_reads (Two op (Var x) (Var y)) n r = r
 
-settles_nothing : (op : BinOp) (x : ℤ) (v : Value) → between op 0 ≡ [] → v ≡ or_settled op x v
+settles_nothing : (op : BinOp) (x : ℤ) (v : Value) → settling op 0 ≡ [] → v ≡ short_circuited op x v
 settles_nothing And x v h = absurd (cc)
 settles_nothing Or x v h = absurd (cc)
 settles_nothing _ x v h = refl
@@ -64,24 +65,24 @@ term_values (Two op (Var x) (Var y)) vars h = settles_nothing op _ _ h
 -- ---- one operator on two terms
 
 joined_writes : (op : BinOp) (t u : Term) → Plain op → IsTerm t → IsTerm u →
-    joined_steps op t u ≡ steps_of (binary op (term_expression t) (term_expression u))
+    joined_steps op t u ≡ steps_of (source.Bin op (term_expression t) (term_expression u))
 joined_writes op t u p i k =
     let a = term_expression t in
     let b = term_expression u in
-    let j = 0 + (size a + gap op) in
-    let end = 0 + (size a + gap op + size b + 1) in
+    let j = 0 + (step_count a + steps_between op) in
+    let end = 0 + (step_count a + steps_between op + step_count b + 1) in
     ap (λ l. l ++ (term_steps u ++ Bin op ∷ [])) (sym (term_writes t 0 i))
     ∙ ap (λ l. steps_at a 0 ++ (l ++ Bin op ∷ [])) (sym (term_writes u j k))
     ∙ ap (λ o. steps_at a 0 ++ (steps_at b j ++ o ∷ [])) (sym p.joining)
-    ∙ ap (λ m. steps_at a 0 ++ (m ++ (steps_at b j ++ joining op ∷ []))) (sym (p.between end))
+    ∙ ap (λ m. steps_at a 0 ++ (m ++ (steps_at b j ++ joining op ∷ []))) (sym (p.settling end))
 
-after_settled : (op : BinOp) (v w : Value) → between op 0 ≡ [] →
-    (v >>= λ x. (w >>= λ y. applied op x y)) ≡ (v >>= λ x. or_settled op x (w >>= λ y. applied op x y))
+after_settled : (op : BinOp) (v w : Value) → settling op 0 ≡ [] →
+    (v >>= λ x. (w >>= λ y. applied op x y)) ≡ (v >>= λ x. short_circuited op x (w >>= λ y. applied op x y))
 after_settled op (Ok x) w h = settles_nothing op x _ h
 after_settled op (Err fault) w h = refl
 
-joined_values : (op : BinOp) (t u : Term) (vars : State) → between op 0 ≡ [] → IsTerm t → IsTerm u →
-    joined_value op t u vars ≡ value_of (binary op (term_expression t) (term_expression u)) vars
+joined_values : (op : BinOp) (t u : Term) (vars : State) → settling op 0 ≡ [] → IsTerm t → IsTerm u →
+    joined_value op t u vars ≡ value_of (source.Bin op (term_expression t) (term_expression u)) vars
 joined_values op t u vars h i k =
     ap (λ v. v >>= λ x. (term_value u vars >>= λ y. applied op x y)) (term_values t vars i)
     ∙ ap (λ w. value_of (term_expression t) vars >>= λ x. (w >>= λ y. applied op x y)) (term_values u vars k)
@@ -128,8 +129,8 @@ module _ (f : Form) (e : Expression) (h : FormOf f e) (s : List Op) (view : form
   pub short_is : (t : Term) → f ≡ Short t → IsTerm t × (term_expression t ≡ expression_in s)
   short_is t is = let g = subst (λ f. FormOf f e) is h in (g.0, sym (stands ∙ g.1))
 
-  pub short_reads : (t : Term) (n : ℕ) → f ≡ Short t → Reads (expression_in s) n → TermReads t n
-  short_reads t n is r = term_reads t n (subst (λ e. Reads e n) (sym (short_is t is).1) r)
+  pub short_reads : (t : Term) (n : ℕ) → f ≡ Short t → ExpressionBelow (expression_in s) n → TermReads t n
+  short_reads t n is r = term_reads t n (subst (λ e. ExpressionBelow e n) (sym (short_is t is).1) r)
 
   pub short_value : (t : Term) (vars : State) → f ≡ Short t → term_value t vars ≡ value_of (expression_in s) vars
   short_value t vars is = term_values t vars (short_is t is).0 ∙ ap (λ e. value_of e vars) (short_is t is).1
@@ -137,11 +138,11 @@ module _ (f : Form) (e : Expression) (h : FormOf f e) (s : List Op) (view : form
   joined_form : (op : BinOp) (t u : Term) → f ≡ Joined op t u → FormOf (Joined op t u) e
   joined_form op t u is = subst (λ f. FormOf f e) is h
 
-  pub joined_is : (op : BinOp) (t u : Term) → f ≡ Joined op t u → expression_in s ≡ binary op (term_expression t) (term_expression u)
+  pub joined_is : (op : BinOp) (t u : Term) → f ≡ Joined op t u → expression_in s ≡ source.Bin op (term_expression t) (term_expression u)
   joined_is op t u is = stands ∙ (joined_form op t u is).3
 
-  pub joined_reads : (op : BinOp) (t u : Term) (n : ℕ) → f ≡ Joined op t u → Reads (expression_in s) n → TermReads t n × TermReads u n
-  joined_reads op t u n is r = let both = subst (λ e. Reads e n) (joined_is op t u is) r in (term_reads t n both.0, term_reads u n both.1)
+  pub joined_reads : (op : BinOp) (t u : Term) (n : ℕ) → f ≡ Joined op t u → ExpressionBelow (expression_in s) n → TermReads t n × TermReads u n
+  joined_reads op t u n is r = let both = subst (λ e. ExpressionBelow e n) (joined_is op t u is) r in (term_reads t n both.0, term_reads u n both.1)
 
   pub joined_value_in : (op : BinOp) (t u : Term) (vars : State) → f ≡ Joined op t u → joined_value op t u vars ≡ value_of (expression_in s) vars
   joined_value_in op t u vars is =

@@ -3,7 +3,7 @@ use Rattle.std.proofs.Common.{◌≡◌, ℕ, zero, suc, ◌<◌, ℤ, pos, List
 use Rattle.std.proofs.lemmas.List.{get_or-set_other, get_or-set_same}
 use Rattle.std.specs.Prelude.{slice_set, slice_index_or}
 use Rattle.std.proofs.lemmas.Int.{to_z-of_z, ints}
-use Rattle.gcl_core.specs.Value.{fits_64}
+use Rattle.gcl_core.specs.meaning.Value.{fits_64}
 use Rattle.formula.specs.Forms.{under, values}
 
 under_length : (slots : List ℤ) (n : ℕ) → length (under slots n) ≡ n

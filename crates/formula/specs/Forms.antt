@@ -2,9 +2,10 @@
 use Rattle.std.specs.Prelude.{◌≡◌, ℕ, zero, suc, ◌<◌, ℤ, pos, List, [], ◌∷◌, ◌++◌, Ok, slice_index_or}
 use Rattle.gcl_core.specs.declared.syntax.BinOp.{BinOp}
 use Rattle.gcl_core.specs.declared.syntax.Expr.{Expr}
-use Rattle.gcl_core.specs.Views.{expression_of}
-use Rattle.gcl_core.specs.Syntax.{Expression, number, variable, binary}
-use Rattle.gcl_core.specs.Value.{State, Value, ◌>>=◌, applied}
+use Rattle.gcl_core.specs.meaning.Views.{expression_of}
+use Rattle.gcl_core.specs.meaning.Syntax.{Expression}
+use Rattle.gcl_core.specs.meaning.Syntax as source
+use Rattle.gcl_core.specs.meaning.Value.{State, Value, ◌>>=◌, applied}
 use Rattle.formula.specs.declared.op.Op.{Op}
 use Rattle.formula.specs.declared.op.Op.TheVariants.{Push, Load, Bin}
 use Rattle.formula.specs.declared.op.Atom.{Atom}
@@ -13,15 +14,15 @@ use Rattle.formula.specs.declared.op.Term.{Term}
 use Rattle.formula.specs.declared.op.Term.TheVariants.{One, Two}
 use Rattle.formula.specs.declared.op.Form.{Form}
 use Rattle.formula.specs.declared.op.Form.TheVariants.{Short, Joined, Long}
-use Rattle.formula.specs.Steps.{steps_of, depth, between}
+use Rattle.formula.specs.Steps.{steps_of, depth, settling}
 
 abbrev pub atom_step : Atom → Op
 atom_step (Num n) = Push n
 atom_step (Var x) = Load x
 
 abbrev pub atom_expression : Atom → Expression
-atom_expression (Num n) = number n
-atom_expression (Var x) = variable x
+atom_expression (Num n) = source.Num n
+atom_expression (Var x) = source.Var x
 
 abbrev pub AtomReads : Atom → ℕ → Type 0
 AtomReads (Num n) count = Unit {0}
@@ -37,12 +38,12 @@ term_steps (Two op a b) = atom_step a ∷ (atom_step b ∷ (Bin op ∷ []))
 
 abbrev pub term_expression : Term → Expression
 term_expression (One a) = atom_expression a
-term_expression (Two op a b) = binary op (atom_expression a) (atom_expression b)
+term_expression (Two op a b) = source.Bin op (atom_expression a) (atom_expression b)
 
 -- its operator is neither `and` nor `or`
 abbrev pub IsTerm : Term → Type 0
 IsTerm (One a) = Unit {0}
-IsTerm (Two op a b) = between op 0 ≡ []
+IsTerm (Two op a b) = settling op 0 ≡ []
 
 -- the greatest number of values on the stack while its steps run
 abbrev pub term_depth : Term → ℕ
@@ -72,7 +73,7 @@ form_steps (Long steps n) = steps.items
 -- a short form is of the expression e itself; another holds its depth
 abbrev pub FormOf : Form → Expression → Type 0
 FormOf (Short t) e = IsTerm t × (e ≡ term_expression t)
-FormOf (Joined op t u) e = (between op 0 ≡ []) × IsTerm t × IsTerm u × (e ≡ binary op (term_expression t) (term_expression u))
+FormOf (Joined op t u) e = (settling op 0 ≡ []) × IsTerm t × IsTerm u × (e ≡ source.Bin op (term_expression t) (term_expression u))
 FormOf (Long steps n) e = (steps.items ≡ steps_of e) × (n ≡ depth e)
 
 -- the values below the top, from the n-th slot down to the first

@@ -2,21 +2,22 @@
 use Rattle.std.specs.Prelude.{ℕ, ◌+◌, max, List, [], ◌∷◌, ◌++◌}
 use Rattle.gcl_core.specs.declared.syntax.BinOp.{BinOp}
 use Rattle.gcl_core.specs.declared.syntax.BinOp.TheVariants.{And, Or}
-use Rattle.gcl_core.specs.Syntax.{Expression, number, truth, variable, negative, opposite, binary}
+use Rattle.gcl_core.specs.meaning.Syntax.{Expression}
+use Rattle.gcl_core.specs.meaning.Syntax as source
 use Rattle.formula.specs.declared.op.Op.{Op}
 use Rattle.formula.specs.declared.op.Op.TheVariants.{Push, Truth, Load, Neg, Not, Bin, AndSkip, OrSkip, Settle}
 
 -- between two operands: where the left one settles the result, on to the index t
-abbrev pub between : BinOp → ℕ → List Op
-between And t = AndSkip t ∷ []
-between Or t = OrSkip t ∷ []
-between _ t = []
+abbrev pub settling : BinOp → ℕ → List Op
+settling And t = AndSkip t ∷ []
+settling Or t = OrSkip t ∷ []
+settling _ t = []
 
 -- how many steps these are
-abbrev pub gap : BinOp → ℕ
-gap And = 1
-gap Or = 1
-gap _ = 0
+abbrev pub steps_between : BinOp → ℕ
+steps_between And = 1
+steps_between Or = 1
+steps_between _ = 0
 
 -- how many values lie below those of the right operand
 abbrev pub kept : BinOp → ℕ
@@ -31,32 +32,32 @@ joining Or = Settle
 joining op = Bin op
 
 -- how many steps
-abbrev pub size : Expression → ℕ
-size (number z) = 1
-size (truth b) = 1
-size (variable x) = 1
-size (negative a) = size a + 1
-size (opposite a) = size a + 1
-size (binary op a b) = size a + gap op + size b + 1
+abbrev pub step_count : Expression → ℕ
+step_count (source.Num z) = 1
+step_count (source.Truth b) = 1
+step_count (source.Var x) = 1
+step_count (source.Neg a) = step_count a + 1
+step_count (source.Not a) = step_count a + 1
+step_count (source.Bin op a b) = step_count a + steps_between op + step_count b + 1
 
 -- The steps that begin at the index i: left, right, operator. Indices count from the first step of the whole expression.
 abbrev pub steps_at : Expression → ℕ → List Op
-steps_at (number z) i = Push z ∷ []
-steps_at (truth b) i = Truth b ∷ []
-steps_at (variable x) i = Load x ∷ []
-steps_at (negative a) i = steps_at a i ++ Neg ∷ []
-steps_at (opposite a) i = steps_at a i ++ Not ∷ []
-steps_at (binary op a b) i =
-    steps_at a i ++ (between op (i + (size a + gap op + size b + 1)) ++ (steps_at b (i + (size a + gap op)) ++ joining op ∷ []))
+steps_at (source.Num z) i = Push z ∷ []
+steps_at (source.Truth b) i = Truth b ∷ []
+steps_at (source.Var x) i = Load x ∷ []
+steps_at (source.Neg a) i = steps_at a i ++ Neg ∷ []
+steps_at (source.Not a) i = steps_at a i ++ Not ∷ []
+steps_at (source.Bin op a b) i =
+    steps_at a i ++ (settling op (i + (step_count a + steps_between op + step_count b + 1)) ++ (steps_at b (i + (step_count a + steps_between op)) ++ joining op ∷ []))
 
 abbrev pub steps_of : Expression → List Op
 steps_of e = steps_at e 0
 
 -- the greatest number of values on the stack while they run
 abbrev pub depth : Expression → ℕ
-depth (number z) = 1
-depth (truth b) = 1
-depth (variable x) = 1
-depth (negative a) = depth a
-depth (opposite a) = depth a
-depth (binary op a b) = max (depth a) (depth b + kept op)
+depth (source.Num z) = 1
+depth (source.Truth b) = 1
+depth (source.Var x) = 1
+depth (source.Neg a) = depth a
+depth (source.Not a) = depth a
+depth (source.Bin op a b) = max (depth a) (depth b + kept op)

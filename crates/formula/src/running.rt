@@ -1,12 +1,12 @@
 // Steps on a stack. Nothing is called back, and no box is followed.
 
 ghost use Rattle.std.specs.Prelude.{◌≡◌, ℤ, ◌+◌, ◌^◌, ◌<◌, ◌≤◌, ◌∷◌, length, IfOk, IsTrue};
-ghost use Rattle.gcl_core.specs.Value.{fits_64, applied, value_of, Reads};
+ghost use Rattle.gcl_core.specs.meaning.Value.{fits_64, applied, value_of, ExpressionBelow};
 ghost use Rattle.formula.specs.Steps.{steps_of, depth};
 ghost use Rattle.formula.specs.ReadBack.{expression_in};
-ghost use Rattle.formula.specs.OnStack.{move, CameTo, Goes};
+ghost use Rattle.formula.specs.inner.OnStack.{move, CameTo, Goes};
 ghost use Rattle.formula.specs.Forms.{atom_value, AtomReads, values};
-ghost use Rattle.gcl_core.specs.Syntax.{Expression};
+ghost use Rattle.gcl_core.specs.meaning.Syntax.{Expression};
 
 use crate::op::{Atom, Op};
 use gcl_core::{BinOp, Fault};
@@ -151,7 +151,7 @@ fn take(
 
 // The value of the expression that the steps stand for.
 pub(crate) fn value(steps: &[Op], vars: &[i64], slots: &mut [i64]) -> Result<i64, Fault>
-    requires stands { (e : Expression) × (steps.now ≡ steps_of e) × Reads e (length vars.now) × (depth e ≤ length slots.old) }
+    requires stands { (e : Expression) × (steps.now ≡ steps_of e) × ExpressionBelow e (length vars.now) × (depth e ≤ length slots.old) }
     ensures value { result ≡ value_of (expression_in steps.now) vars.now }
     ensures room { length slots.new ≡ length slots.old }
 {

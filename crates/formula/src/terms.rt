@@ -1,8 +1,8 @@
 // What terms stand for: their steps, their tree and their value.
 
 ghost use Rattle.std.specs.Prelude.{◌≡◌, ◌<◌, length, Some, slice_get, IfOk, IsTrue};
-ghost use Rattle.gcl_core.specs.Value.{fits_64};
-ghost use Rattle.gcl_core.specs.Views.{expression_of};
+ghost use Rattle.gcl_core.specs.meaning.Value.{fits_64};
+ghost use Rattle.gcl_core.specs.meaning.Views.{expression_of};
 ghost use Rattle.formula.specs.Forms.{term_steps, term_expression, term_depth, term_value, TermReads, joined_steps, joined_value};
 
 use crate::op::{Op, Term};

@@ -2,8 +2,8 @@
 
 ghost use Rattle.std.specs.Prelude.{◌≡◌, pos, IfOk};
 ghost use Rattle.gcl_core.specs.declared.syntax.BinOp.TheVariants.{And, Lt, Eq, Sub};
-ghost use Rattle.gcl_core.specs.Syntax.{number, variable, opposite, binary};
-ghost use Rattle.gcl_core.specs.Views.{expression_of};
+ghost use Rattle.gcl_core.specs.meaning.Syntax.{Num, Var, Not, Bin};
+ghost use Rattle.gcl_core.specs.meaning.Views.{expression_of};
 
 use crate::{Formula, Op, Stack};
 use gcl_core::{BinOp, Expr, Fault};
@@ -17,7 +17,7 @@ const Y: u32 = 1;
 
 // An operator on a variable and a number.
 fn compare(alloc: Global, op: BinOp, x: u32, n: i64) -> Result<Expr, AllocError>
-    ensures { IfOk result (λ e. expression_of e ≡ binary op (variable x) (number n)) }
+    ensures { IfOk result (λ e. expression_of e ≡ Bin op (Var x) (Num n)) }
 {
     Ok(Expr::Bin(
         op,
@@ -27,7 +27,7 @@ fn compare(alloc: Global, op: BinOp, x: u32, n: i64) -> Result<Expr, AllocError>
 }
 
 fn condition(alloc: Global) -> Result<Expr, AllocError>
-    ensures { IfOk result (λ e. expression_of e ≡ binary And (binary Lt (variable 0) (number (pos 2))) (opposite (binary Eq (variable 1) (number (pos 1))))) }
+    ensures { IfOk result (λ e. expression_of e ≡ Bin And (Bin Lt (Var 0) (Num (pos 2))) (Not (Bin Eq (Var 1) (Num (pos 1))))) }
 {
     let below = compare(alloc, BinOp::Lt, X, 2)?;
     let equal = compare(alloc, BinOp::Eq, Y, 1)?;

@@ -3,11 +3,11 @@ use Rattle.std.proofs.Common.{◌≡◌, ◌∙◌, ℕ, ◌+◌, ◌≤◌, Boo
 use Rattle.std.proofs.lemmas.Bool.Decides.{nat_tests}
 use Rattle.std.proofs.lemmas.List.{length-map, map-append}
 use Rattle.gcl_core.specs.declared.kinds.Kind.TheVariants.{Number}
-use Rattle.gcl_core.specs.Acceptance.{Flaw, Refusal, too_many_names, expression_flaw, statement_flaw, first_refusal, flaws_of, refusal_of}
+use Rattle.gcl_core.specs.text.Acceptance.{Flaw, Refusal, too_many_names, expression_flaw, statement_flaw, first_refusal, flaws_of, refusal_of}
 use Rattle.gcl_core.proofs.Listed.{listed_all}
-use Rattle.gcl_core.specs.Listing.{listed, count_all}
-use Rattle.gcl_core.specs.Syntax.{Statement, Statements, Source}
-use Rattle.gcl_core.specs.Targets.{sets}
+use Rattle.gcl_core.specs.text.ReadingOrder.{listed, count_all}
+use Rattle.gcl_core.specs.meaning.Syntax.{Statement, Statements, Source}
+use Rattle.gcl_core.specs.text.Targets.{sets}
 
 -- ---- flaws, and then others
 

@@ -2,8 +2,8 @@
 use Rattle.std.specs.Prelude.{ℕ, ◌≤◌, List}
 use Rattle.std.specs.List.{sum}
 use Rattle.gcl_core.specs.declared.syntax.Weight.{Weight}
-use Rattle.gcl_core.specs.Bounds.{StatementWeights, BlockWeights, ArmsWeights}
-use Rattle.gcl_core.specs.Syntax.{Statement, Statements, ArmList}
+use Rattle.gcl_core.specs.meaning.Bounds.{StatementWeights, BlockWeights, ArmsWeights}
+use Rattle.gcl_core.specs.meaning.Syntax.{Statement, Statements, ArmList}
 
 abbrev pub OverSome : Weight → Type 0
 OverSome w = 1 ≤ w.den

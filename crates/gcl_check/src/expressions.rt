@@ -1,14 +1,14 @@
 // What a statement's own expression or weight has to be.
 
 ghost use Rattle.std.specs.Prelude.{◌≡◌, [], ◌∷◌, length, OnOk, IsTrue};
-ghost use Rattle.gcl_core.specs.Acceptance.{reads_known, expression_flaw, weight_flaw, first_refusal};
-ghost use Rattle.gcl_core.specs.Bounds.{ExpressionFits};
-ghost use Rattle.gcl_core.specs.Kinds.{has_kind};
+ghost use Rattle.gcl_core.specs.text.Acceptance.{reads_known, expression_flaw, weight_flaw, first_refusal};
+ghost use Rattle.gcl_core.specs.meaning.Bounds.{ExpressionFits};
+ghost use Rattle.gcl_core.specs.text.Kinds.{has_kind};
 ghost use Rattle.gcl_core.specs.declared.kinds.Kind.TheVariants.{Number};
-ghost use Rattle.gcl_core.specs.Value.{fits_64, Reads};
-ghost use Rattle.gcl_core.specs.Views.{expression_of};
-ghost use Rattle.gcl_check.specs.Marks.{marked};
-ghost use Rattle.gcl_check.specs.Refused.{refusal_in};
+ghost use Rattle.gcl_core.specs.meaning.Value.{fits_64, ExpressionBelow};
+ghost use Rattle.gcl_core.specs.meaning.Views.{expression_of};
+ghost use Rattle.gcl_check.specs.inner.Marks.{marked};
+ghost use Rattle.gcl_check.specs.Refused.{refusal_answered};
 
 use crate::refusals::CheckError;
 use gcl_core::{Expr, GREATEST_DENOMINATOR, Kind, Weight};
@@ -42,7 +42,7 @@ fn has_kind(e: &Expr, kind: Kind) -> bool
 
 // Each variable that the expression reads is marked.
 fn reads_marked(e: &Expr, targets: &[bool]) -> bool
-    requires { Reads (expression_of e.now) (length targets.now) }
+    requires { ExpressionBelow (expression_of e.now) (length targets.now) }
     ensures { result ≡ reads_known (marked targets.now) (expression_of e.now) }
 {
     match e {
@@ -55,8 +55,8 @@ fn reads_marked(e: &Expr, targets: &[bool]) -> bool
 
 // Checks an expression of the statement with this number: its kind, and that it reads targets alone.
 pub fn check_expression(e: &Expr, kind: Kind, targets: &[bool], stmt: u32) -> Result<(), CheckError>
-    requires { Reads (expression_of e.now) (length targets.now) }
-    ensures refusal { refusal_in result ≡ first_refusal stmt (expression_flaw (marked targets.now) kind (expression_of e.now) ∷ []) }
+    requires { ExpressionBelow (expression_of e.now) (length targets.now) }
+    ensures refusal { refusal_answered result ≡ first_refusal stmt (expression_flaw (marked targets.now) kind (expression_of e.now) ∷ []) }
     ensures fits { OnOk result (ExpressionFits (expression_of e.now)) }
 {
     if !has_kind(e, kind) {
@@ -70,7 +70,7 @@ pub fn check_expression(e: &Expr, kind: Kind, targets: &[bool], stmt: u32) -> Re
 
 // Checks the weight of the statement with this number.
 pub fn check_weight(weight: Weight, stmt: u32) -> Result<(), CheckError>
-    ensures { refusal_in result ≡ first_refusal stmt (weight_flaw weight ∷ []) }
+    ensures { refusal_answered result ≡ first_refusal stmt (weight_flaw weight ∷ []) }
 {
     if weight.den == 0 {
         return Err(CheckError::ZeroDenominator { stmt });

@@ -2,12 +2,12 @@
 
 ghost use Rattle.std.specs.Prelude.{◌≡◌, ◌≤◌, ◌==◌, nat_lt, [], ◌∷◌};
 ghost use Rattle.std.specs.List.{sum};
-ghost use Rattle.gcl_core.specs.Acceptance.{parts_flaw, first_refusal};
-ghost use Rattle.gcl_core.specs.Arms.{parts_of};
-ghost use Rattle.gcl_core.specs.Lowest.{lowest_parts};
-ghost use Rattle.gcl_core.specs.Views.{list_of_arms};
+ghost use Rattle.gcl_core.specs.text.Acceptance.{parts_flaw, first_refusal};
+ghost use Rattle.gcl_core.specs.meaning.Arms.{parts_of};
+ghost use Rattle.gcl_core.specs.meaning.Lowest.{lowest_parts};
+ghost use Rattle.gcl_core.specs.meaning.Views.{list_of_arms};
 ghost use Rattle.gcl_core.specs.declared.rules.TheConstants.{GREATEST_DENOMINATOR};
-ghost use Rattle.gcl_check.specs.Refused.{refusal_in};
+ghost use Rattle.gcl_check.specs.Refused.{refusal_answered};
 
 use crate::refusals::CheckError;
 use gcl_core::{Arms, GREATEST_DENOMINATOR};
@@ -43,7 +43,7 @@ fn are_too_fine(arms: &Arms) -> bool
 
 // Checks the parts of the statement with this number.
 pub fn check_parts(arms: &Arms, stmt: u32) -> Result<(), CheckError>
-    ensures { refusal_in result ≡ first_refusal stmt (parts_flaw (parts_of (list_of_arms arms.now)) ∷ []) }
+    ensures { refusal_answered result ≡ first_refusal stmt (parts_flaw (parts_of (list_of_arms arms.now)) ∷ []) }
 {
     if are_zero(arms) {
         return Err(CheckError::ZeroDenominator { stmt });

@@ -1,11 +1,11 @@
 // The refusals, on programs over the names x and y.
 
 ghost use Rattle.std.specs.Prelude.{◌≡◌, ◌-◌, ◌^◌, ◌<◌, length, IfOk};
-ghost use Rattle.gcl_core.specs.Bounds.{BlockBelow, BlockCounted};
-ghost use Rattle.gcl_core.specs.Listing.{count_all};
-ghost use Rattle.gcl_core.specs.Syntax.{choice_among, done, ◌▸◌, no_arm, arm};
-ghost use Rattle.gcl_core.specs.Value.{Reads};
-ghost use Rattle.gcl_core.specs.Views.{expression_of, statement_of, statements_of};
+ghost use Rattle.gcl_core.specs.meaning.Bounds.{BlockBelow, BlockCounted};
+ghost use Rattle.gcl_core.specs.text.ReadingOrder.{count_all};
+ghost use Rattle.gcl_core.specs.meaning.Syntax.{Choose, done, ◌▸◌, no_arm, arm};
+ghost use Rattle.gcl_core.specs.meaning.Value.{ExpressionBelow};
+ghost use Rattle.gcl_core.specs.meaning.Views.{expression_of, statement_of, statements_of};
 
 use crate::{CheckError, check};
 use gcl_core::{Arms, BinOp, Block, Checked, Expr, Names, Program, Stmt, Weight};
@@ -49,7 +49,7 @@ fn choose(
     first: Block,
     second: Block,
 ) -> Result<Stmt, AllocError>
-    ensures { IfOk result (λ s. statement_of s ≡ choice_among (arm parts.0 (statements_of first) (arm parts.1 (statements_of second) (arm parts.2 done no_arm)))) }
+    ensures { IfOk result (λ s. statement_of s ≡ Choose (arm parts.0 (statements_of first) (arm parts.1 (statements_of second) (arm parts.2 done no_arm)))) }
 {
     let (a, b, c) = parts;
     let last = none(alloc);
@@ -63,7 +63,7 @@ fn checked(
     value: Expr,
 ) -> Result<Result<Checked, CheckError>, AllocError>
     requires body { BlockBelow 2 (statements_of body) }
-    requires value { Reads (expression_of value) 2 }
+    requires value { ExpressionBelow (expression_of value) 2 }
     requires count { count_all (statements_of body) < 2 ^ 32 - 1 }
     requires arms { BlockCounted (statements_of body) }
 {

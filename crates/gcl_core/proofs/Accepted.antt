@@ -5,16 +5,16 @@ use Rattle.std.proofs.Math.Path.{fun_ext}
 use Rattle.gcl_core.specs.declared.rules.TheConstants.{GREATEST_DENOMINATOR}
 use Rattle.gcl_core.specs.declared.syntax.Weight.{Weight}
 use Rattle.gcl_core.specs.declared.kinds.Kind.TheVariants.{Number}
-use Rattle.gcl_core.specs.Acceptance.{Flaw, zero_denominator, weight_above_one, too_fine, Refusal, too_many_names, expression_flaw, weight_flaw, parts_flaw, statement_flaw, first_refusal, flaws_of, IsAccepted}
-use Rattle.gcl_core.specs.Bounds.{BlockBelow, StatementBelow, ArmsBelow, VariablesBelow, BlockFits, StatementFits, ArmsFit, NumbersFit, IsWeight, BlockWeights, StatementWeights, ArmsWeights, BlockIsWeighed, BlockCounted}
-use Rattle.gcl_core.specs.Arms.{parts_of}
-use Rattle.gcl_core.specs.Parts.{HaveArmCount, AreParts}
+use Rattle.gcl_core.specs.text.Acceptance.{Flaw, zero_denominator, weight_above_one, too_fine, Refusal, too_many_names, expression_flaw, weight_flaw, parts_flaw, statement_flaw, first_refusal, flaws_of, IsAccepted}
+use Rattle.gcl_core.specs.meaning.Bounds.{BlockBelow, StatementBelow, ArmsBelow, VariablesBelow, BlockFits, StatementFits, ArmsFit, NumbersFit, IsWeight, BlockWeights, StatementWeights, ArmsWeights, BlockIsWeighed, BlockCounted}
+use Rattle.gcl_core.specs.meaning.Arms.{parts_of}
+use Rattle.gcl_core.specs.meaning.Parts.{HaveArmCount, AreParts}
 use Rattle.std.specs.List.{sum}
-use Rattle.gcl_core.specs.Keeping.{IsChecked}
-use Rattle.gcl_core.specs.Listing.{statement_listed, listed, arms_listed}
-use Rattle.gcl_core.specs.Lowest.{lowest_terms, common_divisor, lowest_parts, divided, lowest_arms, statement_in_lowest, block_in_lowest, arms_in_lowest, in_lowest}
-use Rattle.gcl_core.specs.Syntax.{Statement, skip, assign, branch, loop, choice, choice_among, uniform, observe, Statements, done, ◌▸◌, ArmList, no_arm, arm, Source}
-use Rattle.gcl_core.specs.Targets.{statement_sets, sets, arms_set}
+use Rattle.gcl_core.specs.meaning.Keeping.{IsChecked}
+use Rattle.gcl_core.specs.text.ReadingOrder.{statement_listed, listed, arms_listed}
+use Rattle.gcl_core.specs.meaning.Lowest.{lowest_terms, common_divisor, lowest_parts, divided, lowest_arms, statement_in_lowest, block_in_lowest, arms_in_lowest, in_lowest}
+use Rattle.gcl_core.specs.meaning.Syntax.{Statement, Skip, Set, If, While, Choice, Choose, Uniform, Observe, Statements, done, ◌▸◌, ArmList, no_arm, arm, Source}
+use Rattle.gcl_core.specs.text.Targets.{statement_sets, sets, arms_set}
 use Rattle.gcl_core.proofs.LowestTerms.{lowest_positive, lowest_at_most_one, lowest_again}
 use Rattle.gcl_core.proofs.LowestParts.{from_all, lowest_sum_positive, one_divides_left, divisor_left, parts_again, lowest_count}
 use Rattle.gcl_core.proofs.ArmsInLowest.{parts_divided, parts_same, parts_lowest, divided_by_one, listed_divided, set_divided, lowest_divided, below_divided, fit_divided, weights_divided}
@@ -126,21 +126,21 @@ module _ (flaw_of : Statement → Option Flaw) where
 module _ (known : ℕ → Bool) where
   mutual
     statement_lowest : (s : Statement) → AllNone (map (statement_flaw known) (statement_listed s)) → AllNone (map (statement_flaw known) (statement_listed (statement_in_lowest s)))
-    statement_lowest (branch e a c) all =
+    statement_lowest (If e a c) all =
         let both = split_map (statement_flaw known) (listed a) (listed c) all.1 in
         (all.0, join_map (statement_flaw known) (listed (block_in_lowest a)) (listed (block_in_lowest c)) (block_lowest a both.0) (block_lowest c both.1))
-    statement_lowest (loop e a) all = (all.0, block_lowest a all.1)
-    statement_lowest (choice w a c) all =
+    statement_lowest (While e a) all = (all.0, block_lowest a all.1)
+    statement_lowest (Choice w a c) all =
         let both = split_map (statement_flaw known) (listed a) (listed c) all.1 in
         (lowest_flawless w all.0, join_map (statement_flaw known) (listed (block_in_lowest a)) (listed (block_in_lowest c)) (block_lowest a both.0) (block_lowest c both.1))
-    statement_lowest (choice_among arms) all = (
+    statement_lowest (Choose arms) all = (
       ap parts_flaw (parts_lowest arms) ∙ lowest_parts_flawless (parts_of arms) all.0,
       subst (λ ss. AllNone (map (statement_flaw known) ss)) (sym (listed_divided (common_divisor (parts_of (arms_in_lowest arms))) (arms_in_lowest arms))) (arms_lowest arms all.1),
     )
-    statement_lowest skip all = all
-    statement_lowest (assign x e) all = all
-    statement_lowest (uniform x e) all = all
-    statement_lowest (observe e) all = all
+    statement_lowest Skip all = all
+    statement_lowest (Set x e) all = all
+    statement_lowest (Uniform x e) all = all
+    statement_lowest (Observe e) all = all
 
     block_lowest : (b : Statements) → AllNone (map (statement_flaw known) (listed b)) → AllNone (map (statement_flaw known) (listed (block_in_lowest b)))
     block_lowest done all = tt
@@ -160,16 +160,16 @@ module _ (known : ℕ → Bool) where
       (parts_fact : (ps : List ℕ) → parts_flaw ps ≡ None → HaveArmCount ps → PartsFact ps) where
     mutual
       statement_weights : (s : Statement) → StatementWeights (λ w. Unit {0}) HaveArmCount s → AllNone (map (statement_flaw known) (statement_listed s)) → StatementWeights Fact PartsFact s
-      statement_weights (branch e a c) n all =
+      statement_weights (If e a c) n all =
           let both = split_map (statement_flaw known) (listed a) (listed c) all.1 in (block_weights a n.0 both.0, block_weights c n.1 both.1)
-      statement_weights (loop e a) n all = block_weights a n all.1
-      statement_weights (choice w a c) n all =
+      statement_weights (While e a) n all = block_weights a n all.1
+      statement_weights (Choice w a c) n all =
           let both = split_map (statement_flaw known) (listed a) (listed c) all.1 in (fact w all.0, block_weights a n.1 both.0, block_weights c n.2 both.1)
-      statement_weights (choice_among arms) n all = (parts_fact (parts_of arms) all.0 n.0, arms_weights arms n.1 all.1)
-      statement_weights skip n all = tt
-      statement_weights (assign x e) n all = tt
-      statement_weights (uniform x e) n all = tt
-      statement_weights (observe e) n all = tt
+      statement_weights (Choose arms) n all = (parts_fact (parts_of arms) all.0 n.0, arms_weights arms n.1 all.1)
+      statement_weights Skip n all = tt
+      statement_weights (Set x e) n all = tt
+      statement_weights (Uniform x e) n all = tt
+      statement_weights (Observe e) n all = tt
 
       block_weights : (b : Statements) → BlockCounted b → AllNone (map (statement_flaw known) (listed b)) → BlockWeights Fact PartsFact b
       block_weights done n all = tt
@@ -184,14 +184,14 @@ module _ (known : ℕ → Bool) where
 -- ---- what lowest terms leave
 mutual
   statement_sets_same : (s : Statement) (x : ℕ) → statement_sets (statement_in_lowest s) x ≡ statement_sets s x
-  statement_sets_same (branch e a c) x = ap (λ t. t || sets (block_in_lowest c) x) (sets_same a x) ∙ ap (λ t. sets a x || t) (sets_same c x)
-  statement_sets_same (loop e a) x = sets_same a x
-  statement_sets_same (choice w a c) x = ap (λ t. t || sets (block_in_lowest c) x) (sets_same a x) ∙ ap (λ t. sets a x || t) (sets_same c x)
-  statement_sets_same (choice_among arms) x = set_divided (common_divisor (parts_of (arms_in_lowest arms))) (arms_in_lowest arms) x ∙ arms_set_same arms x
-  statement_sets_same skip x = refl
-  statement_sets_same (assign y e) x = refl
-  statement_sets_same (uniform y e) x = refl
-  statement_sets_same (observe e) x = refl
+  statement_sets_same (If e a c) x = ap (λ t. t || sets (block_in_lowest c) x) (sets_same a x) ∙ ap (λ t. sets a x || t) (sets_same c x)
+  statement_sets_same (While e a) x = sets_same a x
+  statement_sets_same (Choice w a c) x = ap (λ t. t || sets (block_in_lowest c) x) (sets_same a x) ∙ ap (λ t. sets a x || t) (sets_same c x)
+  statement_sets_same (Choose arms) x = set_divided (common_divisor (parts_of (arms_in_lowest arms))) (arms_in_lowest arms) x ∙ arms_set_same arms x
+  statement_sets_same Skip x = refl
+  statement_sets_same (Set y e) x = refl
+  statement_sets_same (Uniform y e) x = refl
+  statement_sets_same (Observe e) x = refl
 
   sets_same : (b : Statements) (x : ℕ) → sets (block_in_lowest b) x ≡ sets b x
   sets_same done x = refl
@@ -204,14 +204,14 @@ mutual
 module _ (count : ℕ) where
   mutual
     statement_below : (s : Statement) → StatementBelow count s → StatementBelow count (statement_in_lowest s)
-    statement_below (branch e a c) p = (p.0, block_below a p.1, block_below c p.2)
-    statement_below (loop e a) p = (p.0, block_below a p.1)
-    statement_below (choice w a c) p = (block_below a p.0, block_below c p.1)
-    statement_below (choice_among arms) p = below_divided (common_divisor (parts_of (arms_in_lowest arms))) count (arms_in_lowest arms) (arms_below arms p)
-    statement_below skip p = p
-    statement_below (assign x e) p = p
-    statement_below (uniform x e) p = p
-    statement_below (observe e) p = p
+    statement_below (If e a c) p = (p.0, block_below a p.1, block_below c p.2)
+    statement_below (While e a) p = (p.0, block_below a p.1)
+    statement_below (Choice w a c) p = (block_below a p.0, block_below c p.1)
+    statement_below (Choose arms) p = below_divided (common_divisor (parts_of (arms_in_lowest arms))) count (arms_in_lowest arms) (arms_below arms p)
+    statement_below Skip p = p
+    statement_below (Set x e) p = p
+    statement_below (Uniform x e) p = p
+    statement_below (Observe e) p = p
 
     block_below : (b : Statements) → BlockBelow count b → BlockBelow count (block_in_lowest b)
     block_below done p = tt
@@ -223,14 +223,14 @@ module _ (count : ℕ) where
 
 mutual
   statement_fits : (s : Statement) → StatementFits s → StatementFits (statement_in_lowest s)
-  statement_fits (branch e a c) p = (p.0, block_fits a p.1, block_fits c p.2)
-  statement_fits (loop e a) p = (p.0, block_fits a p.1)
-  statement_fits (choice w a c) p = (block_fits a p.0, block_fits c p.1)
-  statement_fits (choice_among arms) p = fit_divided (common_divisor (parts_of (arms_in_lowest arms))) (arms_in_lowest arms) (arms_fit arms p)
-  statement_fits skip p = p
-  statement_fits (assign x e) p = p
-  statement_fits (uniform x e) p = p
-  statement_fits (observe e) p = p
+  statement_fits (If e a c) p = (p.0, block_fits a p.1, block_fits c p.2)
+  statement_fits (While e a) p = (p.0, block_fits a p.1)
+  statement_fits (Choice w a c) p = (block_fits a p.0, block_fits c p.1)
+  statement_fits (Choose arms) p = fit_divided (common_divisor (parts_of (arms_in_lowest arms))) (arms_in_lowest arms) (arms_fit arms p)
+  statement_fits Skip p = p
+  statement_fits (Set x e) p = p
+  statement_fits (Uniform x e) p = p
+  statement_fits (Observe e) p = p
 
   block_fits : (b : Statements) → BlockFits b → BlockFits (block_in_lowest b)
   block_fits done p = tt
@@ -242,22 +242,22 @@ mutual
 
 mutual
   statement_again : (s : Statement) → StatementWeights (λ w. 1 ≤ w.den) (λ ps. 1 ≤ sum ps) s → statement_in_lowest (statement_in_lowest s) ≡ statement_in_lowest s
-  statement_again (branch e a c) p = ap (λ x. branch e x (block_in_lowest (block_in_lowest c))) (block_again a p.0) ∙ ap (branch e (block_in_lowest a)) (block_again c p.1)
-  statement_again (loop e a) p = ap (loop e) (block_again a p)
-  statement_again (choice w a c) p =
-      ap (λ v. choice v (block_in_lowest (block_in_lowest a)) (block_in_lowest (block_in_lowest c))) (lowest_again w p.0)
-      ∙ ap (λ x. choice (lowest_terms w) x (block_in_lowest (block_in_lowest c))) (block_again a p.1) ∙ ap (choice (lowest_terms w) (block_in_lowest a)) (block_again c p.2)
-  statement_again (choice_among arms) p =
+  statement_again (If e a c) p = ap (λ x. If e x (block_in_lowest (block_in_lowest c))) (block_again a p.0) ∙ ap (If e (block_in_lowest a)) (block_again c p.1)
+  statement_again (While e a) p = ap (While e) (block_again a p)
+  statement_again (Choice w a c) p =
+      ap (λ v. Choice v (block_in_lowest (block_in_lowest a)) (block_in_lowest (block_in_lowest c))) (lowest_again w p.0)
+      ∙ ap (λ x. Choice (lowest_terms w) x (block_in_lowest (block_in_lowest c))) (block_again a p.1) ∙ ap (Choice (lowest_terms w) (block_in_lowest a)) (block_again c p.2)
+  statement_again (Choose arms) p =
       let reduced = arms_in_lowest arms in
       let g = common_divisor (parts_of reduced) in
       let some : 1 ≤ sum (parts_of reduced) = subst (λ ps. 1 ≤ sum ps) (sym (parts_same arms)) p.0 in
       let one : common_divisor (parts_of (divided g reduced)) ≡ 1 = ap common_divisor (parts_divided g reduced) ∙ divisor_left (parts_of reduced) some in
-      ap (λ x. choice_among (lowest_arms x)) (lowest_divided g reduced ∙ ap (divided g) (arms_again arms p.1))
-      ∙ ap (λ d. choice_among (divided d (divided g reduced))) one ∙ ap choice_among (divided_by_one (divided g reduced))
-  statement_again skip p = refl
-  statement_again (assign x e) p = refl
-  statement_again (uniform x e) p = refl
-  statement_again (observe e) p = refl
+      ap (λ x. Choose (lowest_arms x)) (lowest_divided g reduced ∙ ap (divided g) (arms_again arms p.1))
+      ∙ ap (λ d. Choose (divided d (divided g reduced))) one ∙ ap Choose (divided_by_one (divided g reduced))
+  statement_again Skip p = refl
+  statement_again (Set x e) p = refl
+  statement_again (Uniform x e) p = refl
+  statement_again (Observe e) p = refl
 
   block_again : (b : Statements) → BlockWeights (λ w. 1 ≤ w.den) (λ ps. 1 ≤ sum ps) b → block_in_lowest (block_in_lowest b) ≡ block_in_lowest b
   block_again done p = refl
@@ -273,17 +273,17 @@ module _
     (parts_kept : (ps : List ℕ) → PartsBefore ps → PartsAfter (lowest_parts ps)) where
   mutual
     statement_of_lowest : (s : Statement) → StatementWeights Before PartsBefore s → StatementWeights After PartsAfter (statement_in_lowest s)
-    statement_of_lowest (branch e a c) p = (block_of_lowest a p.0, block_of_lowest c p.1)
-    statement_of_lowest (loop e a) p = block_of_lowest a p
-    statement_of_lowest (choice w a c) p = (weight_kept w p.0, block_of_lowest a p.1, block_of_lowest c p.2)
-    statement_of_lowest (choice_among arms) p = (
+    statement_of_lowest (If e a c) p = (block_of_lowest a p.0, block_of_lowest c p.1)
+    statement_of_lowest (While e a) p = block_of_lowest a p
+    statement_of_lowest (Choice w a c) p = (weight_kept w p.0, block_of_lowest a p.1, block_of_lowest c p.2)
+    statement_of_lowest (Choose arms) p = (
       subst PartsAfter (sym (parts_lowest arms)) (parts_kept (parts_of arms) p.0),
       weights_divided (common_divisor (parts_of (arms_in_lowest arms))) After PartsAfter (arms_in_lowest arms) (arms_of_lowest arms p.1),
     )
-    statement_of_lowest skip p = tt
-    statement_of_lowest (assign x e) p = tt
-    statement_of_lowest (uniform x e) p = tt
-    statement_of_lowest (observe e) p = tt
+    statement_of_lowest Skip p = tt
+    statement_of_lowest (Set x e) p = tt
+    statement_of_lowest (Uniform x e) p = tt
+    statement_of_lowest (Observe e) p = tt
 
     block_of_lowest : (b : Statements) → BlockWeights Before PartsBefore b → BlockWeights After PartsAfter (block_in_lowest b)
     block_of_lowest done p = tt

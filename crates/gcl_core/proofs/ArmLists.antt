@@ -3,10 +3,10 @@ use Rattle.std.proofs.Common.{◌≡◌, ℕ, zero, suc, ◌+◌, ◌≤◌, ◌
 use Rattle.std.proofs.lemmas.List.{at_drop_more, drop_all}
 use Rattle.std.specs.Prelude.{Some}
 use Rattle.gcl_core.specs.declared.syntax.Block.{Block}
-use Rattle.gcl_core.specs.Arms.{parts_of, block_at}
-use Rattle.gcl_core.specs.Lowest.{divided}
-use Rattle.gcl_core.specs.Syntax.{arm}
-use Rattle.gcl_core.specs.Views.{arm_list_of, statements_of}
+use Rattle.gcl_core.specs.meaning.Arms.{parts_of, block_at}
+use Rattle.gcl_core.specs.meaning.Lowest.{divided}
+use Rattle.gcl_core.specs.meaning.Syntax.{arm}
+use Rattle.gcl_core.specs.meaning.Views.{arm_list_of, statements_of}
 
 pub as_many_arms : (arms : List (ℕ × Block)) → length (parts_of (arm_list_of arms)) ≡ length arms
 as_many_arms [] = refl

@@ -3,12 +3,12 @@ use Rattle.std.proofs.Common.{◌≡◌, ◌∙◌, ℕ, ◌/◌, ◌||◌, map,
 use Rattle.std.proofs.Math.Nat.{div-one}
 use Rattle.std.specs.Prelude.{List, ◌++◌}
 use Rattle.gcl_core.specs.declared.syntax.Weight.{Weight}
-use Rattle.gcl_core.specs.Arms.{parts_of}
-use Rattle.gcl_core.specs.Bounds.{ArmsBelow, ArmsFit, ArmsWeights}
-use Rattle.gcl_core.specs.Listing.{listed, arms_listed}
-use Rattle.gcl_core.specs.Lowest.{common_divisor, lowest_parts, divided, lowest_arms, arms_in_lowest, block_in_lowest}
-use Rattle.gcl_core.specs.Syntax.{ArmList, no_arm, arm}
-use Rattle.gcl_core.specs.Targets.{sets, arms_set}
+use Rattle.gcl_core.specs.meaning.Arms.{parts_of}
+use Rattle.gcl_core.specs.meaning.Bounds.{ArmsBelow, ArmsFit, ArmsWeights}
+use Rattle.gcl_core.specs.text.ReadingOrder.{listed, arms_listed}
+use Rattle.gcl_core.specs.meaning.Lowest.{common_divisor, lowest_parts, divided, lowest_arms, arms_in_lowest, block_in_lowest}
+use Rattle.gcl_core.specs.meaning.Syntax.{ArmList, no_arm, arm}
+use Rattle.gcl_core.specs.text.Targets.{sets, arms_set}
 
 -- ---- the parts
 pub parts_divided : (g : ℕ) (arms : ArmList) → parts_of (divided g arms) ≡ map (λ p. p / g) (parts_of arms)

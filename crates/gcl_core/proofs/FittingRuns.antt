@@ -9,17 +9,18 @@ use Rattle.gcl_core.specs.declared.answers.Limit.TheVariants.{Attempts}
 use Rattle.gcl_core.specs.declared.answers.Limits.{Limits}
 use Rattle.gcl_core.specs.declared.answers.Outcome.{Outcome}
 use Rattle.gcl_core.specs.declared.answers.Outcome.TheVariants as outcome
-use Rattle.gcl_core.specs.Arms.{parts_of}
-use Rattle.gcl_core.specs.Parts.{partial_sums}
-use Rattle.gcl_core.specs.Bounds.{StatementFits, BlockFits, ArmsFit}
-use Rattle.gcl_core.specs.Syntax.{Statement, skip, assign, branch, loop, choice, choice_among, uniform, observe, Statements, done, ◌▸◌, ArmList, no_arm, arm, Source}
-use Rattle.gcl_core.specs.Value.{State, Value, value_of, is_zero, fits_64}
-use Rattle.gcl_core.specs.Reading.{Reading, gives, more_bits, after}
-use Rattle.gcl_core.specs.Draw.{class_of, first_of, decides, bits_for, last_end, attempt_from, attempt_on, draw_on}
-use Rattle.gcl_core.specs.Blocks.{End, on, failed, fault, limit, by_value, by_truth, by_class, by_side, by_end, choice_ends, uniform_ends, uniform_on, loop_on, statement_on, block_on, arm_on}
-use Rattle.gcl_core.specs.Fitting.{state_fits}
-use Rattle.gcl_core.specs.Keeping.{IsChecked}
-use Rattle.gcl_core.specs.Runs.{zeros, outcome_of, rounds_on, answer_of, run_on}
+use Rattle.gcl_core.specs.meaning.Arms.{parts_of}
+use Rattle.gcl_core.specs.meaning.Parts.{partial_sums}
+use Rattle.gcl_core.specs.meaning.Bounds.{StatementFits, BlockFits, ArmsFit}
+use Rattle.gcl_core.specs.meaning.Syntax.{Statement, Skip, Set, If, While, Choice, Choose, Uniform, Observe, Statements, done, ◌▸◌, ArmList, no_arm, arm, Source}
+use Rattle.gcl_core.specs.meaning.Value.{State, Value, value_of, is_zero, fits_64}
+use Rattle.gcl_core.specs.meaning.Reading.{Reading, gives, more_bits, after}
+use Rattle.gcl_core.specs.meaning.Draw.{class_of, first_of, decides, bits_for, last_end, attempt_from, attempt_on, draw_on, choice_ends, uniform_ends}
+use Rattle.gcl_core.specs.meaning.Blocks.{End, on, failed, fault, limit, by_value, by_truth, by_class, by_side, by_end, uniform_on, loop_on, statement_on, block_on, arm_on}
+use Rattle.gcl_core.specs.meaning.Fitting.{state_fits}
+use Rattle.gcl_core.specs.meaning.Keeping.{IsChecked}
+use Rattle.gcl_core.specs.meaning.Runs.{rounds_on, answer_of, run_on}
+use Rattle.gcl_core.specs.meaning.Outcomes.{zeros, outcome_of}
 use Rattle.gcl_core.proofs.Classes.{class_within}
 use Rattle.gcl_core.proofs.FittingValues.{end_fits, number_fits, zeros_fit, set_fits, ValueFits, each_value_fits, signed_64}
 
@@ -104,16 +105,16 @@ loop_fits guard body g b (suc t) s w h =
 module _ (n r : ℕ) where
   mutual
     statement_fits : (st : Statement) → StatementFits st → (s : State) (w : List Bool) → state_fits s ≡ true → Fits (statement_on n r st s w)
-    statement_fits skip fit s w h = h
-    statement_fits (assign x e) fit s w h = by_value_fits (value_of e s) w _ (each_value_fits e s fit h) (λ z f. set_fits s x z h f)
-    statement_fits (observe e) fit s w h = by_value_fits (value_of e s) w _ (each_value_fits e s fit h) (λ z f. by_truth_fits z _ _ h refl)
-    statement_fits (branch e a c) fit s w h =
+    statement_fits Skip fit s w h = h
+    statement_fits (Set x e) fit s w h = by_value_fits (value_of e s) w _ (each_value_fits e s fit h) (λ z f. set_fits s x z h f)
+    statement_fits (Observe e) fit s w h = by_value_fits (value_of e s) w _ (each_value_fits e s fit h) (λ z f. by_truth_fits z _ _ h refl)
+    statement_fits (If e a c) fit s w h =
         by_value_fits (value_of e s) w _ (each_value_fits e s fit.0 h) (λ z f. by_truth_fits z _ _ (block_fits a fit.1 s w h) (block_fits c fit.2 s w h))
-    statement_fits (choice p a c) fit s w h =
+    statement_fits (Choice p a c) fit s w h =
         drawn_fits (choice_ends p) r w _ (λ i rest lt. side_fits i _ _ (block_fits a fit.0 s rest h) (block_fits c fit.1 s rest h))
-    statement_fits (choice_among arms) fit s w h = drawn_fits (partial_sums (parts_of arms)) r w _ (λ i rest lt. arm_fits arms fit i s rest h)
-    statement_fits (uniform x e) fit s w h = by_value_fits (value_of e s) w _ (each_value_fits e s fit h) (λ z f. uniform_fits r x z s w f h)
-    statement_fits (loop e a) fit s w h = loop_fits (value_of e) (block_on n r a) (λ s p. each_value_fits e s fit.0 p) (λ s w p. block_fits a fit.1 s w p) n s w h
+    statement_fits (Choose arms) fit s w h = drawn_fits (partial_sums (parts_of arms)) r w _ (λ i rest lt. arm_fits arms fit i s rest h)
+    statement_fits (Uniform x e) fit s w h = by_value_fits (value_of e s) w _ (each_value_fits e s fit h) (λ z f. uniform_fits r x z s w f h)
+    statement_fits (While e a) fit s w h = loop_fits (value_of e) (block_on n r a) (λ s p. each_value_fits e s fit.0 p) (λ s w p. block_fits a fit.1 s w p) n s w h
 
     block_fits : (b : Statements) → BlockFits b → (s : State) (w : List Bool) → state_fits s ≡ true → Fits (block_on n r b s w)
     block_fits done fit s w h = h

@@ -8,12 +8,12 @@ use Rattle.std.proofs.lemmas.Int.{rem_below}
 use Rattle.gcl_core.specs.declared.syntax.BinOp.{BinOp}
 use Rattle.gcl_core.specs.declared.syntax.BinOp.TheVariants.{Add, Sub, Mul, Div, Rem, Eq, Ne, Lt, Le, Gt, Ge, And, Or}
 use Rattle.gcl_core.specs.declared.answers.Fault.TheVariants.{Overflow, ZeroDivisor}
-use Rattle.gcl_core.specs.Blocks.{End, on, failed, fault, limit}
-use Rattle.gcl_core.specs.Bounds.{ExpressionFits}
-use Rattle.gcl_core.specs.Fitting.{state_fits}
-use Rattle.gcl_core.specs.Runs.{zeros}
-use Rattle.gcl_core.specs.Syntax.{Expression, number, truth, variable, negative, opposite, binary}
-use Rattle.gcl_core.specs.Value.{State, Value, value_of, ◌>>=◌, fits_64, within_64, truth_number, is_zero, quotient_of, applied, or_settled}
+use Rattle.gcl_core.specs.meaning.Blocks.{End, on, failed, fault, limit}
+use Rattle.gcl_core.specs.meaning.Bounds.{ExpressionFits}
+use Rattle.gcl_core.specs.meaning.Fitting.{state_fits}
+use Rattle.gcl_core.specs.meaning.Outcomes.{zeros}
+use Rattle.gcl_core.specs.meaning.Syntax.{Expression, Num, Truth, Var, Neg, Not, Bin}
+use Rattle.gcl_core.specs.meaning.Value.{State, Value, value_of, ◌>>=◌, fits_64, within_64, truth_number, is_zero, quotient_of, applied, short_circuited}
 
 -- ---- numbers
 
@@ -130,18 +130,18 @@ applied_fits Ge x y h = truth_fits (int_le y x)
 applied_fits And x y h = truth_fits (not (is_zero y))
 applied_fits Or x y h = truth_fits (not (is_zero y))
 
-settled_fits : (op : BinOp) (x : ℤ) (right : Value) → ValueFits right → ValueFits (or_settled op x right)
+settled_fits : (op : BinOp) (x : ℤ) (right : Value) → ValueFits right → ValueFits (short_circuited op x right)
 settled_fits And x right h = if_fits (is_zero x) (Ok (pos 0)) right (λ e. refl) (λ e. h)
 settled_fits Or x right h = if_fits (is_zero x) right (Ok (pos 1)) (λ e. h) (λ e. refl)
 settled_fits _ x right h = h
 
 pub each_value_fits : (e : Expression) (s : State) → ExpressionFits e → state_fits s ≡ true → ValueFits (value_of e s)
-each_value_fits (number z) s fit h = fit
-each_value_fits (truth b) s fit h = truth_fits b
-each_value_fits (variable x) s fit h = variable_fits s x h
-each_value_fits (negative a) s fit h = then_fits (value_of a s) _ (each_value_fits a s fit h) (λ v _. within_fits (neg_ℤ v))
-each_value_fits (opposite a) s fit h = then_fits (value_of a s) _ (each_value_fits a s fit h) (λ v _. truth_fits (is_zero v))
-each_value_fits (binary op a b) s fit h =
+each_value_fits (Num z) s fit h = fit
+each_value_fits (Truth b) s fit h = truth_fits b
+each_value_fits (Var x) s fit h = variable_fits s x h
+each_value_fits (Neg a) s fit h = then_fits (value_of a s) _ (each_value_fits a s fit h) (λ v _. within_fits (neg_ℤ v))
+each_value_fits (Not a) s fit h = then_fits (value_of a s) _ (each_value_fits a s fit h) (λ v _. truth_fits (is_zero v))
+each_value_fits (Bin op a b) s fit h =
     then_fits (value_of a s) _ (each_value_fits a s fit.0 h)
     (λ x _. settled_fits op x _ (then_fits (value_of b s) _ (each_value_fits b s fit.1 h) (λ y fy. applied_fits op x y fy)))
 

@@ -9,8 +9,8 @@ use Rattle.std.proofs.lemmas.List.{length-map}
 use Rattle.std.proofs.lemmas.List.Sums.{sum_by-cons}
 use Rattle.std.proofs.lemmas.Nat.Gcd.{dvd_of_mod-eq-zero, mod-eq-zero_of_dvd, le_of_dvd, dvd-zero}
 use Rattle.std.proofs.Math.Nat.{one-dvd, dvd-add, mul_comm, mul-div_cancel', mul-dvd-mul_left, mul-le-mul_left, le_of_mul-le-mul_left, div-one}
-use Rattle.gcl_core.specs.Lowest.{greatest_of, common_divisor, lowest_parts}
-use Rattle.gcl_core.specs.Parts.{HaveArmCount}
+use Rattle.gcl_core.specs.meaning.Lowest.{greatest_of, common_divisor, lowest_parts}
+use Rattle.gcl_core.specs.meaning.Parts.{HaveArmCount}
 use Rattle.gcl_core.proofs.Divisors.{by_test}
 
 -- ---- a number that divides each part

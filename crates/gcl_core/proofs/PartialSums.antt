@@ -2,9 +2,9 @@
 use Rattle.std.proofs.Common.{◌≡◌, ◌∙◌, ℕ, ◌+◌, ◌<◌, ◌≤◌, List, [], ◌∷◌, ◌++◌, length, get_or, drop, refl, sym, ap, arith}
 use Rattle.std.proofs.lemmas.List.{at_drop_more}
 use Rattle.std.specs.List.{fold, sum}
-use Rattle.gcl_core.specs.OneDraw.{Ascends}
-use Rattle.gcl_core.specs.Draw.{last_from, last_end}
-use Rattle.gcl_core.specs.Parts.{sums_from, partial_sums}
+use Rattle.gcl_core.specs.weighing.OneDraw.{Ascends}
+use Rattle.gcl_core.specs.meaning.Draw.{last_from, last_end}
+use Rattle.gcl_core.specs.meaning.Parts.{sums_from, partial_sums}
 
 -- ---- how many and the last
 

@@ -2,9 +2,9 @@
 
 ghost use Rattle.std.specs.Prelude.{◌≡◌, ◌≤◌, ◌<◌, Some, length, get_or};
 ghost use Rattle.std.specs.List.{sum};
-ghost use Rattle.gcl_core.specs.Arms.{parts_of, block_at};
-ghost use Rattle.gcl_core.specs.Lowest.{common_divisor, lowest_arms};
-ghost use Rattle.gcl_core.specs.Views.{list_of_arms, statements_of};
+ghost use Rattle.gcl_core.specs.meaning.Arms.{parts_of, block_at};
+ghost use Rattle.gcl_core.specs.meaning.Lowest.{common_divisor, lowest_arms};
+ghost use Rattle.gcl_core.specs.meaning.Views.{list_of_arms, statements_of};
 
 use crate::lowest::greatest_common;
 use crate::syntax::{Arms, Block};

@@ -4,14 +4,15 @@ ghost use Rattle.std.specs.Prelude.{◌≡◌, ◌↔◌, ℕ, ℤ, Bool, List, 
 ghost use Rattle.std.specs.Int.{w64};
 ghost use Rattle.gcl_core.specs.declared.answers.Answer.TheVariants as answer;
 ghost use Rattle.gcl_core.specs.declared.answers.Outcome.TheVariants as outcome;
-ghost use Rattle.gcl_core.specs.Blocks.{on, block_on};
-ghost use Rattle.gcl_core.specs.Bounds.{ExpressionFits, BlockFits};
-ghost use Rattle.gcl_core.specs.Fitting.{state_fits};
-ghost use Rattle.gcl_core.specs.Keeping.{IsChecked};
-ghost use Rattle.gcl_core.specs.Reading.{gives};
-ghost use Rattle.gcl_core.specs.Runs.{zeros, run_on};
-ghost use Rattle.gcl_core.specs.Syntax.{Expression, Statements, Source};
-ghost use Rattle.gcl_core.specs.Value.{State, fits_64, value_of};
+ghost use Rattle.gcl_core.specs.meaning.Blocks.{on, block_on};
+ghost use Rattle.gcl_core.specs.meaning.Bounds.{ExpressionFits, BlockFits};
+ghost use Rattle.gcl_core.specs.meaning.Fitting.{state_fits};
+ghost use Rattle.gcl_core.specs.meaning.Keeping.{IsChecked};
+ghost use Rattle.gcl_core.specs.meaning.Reading.{gives};
+ghost use Rattle.gcl_core.specs.meaning.Runs.{run_on};
+ghost use Rattle.gcl_core.specs.meaning.Outcomes.{zeros};
+ghost use Rattle.gcl_core.specs.meaning.Syntax.{Expression, Statements, Source};
+ghost use Rattle.gcl_core.specs.meaning.Value.{State, fits_64, value_of};
 
 use crate::answers::Limits;
 

@@ -3,7 +3,7 @@
 ghost use Rattle.std.specs.Prelude.{◌≡◌, true};
 ghost use Rattle.std.specs.Ordering.{MatchOrdering};
 ghost use Rattle.gcl_core.specs.declared.answers.Outcome.TheVariants as outcome;
-ghost use Rattle.gcl_core.specs.Order.{is_before, is_key_before};
+ghost use Rattle.gcl_core.specs.meaning.Order.{is_before, is_key_before};
 
 use crate::answers::{Fault, Limit, Outcome, TallyKey};
 

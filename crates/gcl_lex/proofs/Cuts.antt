@@ -7,8 +7,8 @@ use Rattle.gcl_core.specs.declared.tokens.Sym.{Sym}
 use Rattle.gcl_core.specs.declared.tokens.PieceKind.{PieceKind}
 use Rattle.gcl_core.specs.declared.tokens.PieceKind.TheVariants as kind
 use Rattle.gcl_lex.specs.declared.cutting.Front.{Front}
-use Rattle.gcl_core.specs.Pieces.{is_blank, is_digit, is_letter, goes_on_name, in_comment, marks, pairs, look, one_byte, two_bytes, is_piece, Longest, NoPiece}
-use Rattle.gcl_lex.specs.Cutting.{kind_begun, symbol_front, front_as, front_of}
+use Rattle.gcl_core.specs.text.Pieces.{is_blank, is_digit, is_letter, goes_on_name, in_comment, one_byte_symbols, symbols_before_equals, symbol_among, one_byte, two_bytes, is_piece, Longest, NoPiece}
+use Rattle.gcl_lex.specs.inner.Cutting.{kind_begun, symbol_front, front_as, front_of}
 
 prefix_passes : (p : ℕ → Bool) (bs : List ℕ) → list_all p (take (prefix_len p bs) bs) ≡ true
 prefix_passes p [] = refl
@@ -49,22 +49,22 @@ in_table P (e ∷ es) = P e.0 × in_table P es
 same : (b c : ℕ) → (b == c) ≡ true → b ≡ c
 same b c h = grind (arith, nat_tests)
 
-found_in : (P : ℕ → Type 0) (b : ℕ) (es : List (ℕ × Sym)) → in_table P es → is_some (look b es) ≡ true → P b
+found_in : (P : ℕ → Type 0) (b : ℕ) (es : List (ℕ × Sym)) → in_table P es → is_some (symbol_among b es) ≡ true → P b
 found_in P b [] h k = cc
 found_in P b (e ∷ es) h k = go (b == e.0) refl (found_in P b es h.1)
   where
-    go : (c : Bool) → (b == e.0) ≡ c → (is_some (look b es) ≡ true → P b) → P b
+    go : (c : Bool) → (b == e.0) ≡ c → (is_some (symbol_among b es) ≡ true → P b) → P b
     go true q ih = subst P (sym (same b e.0 q)) h.0
     go false q ih = ih (rw q at k)
 
 abbrev IsMark : ℕ → Type 0
 IsMark b = kind_begun b ≡ Some kind.Symbol
 
-all_marks : in_table IsMark marks
+all_marks : in_table IsMark one_byte_symbols
 unfolding kind_begun
 all_marks = (refl, (refl, (refl, (refl, (refl, (refl, (refl, (refl, (refl, (refl, (refl, (refl, (refl, (refl, (refl, (refl, tt))))))))))))))))
 
-all_pairs : in_table IsMark pairs
+all_pairs : in_table IsMark symbols_before_equals
 unfolding kind_begun
 all_pairs = (refl, (refl, (refl, (refl, tt))))
 
@@ -75,10 +75,10 @@ both false z h = cc
 hash_not_blank : (b : ℕ) → (b == 35) ≡ true → is_blank b ≡ false
 hash_not_blank b h = grind (arith, nat_tests)
 
-two_begin : (b c : ℕ) → is_some (two_bytes b c) ≡ true → is_some (look b pairs) ≡ true
+two_begin : (b c : ℕ) → is_some (two_bytes b c) ≡ true → is_some (symbol_among b symbols_before_equals) ≡ true
 two_begin b c h = go (c == 61) refl
   where
-    go : (x : Bool) → (c == 61) ≡ x → is_some (look b pairs) ≡ true
+    go : (x : Bool) → (c == 61) ≡ x → is_some (symbol_among b symbols_before_equals) ≡ true
     go true e = rw e at h
     go false e = let n : is_some (two_bytes b c) ≡ false = rw e in cc
 
@@ -90,8 +90,8 @@ begins kind.Blank b (c ∷ bs) h = cc
 begins kind.Comment b bs h = let q = (both (b == 35) (list_all in_comment bs) h).0 in rw (hash_not_blank b q, q)
 begins kind.Number b bs h = let q = (both (is_digit b) (list_all is_digit bs) h).0 in rw (digit_not_blank b q, digit_not_hash b q, q)
 begins kind.Name b bs h = let q = (both (is_letter b) (list_all goes_on_name bs) h).0 in rw (letter_not_blank b q, letter_not_hash b q, letter_not_digit b q, q)
-begins kind.Symbol b [] h = found_in IsMark b marks all_marks h
-begins kind.Symbol b (c ∷ []) h = found_in IsMark b pairs all_pairs (two_begin b c h)
+begins kind.Symbol b [] h = found_in IsMark b one_byte_symbols all_marks h
+begins kind.Symbol b (c ∷ []) h = found_in IsMark b symbols_before_equals all_pairs (two_begin b c h)
 begins kind.Symbol b (c ∷ d ∷ bs) h = cc
 
 prefix_within : (p : ℕ → Bool) (bs : List ℕ) → prefix_len p bs ≤ length bs
@@ -249,7 +249,7 @@ record First (b : ℕ) : Type 0 where
 firsts : (b : ℕ) → First b
 unfolding kind_begun
 firsts b =
-    let s = is_some (one_byte b) || is_some (look b pairs) in
+    let s = is_some (one_byte b) || is_some (symbol_among b symbols_before_equals) in
     record {
       blank = blank_test (is_blank b) (b == 35) (is_digit b) (is_letter b) s;
       comment = comment_test (is_blank b) (b == 35) (is_digit b) (is_letter b) s;

@@ -8,10 +8,10 @@ use Rattle.gcl_core.specs.declared.tokens.PieceKind.TheVariants as kind
 use Rattle.gcl_core.specs.declared.tokens.TokenKind.{TokenKind}
 use Rattle.gcl_core.specs.declared.tokens.TokenKind.TheVariants as token
 use Rattle.gcl_core.specs.declared.tokens.Token.{Token}
-use Rattle.gcl_core.specs.Pieces.{symbol_of, Piece, Leads, here, over}
-use Rattle.gcl_core.specs.Tokens.{key_of, named_kind, kind_of, tokens_from}
-use Rattle.gcl_core.specs.Lexing.{may_stand, stands, IsLexed}
-use Rattle.gcl_core.specs.Spans.{IsInRange, StandInOrder}
+use Rattle.gcl_core.specs.text.Pieces.{symbol_of, Piece, Leads, no_piece_more, one_piece_more}
+use Rattle.gcl_core.specs.text.Tokens.{key_of, named_kind, kind_of, tokens_from}
+use Rattle.gcl_core.specs.text.Lexing.{may_stand, stands, IsLexed}
+use Rattle.gcl_core.specs.text.Spans.{IsInRange, StandInOrder}
 use Rattle.gcl_lex.proofs.Cuts.{both, some_len}
 use Rattle.gcl_lex.proofs.PieceByPiece.{placed, taken}
 
@@ -47,8 +47,8 @@ one_more None a b ts end r h w s = from_earlier a b ts end (omega (arith, h)) s
 one_more (Some k) a b ts end r h w s = (omega arith, h, w, r, s)
 
 pub in_order : {text rest : List ℕ} {ps : List Piece} (a : ℕ) → Leads text ps rest → list_all stands ps ≡ true → StandInOrder a (tokens_from a ps) (a + length text)
-in_order a here h = tt
-in_order a (over {text = text} {k = k} {n = n} {ps = ps} l r) h =
+in_order a no_piece_more h = tt
+in_order a (one_piece_more {text = text} {k = k} {n = n} {ps = ps} l r) h =
     let q = both (may_stand k (take n text)) (list_all stands ps) h in
     let i = in_order (a + length (take n text)) r q.1 in
     let t = taken l in

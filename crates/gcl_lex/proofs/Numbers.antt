@@ -6,8 +6,8 @@ use Rattle.std.proofs.lemmas.Bool.Decides.{nat_tests}
 use Rattle.std.specs.Char.{digit_value}
 use Rattle.std.specs.Str.Parse.{digits_value, digits_value_after}
 use Rattle.gcl_core.specs.declared.tokens.PieceKind.TheVariants as kind
-use Rattle.gcl_core.specs.Pieces.{is_digit, is_piece}
-use Rattle.gcl_lex.specs.Reads.{number_of_digits}
+use Rattle.gcl_core.specs.text.Pieces.{is_digit, is_piece}
+use Rattle.gcl_lex.specs.inner.Reads.{number_of_digits}
 
 pub digit_value_is : (b : ℕ) → is_digit b ≡ true → digit_value b ≡ b - 48
 digit_value_is b h = grind (arith, nat_tests)

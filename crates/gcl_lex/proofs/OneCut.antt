@@ -1,7 +1,7 @@
 -- One piece is the longest at the front of a text, and so a text is cut in one way.
 use Rattle.std.proofs.Common.{◌≡◌, refl, ℕ, zero, suc, ◌<◌, arith, true, List, [], ◌∷◌, take}
 use Rattle.gcl_core.specs.declared.tokens.PieceKind.{PieceKind}
-use Rattle.gcl_core.specs.Pieces.{is_piece, Longest, Piece, Leads, here, over}
+use Rattle.gcl_core.specs.text.Pieces.{is_piece, Longest, Piece, Leads, no_piece_more, one_piece_more}
 use Rattle.gcl_lex.proofs.Cuts.{begins, same_kind, some_len}
 
 no_longer : {c d : PieceKind} (text : List ℕ) (n m : ℕ) → Longest c text n → Longest d text m → n < m → ⊥
@@ -23,10 +23,10 @@ pub no_longest : {k : PieceKind} {n : ℕ} → Longest k [] n → ⊥
 no_longest {k} {n} l = let z = some_len k [] n l in let w = l.within in omega (arith, z, w)
 
 pub one_cut : {text : List ℕ} {ps qs : List Piece} → Leads text ps [] → Leads text qs [] → ps ≡ qs
-one_cut here here = refl
-one_cut here (over l r) = absurd (no_longest l)
-one_cut (over l r) here = absurd (no_longest l)
-one_cut (over {text = text} {k = k} {n = n} {ps = ps} l r) (over {k = j} {n = m} {ps = qs} g q) =
+one_cut no_piece_more no_piece_more = refl
+one_cut no_piece_more (one_piece_more l r) = absurd (no_longest l)
+one_cut (one_piece_more l r) no_piece_more = absurd (no_longest l)
+one_cut (one_piece_more {text = text} {k = k} {n = n} {ps = ps} l r) (one_piece_more {k = j} {n = m} {ps = qs} g q) =
     let e = one_length text n m l g in
     let f = one_kind text n l (rw (← e) at g) in
     let i = one_cut r (rw (← e) at q) in

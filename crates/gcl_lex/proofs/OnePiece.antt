@@ -4,9 +4,9 @@ use Rattle.std.specs.List.{prefix_len, list_all}
 use Rattle.std.proofs.lemmas.List.{append-nil}
 use Rattle.gcl_core.specs.declared.tokens.PieceKind.{PieceKind}
 use Rattle.gcl_core.specs.declared.tokens.PieceKind.TheVariants as kind
-use Rattle.gcl_core.specs.Pieces.{is_digit, is_letter, goes_on_name, in_comment, two_bytes, is_piece, Longest}
+use Rattle.gcl_core.specs.text.Pieces.{is_digit, is_letter, goes_on_name, in_comment, two_bytes, is_piece, Longest}
 use Rattle.gcl_lex.specs.PieceEnds.{EndsBefore}
-use Rattle.gcl_lex.specs.Cutting.{front_of, long}
+use Rattle.gcl_lex.specs.inner.Cutting.{front_of, long}
 use Rattle.gcl_lex.proofs.Cuts.{begins, both, cut_exact}
 
 -- where all bytes of a run pass and the next does not, the run ends there

@@ -6,9 +6,9 @@ use Rattle.std.proofs.lemmas.Bool.Decides.{nat_tests}
 use Rattle.gcl_core.specs.declared.tokens.PieceKind.{PieceKind}
 use Rattle.gcl_core.specs.declared.tokens.PieceKind.TheVariants as kind
 use Rattle.gcl_core.specs.declared.tokens.Token.{Token}
-use Rattle.gcl_core.specs.Pieces.{Longest, NoPiece, Piece, Leads, here, over}
-use Rattle.gcl_core.specs.Tokens.{tokens_of}
-use Rattle.gcl_core.specs.Lexing.{may_stand, stands, IsLexed, LexRefusal, bad_byte, number_too_wide, name_too_long, Reaches, IsRefused, long_text, no_piece, wide_number, long_name}
+use Rattle.gcl_core.specs.text.Pieces.{Longest, NoPiece, Piece, Leads, no_piece_more, one_piece_more}
+use Rattle.gcl_core.specs.text.Tokens.{tokens_of}
+use Rattle.gcl_core.specs.text.Lexing.{may_stand, stands, IsLexed, LexRefusal, bad_byte, number_too_wide, name_too_long, PiecesReach, IsRefused, long_text, no_piece, wide_number, long_name}
 use Rattle.gcl_core.specs.declared.rules.TheConstants.{LONGEST_TEXT, LONGEST_NAME}
 use Rattle.gcl_lex.proofs.Cuts.{both, some_len}
 use Rattle.gcl_lex.proofs.OneCut.{one_length, one_kind, no_longest}
@@ -44,12 +44,12 @@ record Same (ps qs : List Piece) (a b : List ℕ) : Type 0 where
   rest : a ≡ b
 
 one_way : {text a b : List ℕ} {ps qs : List Piece} → Leads text ps a → list_all stands ps ≡ true → Ends a → Leads text qs b → list_all stands qs ≡ true → Ends b → Same ps qs a b
-one_way here h e here g f = record { pieces = refl; rest = refl }
-one_way here h e (over {text = text} {k = k} {n = n} {ps = ps} l r) g f =
+one_way no_piece_more h e no_piece_more g f = record { pieces = refl; rest = refl }
+one_way no_piece_more h e (one_piece_more {text = text} {k = k} {n = n} {ps = ps} l r) g f =
     absurd (let x = e.ends l in let z = (both (may_stand k (take n text)) (list_all stands ps) g).0 in cc)
-one_way (over {text = text} {k = k} {n = n} {ps = ps} l r) h e here g f =
+one_way (one_piece_more {text = text} {k = k} {n = n} {ps = ps} l r) h e no_piece_more g f =
     absurd (let x = f.ends l in let z = (both (may_stand k (take n text)) (list_all stands ps) h).0 in cc)
-one_way (over {text = text} {k = k} {n = n} {ps = ps} l r) h e (over {k = other} {n = m} {ps = qs} p q) g f =
+one_way (one_piece_more {text = text} {k = k} {n = n} {ps = ps} l r) h e (one_piece_more {k = other} {n = m} {ps = qs} p q) g f =
     let s = same_piece l p in
     let x = (both (may_stand k (take n text)) (list_all stands ps) h).1 in
     let y = (both (may_stand other (take m text)) (list_all stands qs) g).1 in
@@ -84,7 +84,7 @@ record SameRest (a b : ℕ) (x z : List ℕ) : Type 0 where
   place : a ≡ b
   rest : x ≡ z
 
-same_rest : {text x z : List ℕ} {a b : ℕ} → Reaches text a x → Ends x → Reaches text b z → Ends z → SameRest a b x z
+same_rest : {text x z : List ℕ} {a b : ℕ} → PiecesReach text a x → Ends x → PiecesReach text b z → Ends z → SameRest a b x z
 same_rest r e q f =
     let s = (one_way r.leads r.stand e q.leads q.stand f).rest in
     let n = ap length s in
@@ -93,7 +93,7 @@ same_rest r e q f =
 not_both : {text : List ℕ} {n m : ℕ} → Longest kind.Number text n → Longest kind.Name text m → ⊥
 not_both p q = let e = (same_piece p q).0 in cc
 
-too_short : {text rest : List ℕ} {at : ℕ} → LONGEST_TEXT < length text → Reaches text at rest → ⊥
+too_short : {text rest : List ℕ} {at : ℕ} → LONGEST_TEXT < length text → PiecesReach text at rest → ⊥
 too_short h r = let s = r.short in omega (arith, h, s)
 
 pub refusal_once : (text : List ℕ) (r s : LexRefusal) → IsRefused text r → IsRefused text s → r ≡ s

@@ -6,16 +6,16 @@ use Rattle.std.proofs.lemmas.List.Folds.{list_all-append}
 use Rattle.gcl_core.specs.declared.tokens.PieceKind.{PieceKind}
 use Rattle.gcl_core.specs.declared.tokens.TokenKind.{TokenKind}
 use Rattle.gcl_core.specs.declared.tokens.Token.{Token}
-use Rattle.gcl_core.specs.Pieces.{Longest, Piece, Leads, here, over}
-use Rattle.gcl_core.specs.Tokens.{token_at, tokens_from, tokens_of}
-use Rattle.gcl_core.specs.Lexing.{stands, IsLexed, Reaches}
+use Rattle.gcl_core.specs.text.Pieces.{Longest, Piece, Leads, no_piece_more, one_piece_more}
+use Rattle.gcl_core.specs.text.Tokens.{token_at, tokens_from, tokens_of}
+use Rattle.gcl_core.specs.text.Lexing.{stands, IsLexed, PiecesReach}
 use Rattle.gcl_core.specs.declared.rules.TheConstants.{LONGEST_TEXT}
-use Rattle.gcl_lex.specs.Reads.{Stands}
+use Rattle.gcl_lex.specs.inner.Reads.{Stands}
 
 -- one more piece
 leads_on : {text rest : List ℕ} {k : PieceKind} {n : ℕ} {ps : List Piece} → Leads text ps rest → Longest k rest n → Leads text (ps ++ record { kind = k; bytes = take n rest } ∷ []) (drop n rest)
-leads_on here l = over l here
-leads_on (over q r) l = over q (leads_on r l)
+leads_on no_piece_more l = one_piece_more l no_piece_more
+leads_on (one_piece_more q r) l = one_piece_more q (leads_on r l)
 
 -- where pieces end that begin at a place
 abbrev pub place_after : ℕ → List Piece → ℕ
@@ -26,8 +26,8 @@ pub taken : {k : PieceKind} {text : List ℕ} {n : ℕ} → Longest k text n →
 taken {text = text} {n = n} l = length-take-le n text l.within
 
 place_reached : {text rest : List ℕ} {ps : List Piece} (at : ℕ) → Leads text ps rest → place_after at ps + length rest ≡ at + length text
-place_reached at here = refl
-place_reached at (over {text = text} {n = n} l r) =
+place_reached at no_piece_more = refl
+place_reached at (one_piece_more {text = text} {n = n} l r) =
     let i = place_reached (at + length (take n text)) r in
     let t = taken l in
     let d = length-drop n text in
@@ -52,7 +52,7 @@ pub record Reading (text rest : List ℕ) (at : ℕ) (found : List Token) : Type
   pub place : at + length rest ≡ length text
 
 pub nothing_read : (text : List ℕ) → Reading text text 0 []
-nothing_read text = record { pieces = []; leads = here; stand = refl; tokens = refl; place = omega arith }
+nothing_read text = record { pieces = []; leads = no_piece_more; stand = refl; tokens = refl; place = omega arith }
 
 abbrev pub placed : ℕ → ℕ → TokenKind → Token
 placed start end k = record { kind = k; start = start; end = end }
@@ -72,7 +72,7 @@ piece_read {text} {rest} {at} {found} {k} {n} {kind} r l s =
       place = let d = length-drop n rest in omega (arith, d, l.within, r.place);
     }
 
-pub reached : {text rest : List ℕ} {at : ℕ} {found : List Token} → length text ≤ LONGEST_TEXT → Reading text rest at found → Reaches text at rest
+pub reached : {text rest : List ℕ} {at : ℕ} {found : List Token} → length text ≤ LONGEST_TEXT → Reading text rest at found → PiecesReach text at rest
 reached h r = record { short = h; pieces = r.pieces; leads = r.leads; stand = r.stand; place = r.place }
 
 -- all pieces were read

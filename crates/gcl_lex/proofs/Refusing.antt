@@ -2,16 +2,16 @@
 use Rattle.std.proofs.Common.{◌≡◌, ℕ, ◌<◌, ◌≤◌, refl, List, length, take, Some}
 use Rattle.gcl_core.specs.declared.tokens.PieceKind.{PieceKind}
 use Rattle.gcl_core.specs.declared.tokens.Token.{Token}
-use Rattle.gcl_core.specs.Pieces.{Longest, NoPiece}
-use Rattle.gcl_core.specs.Lexing.{LexRefusal, bad_byte, IsRefused, no_piece, wide_number, long_name}
+use Rattle.gcl_core.specs.text.Pieces.{Longest, NoPiece}
+use Rattle.gcl_core.specs.text.Lexing.{LexRefusal, bad_byte, IsRefused, no_piece, wide_number, long_name}
 use Rattle.gcl_core.specs.declared.rules.TheConstants.{LONGEST_TEXT}
 use Rattle.gcl_lex.specs.declared.error.LexError.{LexError}
-use Rattle.gcl_lex.specs.Lexes.{refusal_of, Refuses}
-use Rattle.gcl_lex.specs.Reads.{Stops, too_wide, too_long}
+use Rattle.gcl_lex.specs.Lexes.{refusal_named, Refuses}
+use Rattle.gcl_lex.specs.inner.Reads.{Stops, too_wide, too_long}
 use Rattle.gcl_lex.proofs.PieceByPiece.{taken, Reading, reached}
 use Rattle.gcl_lex.proofs.OneReading.{apart, refusal_once}
 
-pub refuses : {text : List ℕ} {r : LexRefusal} {e : LexError} → IsRefused text r → refusal_of e ≡ Some r → Refuses text e
+pub refuses : {text : List ℕ} {r : LexRefusal} {e : LexError} → IsRefused text r → refusal_named e ≡ Some r → Refuses text e
 refuses {text} {r} i h = record {
   refused = λ x q. let same : x ≡ r = cc in rw same i;
   only = λ x q s j. let same : x ≡ r = cc in rw same (refusal_once text s r j i);

@@ -6,11 +6,11 @@ use Rattle.std.proofs.lemmas.Bool.Decides.{nat_tests}
 use Rattle.gcl_core.specs.declared.tokens.PieceKind.{PieceKind}
 use Rattle.gcl_core.specs.declared.tokens.PieceKind.TheVariants as kind
 use Rattle.gcl_core.specs.declared.tokens.Token.{Token}
-use Rattle.gcl_core.specs.Pieces.{Longest}
-use Rattle.gcl_core.specs.Lexing.{may_stand, IsLexed, LexRefusal, text_too_long, bad_byte, number_too_wide, name_too_long, Reaches, IsRefused, long_text, wide_number, long_name}
+use Rattle.gcl_core.specs.text.Pieces.{Longest}
+use Rattle.gcl_core.specs.text.Lexing.{may_stand, IsLexed, LexRefusal, text_too_long, bad_byte, number_too_wide, name_too_long, PiecesReach, IsRefused, long_text, wide_number, long_name}
 use Rattle.gcl_core.specs.declared.rules.TheConstants.{LONGEST_TEXT, LONGEST_NAME}
 use Rattle.gcl_lex.specs.declared.cutting.Front.{Front}
-use Rattle.gcl_lex.specs.Cutting.{front_of}
+use Rattle.gcl_lex.specs.inner.Cutting.{front_of}
 use Rattle.gcl_lex.proofs.Cuts.{front_is, no_front, some_len}
 use Rattle.gcl_lex.proofs.PieceByPiece.{taken, Reading, nothing_read, piece_read, reached, text_read}
 use Rattle.gcl_lex.proofs.Refusing.{rest_stops}
@@ -25,7 +25,7 @@ not_short : (n : ℕ) → nat_le n LONGEST_NAME ≡ false → LONGEST_NAME < n
 not_short n h = grind (arith, nat_tests)
 
 -- a piece that may not stand is a number that is too wide or a name that is too long
-piece_refused : {text rest : List ℕ} {at n : ℕ} (k : PieceKind) → Reaches text at rest → Longest k rest n → may_stand k (take n rest) ≡ false → (r : LexRefusal) × IsRefused text r
+piece_refused : {text rest : List ℕ} {at n : ℕ} (k : PieceKind) → PiecesReach text at rest → Longest k rest n → may_stand k (take n rest) ≡ false → (r : LexRefusal) × IsRefused text r
 piece_refused kind.Blank r l h = cc
 piece_refused kind.Comment r l h = cc
 piece_refused {rest = rest} {at = at} {n = n} kind.Number r l h = (number_too_wide at, wide_number r l (not_small (digits_value 10 (take n rest)) h))

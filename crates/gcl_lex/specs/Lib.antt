@@ -1,4 +1,3 @@
 pub mod Lexes
-pub mod Cutting
-pub mod Reads
 pub mod PieceEnds
+pub mod inner

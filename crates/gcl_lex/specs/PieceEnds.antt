@@ -2,17 +2,17 @@
 use Rattle.std.specs.Prelude.{◌≡◌, ℕ, ◌==◌, Bool, false, List, [], ◌∷◌}
 use Rattle.gcl_core.specs.declared.tokens.PieceKind.{PieceKind}
 use Rattle.gcl_core.specs.declared.tokens.PieceKind.TheVariants as kind
-use Rattle.gcl_core.specs.Pieces.{is_digit, goes_on_name, in_comment}
+use Rattle.gcl_core.specs.text.Pieces.{is_digit, goes_on_name, in_comment}
 
 -- a byte may go on with a piece of this kind; with a symbol only `=` does
-abbrev pub goes_on : PieceKind → ℕ → Bool
-goes_on kind.Blank b = false
-goes_on kind.Comment b = in_comment b
-goes_on kind.Number b = is_digit b
-goes_on kind.Name b = goes_on_name b
-goes_on kind.Symbol b = b == 61
+abbrev pub may_go_on : PieceKind → ℕ → Bool
+may_go_on kind.Blank b = false
+may_go_on kind.Comment b = in_comment b
+may_go_on kind.Number b = is_digit b
+may_go_on kind.Name b = goes_on_name b
+may_go_on kind.Symbol b = b == 61
 
 -- a piece of this kind ends before these bytes
 abbrev pub EndsBefore : PieceKind → List ℕ → Type 0
 EndsBefore k [] = Unit {0}
-EndsBefore k (b ∷ rest) = goes_on k b ≡ false
+EndsBefore k (b ∷ rest) = may_go_on k b ≡ false

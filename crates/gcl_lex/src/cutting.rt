@@ -2,8 +2,8 @@
 
 ghost use Rattle.std.specs.Prelude.{◌≡◌, ◌≤◌, length};
 ghost use Rattle.std.specs.List.{prefix_len};
-ghost use Rattle.gcl_core.specs.Pieces as piece;
-ghost use Rattle.gcl_lex.specs.Cutting as cutting;
+ghost use Rattle.gcl_core.specs.text.Pieces as piece;
+ghost use Rattle.gcl_lex.specs.inner.Cutting as cutting;
 
 use gcl_core::{PieceKind, Sym};
 
@@ -109,7 +109,7 @@ fn comment_rest(text: &[u8]) -> usize
     text.iter().take_while(|b| **b != b'\n').count()
 }
 
-#[tactic(auto, unfolding(crate::specs::Cutting::kind_begun))]
+#[tactic(auto, unfolding(crate::specs::inner::Cutting::kind_begun))]
 fn kind_begun(b: u8) -> Option<PieceKind>
     ensures { result ≡ cutting.kind_begun b }
 {
@@ -150,7 +150,7 @@ fn symbol_front(b: u8, rest: &[u8]) -> Option<Front>
 }
 
 /// The longest piece at the front, or none where no piece begins.
-#[tactic(auto, unfolding(crate::specs::Cutting::front_of))]
+#[tactic(auto, unfolding(crate::specs::inner::Cutting::front_of))]
 pub fn front_of(text: &[u8]) -> Option<Front>
     ensures { result ≡ cutting.front_of text.now }
 {

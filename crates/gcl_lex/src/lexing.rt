@@ -4,9 +4,9 @@ ghost use Rattle.std.specs.Prelude.{◌≡◌, ◌≤◌, ◌++◌, ◌⊎◌, �
 ghost use Rattle.gcl_core.specs.declared.rules.TheConstants as rule;
 ghost use Rattle.gcl_core.specs.declared.tokens.PieceKind.{PieceKind as TheKind};
 ghost use Rattle.gcl_core.specs.declared.tokens.Token.{Token as TheToken};
-ghost use Rattle.gcl_core.specs.Pieces.{is_piece, Longest, Piece, Pieces};
-ghost use Rattle.gcl_core.specs.Lexing.{IsLexed, IsRefused, LexRefusal};
-ghost use Rattle.gcl_core.specs.Spans.{StandInOrder};
+ghost use Rattle.gcl_core.specs.text.Pieces.{is_piece, Longest, Piece, Pieces};
+ghost use Rattle.gcl_core.specs.text.Lexing.{IsLexed, IsRefused, LexRefusal};
+ghost use Rattle.gcl_core.specs.text.Spans.{StandInOrder};
 ghost use Rattle.gcl_lex.specs.Lexes.{Refuses};
 ghost use Rattle.gcl_lex.specs.PieceEnds.{EndsBefore};
 

@@ -2,10 +2,10 @@
 
 ghost use Rattle.std.specs.Prelude.{◌≡◌, true};
 ghost use Rattle.std.specs.List.{list_all};
-ghost use Rattle.gcl_core.specs.Names.{same_name};
-ghost use Rattle.gcl_core.specs.Pieces.{is_piece, is_digit};
-ghost use Rattle.gcl_core.specs.Tokens.{key_of, named_kind};
-ghost use Rattle.gcl_lex.specs.Reads.{number_of_digits, Reads};
+ghost use Rattle.gcl_core.specs.text.Names.{same_name};
+ghost use Rattle.gcl_core.specs.text.Pieces.{is_piece, is_digit};
+ghost use Rattle.gcl_core.specs.text.Tokens.{key_of, named_kind};
+ghost use Rattle.gcl_lex.specs.inner.Reads.{number_of_digits, ReadsPiece};
 
 use crate::cutting::symbol;
 use crate::error::LexError;
@@ -33,7 +33,7 @@ fn is(name: &[u8], reserved: &[u8]) -> bool
     name == reserved
 }
 
-#[tactic(auto, unfolding(gcl_core::specs::Tokens::key_of))]
+#[tactic(auto, unfolding(gcl_core::specs::text::Tokens::key_of))]
 fn key(name: &[u8]) -> Option<Key>
     ensures { result ≡ key_of name.now }
 {
@@ -82,7 +82,7 @@ fn name_kind(name: &[u8]) -> TokenKind
 /// What the token of a piece is, if it has one, or why the piece, which begins at the place `at`, may not stand.
 pub fn token_kind(kind: PieceKind, bytes: &[u8], at: u32) -> Result<Option<TokenKind>, LexError>
     requires { is_piece kind bytes.now ≡ true }
-    ensures { Reads kind bytes.now at result }
+    ensures { ReadsPiece kind bytes.now at result }
 {
     match kind {
         PieceKind::Blank | PieceKind::Comment => Ok(None),

@@ -12,21 +12,21 @@ use Rattle.gcl_core.specs.declared.syntax.BinOp.{BinOp}
 use Rattle.gcl_core.specs.declared.syntax.BinOp.TheVariants as o
 use Rattle.gcl_core.specs.declared.levels.Level.{Level}
 use Rattle.gcl_core.specs.declared.levels.Level.TheVariants as l
-use Rattle.gcl_core.specs.Syntax.{Expression, binary, negative, opposite, Statement, Statements, skip, assign, uniform, observe, branch, loop, choice, choice_among, done, ◌▸◌, ArmList, no_arm, arm}
-use Rattle.gcl_core.specs.Grammar as g
-use Rattle.gcl_core.specs.Grammar.{operator, leaf, IsRow, or_row, and_row, sum_row, product_row, ReadsPhrase, ReadsMore, ReadsStatement, ReadsStatements, ReadsBlock, ReadsElse, ReadsArms, ReadsProgram, weight}
-use Rattle.gcl_core.specs.Levels.{level_of, above}
-use Rattle.gcl_parse.specs.Starts.{start, begun}
-use Rattle.gcl_parse.specs.Fronts.{is_sym, is_key, sym_code, key_code}
-use Rattle.gcl_parse.specs.Pushdown as m
-use Rattle.gcl_parse.specs.Pushdown.{Symbol, phrase, more, take_word, run, stops, accepts, goes_on, at_atom, at_sign, at_not, at_phrase, after_start, after_operand, arm_and_more, may_end, whole}
+use Rattle.gcl_core.specs.meaning.Syntax.{Expression, Bin, Neg, Not, Statement, Statements, Skip, Set, Uniform, Observe, If, While, Choice, Choose, done, ◌▸◌, ArmList, no_arm, arm}
+use Rattle.gcl_core.specs.text.Grammar as g
+use Rattle.gcl_core.specs.text.Grammar.{operator, leaf, IsRow, or_row, and_row, sum_row, product_row, ReadsPhrase, ReadsMore, ReadsStatement, ReadsStatements, ReadsBlock, ReadsElse, ReadsArms, ReadsProgram, written_weight}
+use Rattle.gcl_core.specs.text.Levels.{level_of, above}
+use Rattle.gcl_parse.specs.inner.Starts.{begins_with, begun}
+use Rattle.gcl_parse.specs.inner.Fronts.{is_sym, is_key, sym_code, key_code}
+use Rattle.gcl_parse.specs.inner.Pushdown as m
+use Rattle.gcl_parse.specs.inner.Pushdown.{Symbol, phrase, more, take_word, run, stops, accepts, goes_on, at_atom, at_sign, at_not, at_phrase, after_start, after_operand, arm_and_more, may_end, a_program}
 use Rattle.gcl_core.proofs.Ranks.{same_rank}
 use Rattle.gcl_parse.proofs.Steps as step
 
 -- The tokens read for one symbol: for each expression that stands before, where it goes on with one.
 data Compared (a : Expression) : List Word → Expression → List Word → Type 0 where
   alone : {ts : List Word} → Compared a ts a ts
-  against : {ts rest : List Word} {v : Word} {o : BinOp} {z : Expression} → operator v ≡ Some o → level_of o ≡ l.Compare → ReadsPhrase l.Sum ts z rest → Compared a (v ∷ ts) (binary o a z) rest
+  against : {ts rest : List Word} {v : Word} {o : BinOp} {z : Expression} → operator v ≡ Some o → level_of o ≡ l.Compare → ReadsPhrase l.Sum ts z rest → Compared a (v ∷ ts) (Bin o a z) rest
 
 -- the words behind the block of an arm, up to the brace behind the last
 data Others : ℕ → List Word → ArmList → List Word → Type 0 where
@@ -72,10 +72,10 @@ unnegated_all : {s : List Symbol} {ts : List Word} → All (phrase l.Compare ∷
 unnegated_all (cons (a, r) p) = cons (a, g.without_not r) p
 
 signed_all : {s : List Symbol} {ts : List Word} → All (phrase l.Sign ∷ s) ts → All (phrase l.Sign ∷ s) (w.Sym y.Minus ∷ ts)
-signed_all (cons (a, r) p) = cons (negative a, g.with_sign r) p
+signed_all (cons (a, r) p) = cons (Neg a, g.with_sign r) p
 
 negated_all : {s : List Symbol} {ts : List Word} → All (phrase l.Not ∷ s) ts → All (phrase l.Not ∷ s) (w.Key k.Not ∷ ts)
-negated_all (cons (a, r) p) = cons (opposite a, g.with_not r) p
+negated_all (cons (a, r) p) = cons (Not a, g.with_not r) p
 
 brackets_all : {s : List Symbol} {ts : List Word} → All (phrase l.Or ∷ m.sym y.RightParen ∷ s) ts → All (phrase l.Atom ∷ s) (w.Sym y.LeftParen ∷ ts)
 brackets_all (cons (a, r) (cons h p)) = cons (a, g.in_brackets (rw h at r)) p
@@ -182,13 +182,13 @@ goes_to l v h = go (operator v) refl
 
 row_goes_all : {l : Level} {v : Word} {o : BinOp} {s : List Symbol} {ts : List Word} → IsRow l → operator v ≡ Some o → level_of o ≡ l → All (phrase (above l) ∷ more l ∷ s) ts
     → All (more l ∷ s) (v ∷ ts)
-row_goes_all {o = o} or_row h k (cons (z, r) (cons f p)) = cons (λ a. ((f (binary o a z)).0, g.one_more h k r (f (binary o a z)).1)) p
-row_goes_all {o = o} and_row h k (cons (z, r) (cons f p)) = cons (λ a. ((f (binary o a z)).0, g.one_more h k r (f (binary o a z)).1)) p
-row_goes_all {o = o} sum_row h k (cons (z, r) (cons f p)) = cons (λ a. ((f (binary o a z)).0, g.one_more h k r (f (binary o a z)).1)) p
-row_goes_all {o = o} product_row h k (cons (z, r) (cons f p)) = cons (λ a. ((f (binary o a z)).0, g.one_more h k r (f (binary o a z)).1)) p
+row_goes_all {o = o} or_row h k (cons (z, r) (cons f p)) = cons (λ a. ((f (Bin o a z)).0, g.one_more h k r (f (Bin o a z)).1)) p
+row_goes_all {o = o} and_row h k (cons (z, r) (cons f p)) = cons (λ a. ((f (Bin o a z)).0, g.one_more h k r (f (Bin o a z)).1)) p
+row_goes_all {o = o} sum_row h k (cons (z, r) (cons f p)) = cons (λ a. ((f (Bin o a z)).0, g.one_more h k r (f (Bin o a z)).1)) p
+row_goes_all {o = o} product_row h k (cons (z, r) (cons f p)) = cons (λ a. ((f (Bin o a z)).0, g.one_more h k r (f (Bin o a z)).1)) p
 
 against_all : {v : Word} {o : BinOp} {s : List Symbol} {ts : List Word} → operator v ≡ Some o → level_of o ≡ l.Compare → All (phrase l.Sum ∷ s) ts → All (more l.Compare ∷ s) (v ∷ ts)
-against_all {o = o} h k (cons (z, r) p) = cons (λ a. (binary o a z, against h k r)) p
+against_all {o = o} h k (cons (z, r) p) = cons (λ a. (Bin o a z, against h k r)) p
 
 no_operator_not : (o : BinOp) → level_of o ≢ l.Not
 no_operator_not o.Or = λ q. cc
@@ -232,30 +232,30 @@ arms_behind : {n i : ℕ} {old then ts mid rest : List Word} {b : Statements} {a
 arms_behind h h2 r others = rw (h, h2) (arms_read r others)
 
 begun_all : (b : Start) {s : List Symbol} {ts : List Word} → All (after_start b ++ (m.stmts ∷ s)) ts → All (m.stmts ∷ s) (begun b ∷ ts)
-begun_all b.Skip (cons h (cons (xs, q) p)) = cons (skip ▸ xs, g.a_statement (rw h g.a_skip) q) p
-begun_all b.Observe (cons (e, r) (cons h (cons (xs, q) p))) = cons (observe e ▸ xs, g.a_statement (g.an_observation (rw h at r)) q) p
-begun_all b.If (cons (e, r) (cons (x, a) (cons (z, c) (cons (xs, q) p)))) = cons (branch e x z ▸ xs, g.a_statement (g.an_if r a c) q) p
-begun_all b.While (cons (e, r) (cons (x, a) (cons (xs, q) p))) = cons (loop e x ▸ xs, g.a_statement (g.a_while r a) q) p
+begun_all b.Skip (cons h (cons (xs, q) p)) = cons (Skip ▸ xs, g.a_statement (rw h g.a_skip) q) p
+begun_all b.Observe (cons (e, r) (cons h (cons (xs, q) p))) = cons (Observe e ▸ xs, g.a_statement (g.an_observation (rw h at r)) q) p
+begun_all b.If (cons (e, r) (cons (x, a) (cons (z, c) (cons (xs, q) p)))) = cons (If e x z ▸ xs, g.a_statement (g.an_if r a c) q) p
+begun_all b.While (cons (e, r) (cons (x, a) (cons (xs, q) p))) = cons (While e x ▸ xs, g.a_statement (g.a_while r a) q) p
 begun_all b.Choice (cons (n, h) (cons h2 (cons (d, h3) (cons (x, a) (cons h4 (cons (z, c) (cons (xs, q) p))))))) =
-    cons (choice (weight n d) x z ▸ xs, g.a_statement (rw (h, h2, h3) (g.a_choice (rw h4 at a) c)) q) p
+    cons (Choice (written_weight n d) x z ▸ xs, g.a_statement (rw (h, h2, h3) (g.a_choice (rw h4 at a) c)) q) p
 begun_all b.Choose (cons h (cons (n, h2) (cons h3 (cons (x, a) (cons h4 (cons (i, h5) (cons h6 (cons (z, c) (cons (arms, others) (cons (xs, q) p)))))))))) =
-    cons (choice_among (arm n x (arm i z arms)) ▸ xs, g.a_statement (rw (h, h2, h3) (g.a_choose (rw h4 at a) (arms_behind h5 h6 c others))) q) p
+    cons (Choose (arm n x (arm i z arms)) ▸ xs, g.a_statement (rw (h, h2, h3) (g.a_choose (rw h4 at a) (arms_behind h5 h6 c others))) q) p
 begun_all (b.Name i) (cons f (cons (xs, q) p)) = cons ((f i).0 ▸ xs, g.a_statement (f i).1 q) p
 
 stmts_took : (v : Word) (s : List Symbol) (ts : List Word) → (Took (take_word v s) ts → All s (v ∷ ts)) → Took (take_word v (m.stmts ∷ s)) ts → All (m.stmts ∷ s) (v ∷ ts)
 unfolding take_word
-stmts_took v s ts ih h = go (start v) refl
+stmts_took v s ts ih h = go (begins_with v) refl
   where
-    go : (q : Option Start) → start v ≡ q → All (m.stmts ∷ s) (v ∷ ts)
+    go : (q : Option Start) → begins_with v ≡ q → All (m.stmts ∷ s) (v ∷ ts)
     go (Some b) e = rw (step.is_begun v b e) (begun_all b (rw e at h))
     go None e = cons (done, g.no_statement) (ih (rw e at h))
 
 assign_all : {s : List Symbol} {ts : List Word} → All (phrase l.Or ∷ m.sym y.Semicolon ∷ s) ts → All (m.target ∷ s) (w.Sym y.Assign ∷ ts)
-assign_all (cons (e, r) (cons h p)) = cons (λ i. (assign i e, g.an_assignment (rw h at r))) p
+assign_all (cons (e, r) (cons h p)) = cons (λ i. (Set i e, g.an_assignment (rw h at r))) p
 
 draw_all : {s : List Symbol} {ts : List Word} → All (m.key k.Uniform ∷ m.sym y.LeftParen ∷ phrase l.Or ∷ m.sym y.RightParen ∷ m.sym y.Semicolon ∷ s) ts
     → All (m.target ∷ s) (w.Sym y.Tilde ∷ ts)
-draw_all (cons h (cons h2 (cons (e, r) (cons h3 (cons h4 p))))) = cons (λ i. (uniform i e, rw (h, h2) (g.a_uniform (rw (h3, h4) at r)))) p
+draw_all (cons h (cons h2 (cons (e, r) (cons h3 (cons h4 p))))) = cons (λ i. (Uniform i e, rw (h, h2) (g.a_uniform (rw (h3, h4) at r)))) p
 
 target_took : (v : Word) (s : List Symbol) (ts : List Word) → Took (m.at_target v s) ts → All (m.target ∷ s) (v ∷ ts)
 target_took v s ts h =
@@ -331,9 +331,9 @@ accepted (v ∷ ts) s h = go (take_word v s) refl (accepted ts)
     go None e ih = let n : run (v ∷ ts) s ≡ stops (v ∷ ts) = rw e in cc
     go (Some t) e ih = took s v ts (rw e (ih t (rw e at h)))
 
-program_all : {ts : List Word} → All whole ts → (body : Statements) × (e : Expression) × ReadsProgram ts body e []
+program_all : {ts : List Word} → All a_program ts → (body : Statements) × (e : Expression) × ReadsProgram ts body e []
 program_all (cons (xs, q) (cons h (cons (e, r) (cons h2 nil)))) = (xs, e, record { middle = _; statements = rw h at q; last = rw h2 at r })
 
 -- what the pushdown accepts is a program
-pub accepted_program : (ts : List Word) → run ts whole ≡ accepts → (body : Statements) × (e : Expression) × ReadsProgram ts body e []
-accepted_program ts h = program_all (accepted ts whole h)
+pub accepted_program : (ts : List Word) → run ts a_program ≡ accepts → (body : Statements) × (e : Expression) × ReadsProgram ts body e []
+accepted_program ts h = program_all (accepted ts a_program h)

@@ -5,14 +5,14 @@ use Rattle.gcl_core.specs.declared.words.Word.TheVariants as w
 use Rattle.gcl_core.specs.declared.tokens.Sym.TheVariants as y
 use Rattle.gcl_core.specs.declared.syntax.Arms.{Arms}
 use Rattle.gcl_core.specs.declared.syntax.Block.{Block}
-use Rattle.gcl_core.specs.Syntax.{ArmList, no_arm, arm}
-use Rattle.gcl_core.specs.Views.{statements_of, arm_list_of, list_of_arms}
-use Rattle.gcl_core.specs.Grammar.{last_arm, one_more_arm}
+use Rattle.gcl_core.specs.meaning.Syntax.{ArmList, no_arm, arm}
+use Rattle.gcl_core.specs.meaning.Views.{statements_of, arm_list_of, list_of_arms}
+use Rattle.gcl_core.specs.text.Grammar.{last_arm, one_more_arm}
 use Rattle.gcl_parse.specs.declared.parser.Halt.{Halt}
-use Rattle.gcl_parse.specs.Fronts.{first}
-use Rattle.gcl_parse.specs.Pushdown as m
-use Rattle.gcl_parse.specs.Pushdown.{Symbol, arm_and_more}
-use Rattle.gcl_parse.specs.Parses.{Passes, Fails, one_arm, ParsesArm, ParsesArms, arms_before}
+use Rattle.gcl_parse.specs.inner.Fronts.{first}
+use Rattle.gcl_parse.specs.inner.Pushdown as m
+use Rattle.gcl_parse.specs.inner.Pushdown.{Symbol, arm_and_more}
+use Rattle.gcl_parse.specs.inner.Parses.{Passes, Fails, one_arm, ParsesArm, ParsesArms, arms_before}
 use Rattle.gcl_parse.proofs.Steps as step
 
 -- an arm, and what is expected behind it

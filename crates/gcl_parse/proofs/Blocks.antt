@@ -1,8 +1,8 @@
 -- Blocks that grow at their end.
 use Rattle.std.proofs.Common.{◌≡◌, List, [], ◌∷◌, ◌++◌, refl, ap}
 use Rattle.gcl_core.specs.declared.syntax.Stmt.{Stmt}
-use Rattle.gcl_core.specs.Syntax.{Statements, done, ◌▸◌}
-use Rattle.gcl_core.specs.Views.{statement_of, list_of}
+use Rattle.gcl_core.specs.meaning.Syntax.{Statements, done, ◌▸◌}
+use Rattle.gcl_core.specs.meaning.Views.{statement_of, list_of}
 
 -- these statements, and then those
 abbrev pub before : List Stmt → Statements → Statements

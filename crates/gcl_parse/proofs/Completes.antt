@@ -8,14 +8,14 @@ use Rattle.gcl_parse.specs.declared.starts.Start.{Start}
 use Rattle.gcl_parse.specs.declared.starts.Start.TheVariants as b
 use Rattle.gcl_core.specs.declared.levels.Level.{Level}
 use Rattle.gcl_core.specs.declared.levels.Level.TheVariants as l
-use Rattle.gcl_core.specs.Syntax.{Expression, number}
-use Rattle.gcl_core.specs.Grammar as g
-use Rattle.gcl_core.specs.Grammar.{operator, leaf, or_row, and_row, sum_row, product_row, ReadsPhrase, ReadsMore}
-use Rattle.gcl_core.specs.Levels.{above}
-use Rattle.gcl_parse.specs.Starts.{start}
-use Rattle.gcl_parse.specs.Fronts.{first, is_sym, is_key}
-use Rattle.gcl_parse.specs.Pushdown as m
-use Rattle.gcl_parse.specs.Pushdown.{Symbol, phrase, more, take_word, run, stops, accepts, goes_on, at_atom, at_sign, at_not, at_phrase, after_start, after_operand, may_end, whole}
+use Rattle.gcl_core.specs.meaning.Syntax.{Expression, Num}
+use Rattle.gcl_core.specs.text.Grammar as g
+use Rattle.gcl_core.specs.text.Grammar.{operator, leaf, or_row, and_row, sum_row, product_row, ReadsPhrase, ReadsMore}
+use Rattle.gcl_core.specs.text.Levels.{above}
+use Rattle.gcl_parse.specs.inner.Starts.{begins_with}
+use Rattle.gcl_parse.specs.inner.Fronts.{first, is_sym, is_key}
+use Rattle.gcl_parse.specs.inner.Pushdown as m
+use Rattle.gcl_parse.specs.inner.Pushdown.{Symbol, phrase, more, take_word, run, stops, accepts, goes_on, at_atom, at_sign, at_not, at_phrase, after_start, after_operand, may_end, a_program}
 use Rattle.gcl_parse.proofs.Steps as step
 use Rattle.gcl_parse.proofs.PhrasesPass.{Ends, reads_runs, ends_row, ends_tighter}
 use Rattle.gcl_parse.proofs.StatementsPass.{Closes, all_runs, block_runs}
@@ -50,16 +50,16 @@ pub data Sound : List Symbol → Type 0 where
   bottom : Sound []
   upon : {x : Symbol} {s : List Symbol} → Follows x (fill s) → Sound s → Sound (x ∷ s)
 
-zero_sign : (ts : List Word) → ReadsPhrase l.Sign (w.Number 0 ∷ ts) (number (pos 0)) ts
+zero_sign : (ts : List Word) → ReadsPhrase l.Sign (w.Number 0 ∷ ts) (Num (pos 0)) ts
 zero_sign ts = g.without_sign (g.a_leaf refl)
 
-zero_sum : (ts : List Word) → ReadsPhrase l.Sum (w.Number 0 ∷ ts) (number (pos 0)) ts
+zero_sum : (ts : List Word) → ReadsPhrase l.Sum (w.Number 0 ∷ ts) (Num (pos 0)) ts
 zero_sum ts = g.a_row sum_row (g.a_row product_row (zero_sign ts) g.no_more) g.no_more
 
-zero_not : (ts : List Word) → ReadsPhrase l.Not (w.Number 0 ∷ ts) (number (pos 0)) ts
+zero_not : (ts : List Word) → ReadsPhrase l.Not (w.Number 0 ∷ ts) (Num (pos 0)) ts
 zero_not ts = g.without_not (g.no_comparison (zero_sum ts))
 
-zero_reads : (l : Level) (ts : List Word) → ReadsPhrase l (w.Number 0 ∷ ts) (number (pos 0)) ts
+zero_reads : (l : Level) (ts : List Word) → ReadsPhrase l (w.Number 0 ∷ ts) (Num (pos 0)) ts
 zero_reads l.Atom ts = g.a_leaf refl
 zero_reads l.Sign ts = zero_sign ts
 zero_reads l.Product ts = g.a_row product_row (zero_sign ts) g.no_more
@@ -159,9 +159,9 @@ arms_stay (suc n) v s h = if_stays (is_sym y.Bar v) _ _ (upon tt (upon tt (upon 
 
 start_stays : (v : Word) (s : List Symbol) → Closes (fill s) → Sound s → Stays (take_word v s) → Stays (take_word v (m.stmts ∷ s))
 unfolding take_word
-start_stays v s c h n = go (start v) refl
+start_stays v s c h n = go (begins_with v) refl
   where
-    go : (q : Option Start) → start v ≡ q → Stays (take_word v (m.stmts ∷ s))
+    go : (q : Option Start) → begins_with v ≡ q → Stays (take_word v (m.stmts ∷ s))
     go (Some b) e = rw e (begun_stays b s c h)
     go None e = rw e n
 
@@ -183,5 +183,5 @@ stays v (upon {x = m.block} {s = s} f h) = if_stays (is_sym y.LeftBrace v) _ _ (
 stays v (upon {x = m.otherwise} {s = s} f h) = if_stays (is_key k.Else v) _ _ (upon tt h) (stays v h)
 stays v (upon {x = m.arms n} {s = s} f h) = arms_stay n v s h
 
-pub whole_sound : Sound whole
+pub whole_sound : Sound a_program
 whole_sound = upon (record { no_start = refl; no_else = λ q. cc }) (upon tt (upon (record { less = lit< tt }) (upon tt bottom)))

@@ -4,14 +4,14 @@ use Rattle.gcl_core.specs.declared.tokens.Key.TheVariants as k
 use Rattle.gcl_core.specs.declared.words.Word.{Word}
 use Rattle.gcl_core.specs.declared.words.Word.TheVariants as w
 use Rattle.gcl_core.specs.declared.levels.Level.{Level}
-use Rattle.gcl_core.specs.Arms.{parts_of}
-use Rattle.gcl_core.specs.Parts.{HaveArmCount}
-use Rattle.gcl_core.specs.Syntax.{Expression, Statement, Statements, ArmList}
-use Rattle.gcl_core.specs.Value.{Reads}
-use Rattle.gcl_core.specs.Bounds.{StatementBelow, BlockBelow, ArmsBelow, StatementWeights, ArmsWeights, BlockCounted}
-use Rattle.gcl_core.specs.Listing.{count_one, count_all, count_arms}
-use Rattle.gcl_core.specs.Written.{ExpressionWritten, StatementWritten, BlockWritten, ArmsWritten}
-use Rattle.gcl_core.specs.Grammar.{leaf, ReadsPhrase, ReadsMore, a_leaf, in_brackets, with_sign, without_sign, a_comparison, no_comparison, with_not, without_not, a_row, no_more, one_more, ReadsStatement, ReadsStatements, ReadsBlock, ReadsElse, a_skip, an_assignment, a_uniform, an_observation, an_if, a_while, a_choice, a_choose, ReadsArms, last_arm, one_more_arm, no_statement, a_statement, in_braces, no_else, an_else, ReadsProgram}
+use Rattle.gcl_core.specs.meaning.Arms.{parts_of}
+use Rattle.gcl_core.specs.meaning.Parts.{HaveArmCount}
+use Rattle.gcl_core.specs.meaning.Syntax.{Expression, Statement, Statements, ArmList}
+use Rattle.gcl_core.specs.meaning.Value.{ExpressionBelow}
+use Rattle.gcl_core.specs.meaning.Bounds.{StatementBelow, BlockBelow, ArmsBelow, StatementWeights, ArmsWeights, BlockCounted}
+use Rattle.gcl_core.specs.text.ReadingOrder.{count_one, count_all, count_arms}
+use Rattle.gcl_core.specs.text.NoNegative.{ExpressionHasNoNegative, StatementHasNoNegative, BlockHasNoNegative, ArmsHaveNoNegative}
+use Rattle.gcl_core.specs.text.Grammar.{leaf, ReadsPhrase, ReadsMore, a_leaf, in_brackets, with_sign, without_sign, a_comparison, no_comparison, with_not, without_not, a_row, no_more, one_more, ReadsStatement, ReadsStatements, ReadsBlock, ReadsElse, a_skip, an_assignment, a_uniform, an_observation, an_if, a_while, a_choice, a_choose, ReadsArms, last_arm, one_more_arm, no_statement, a_statement, in_braces, no_else, an_else, ReadsProgram}
 
 some_is : {a b : Expression} → Some a ≡ Some b → a ≡ b
 some_is h = cc
@@ -27,7 +27,7 @@ abbrev pub WordsBelow : ℕ → List Word → Type 0
 WordsBelow count [] = Unit {0}
 WordsBelow count (v ∷ ts) = WordBelow count v × WordsBelow count ts
 
-leaf_below : (count : ℕ) (v : Word) {e : Expression} → leaf v ≡ Some e → WordBelow count v → Reads e count
+leaf_below : (count : ℕ) (v : Word) {e : Expression} → leaf v ≡ Some e → WordBelow count v → ExpressionBelow e count
 leaf_below count (w.Number n) h b = rw (← some_is h) tt
 leaf_below count (w.Name x) h b = rw (← some_is h) b
 leaf_below count (w.Key k.True) h b = rw (← some_is h) tt
@@ -36,7 +36,7 @@ leaf_below count (w.Key _) h b = cc
 leaf_below count (w.Sym s) h b = cc
 
 mutual
-  phrase_below : {l : Level} {ts rest : List Word} {e : Expression} (count : ℕ) → ReadsPhrase l ts e rest → WordsBelow count ts → Reads e count × WordsBelow count rest
+  phrase_below : {l : Level} {ts rest : List Word} {e : Expression} (count : ℕ) → ReadsPhrase l ts e rest → WordsBelow count ts → ExpressionBelow e count × WordsBelow count rest
   phrase_below count (a_leaf {v = v} h) b = (leaf_below count v h b.0, b.1)
   phrase_below count (in_brackets r) b = let i = phrase_below count r b.1 in (i.0, i.1.1)
   phrase_below count (with_sign r) b = phrase_below count r b.1
@@ -47,7 +47,7 @@ mutual
   phrase_below count (without_not r) b = phrase_below count r b
   phrase_below count (a_row i r q) b = let j = phrase_below count r b in more_below count q j.0 j.1
 
-  more_below : {l : Level} {a e : Expression} {ts rest : List Word} (count : ℕ) → ReadsMore l a ts e rest → Reads a count → WordsBelow count ts → Reads e count × WordsBelow count rest
+  more_below : {l : Level} {a e : Expression} {ts rest : List Word} (count : ℕ) → ReadsMore l a ts e rest → ExpressionBelow a count → WordsBelow count ts → ExpressionBelow e count × WordsBelow count rest
   more_below count no_more a b = (a, b)
   more_below count (one_more h k r q) a b = let i = phrase_below count r b.1 in more_below count q (a, i.0) i.1
 
@@ -96,7 +96,7 @@ mutual
   else_below count no_else b = (tt, b)
   else_below count (an_else r) b = block_below count r b.1
 
-pub program_below : {ts : List Word} {body : Statements} {e : Expression} (count : ℕ) → ReadsProgram ts body e [] → WordsBelow count ts → BlockBelow count body × Reads e count
+pub program_below : {ts : List Word} {body : Statements} {e : Expression} (count : ℕ) → ReadsProgram ts body e [] → WordsBelow count ts → BlockBelow count body × ExpressionBelow e count
 program_below count d b =
     let i = statements_below count d.statements b in
     let j = phrase_below count d.last i.1.1 in
@@ -104,7 +104,7 @@ program_below count d b =
 
 -- ---- numbers
 
-leaf_written : (v : Word) {e : Expression} → leaf v ≡ Some e → ExpressionWritten e
+leaf_written : (v : Word) {e : Expression} → leaf v ≡ Some e → ExpressionHasNoNegative e
 leaf_written (w.Number n) h = rw (← some_is h) (record { digits = n; is = refl })
 leaf_written (w.Name x) h = rw (← some_is h) tt
 leaf_written (w.Key k.True) h = rw (← some_is h) tt
@@ -113,7 +113,7 @@ leaf_written (w.Key _) h = cc
 leaf_written (w.Sym s) h = cc
 
 mutual
-  phrase_written : {l : Level} {ts rest : List Word} {e : Expression} → ReadsPhrase l ts e rest → ExpressionWritten e
+  phrase_written : {l : Level} {ts rest : List Word} {e : Expression} → ReadsPhrase l ts e rest → ExpressionHasNoNegative e
   phrase_written (a_leaf {v = v} h) = leaf_written v h
   phrase_written (in_brackets r) = phrase_written r
   phrase_written (with_sign r) = phrase_written r
@@ -124,12 +124,12 @@ mutual
   phrase_written (without_not r) = phrase_written r
   phrase_written (a_row i r q) = more_written q (phrase_written r)
 
-  more_written : {l : Level} {a e : Expression} {ts rest : List Word} → ReadsMore l a ts e rest → ExpressionWritten a → ExpressionWritten e
+  more_written : {l : Level} {a e : Expression} {ts rest : List Word} → ReadsMore l a ts e rest → ExpressionHasNoNegative a → ExpressionHasNoNegative e
   more_written no_more a = a
   more_written (one_more h k r q) a = more_written q (a, phrase_written r)
 
 mutual
-  statement_written : {ts rest : List Word} {s : Statement} → ReadsStatement ts s rest → StatementWritten s
+  statement_written : {ts rest : List Word} {s : Statement} → ReadsStatement ts s rest → StatementHasNoNegative s
   statement_written a_skip = tt
   statement_written (an_assignment r) = phrase_written r
   statement_written (a_uniform r) = phrase_written r
@@ -139,22 +139,22 @@ mutual
   statement_written (a_choice a c) = (block_written a, block_written c)
   statement_written (a_choose a arms) = (block_written a, arms_written arms)
 
-  arms_written : {k : ℕ} {ts rest : List Word} {arms : ArmList} → ReadsArms k ts arms rest → ArmsWritten arms
+  arms_written : {k : ℕ} {ts rest : List Word} {arms : ArmList} → ReadsArms k ts arms rest → ArmsHaveNoNegative arms
   arms_written (last_arm a) = (block_written a, tt)
   arms_written (one_more_arm a arms) = (block_written a, arms_written arms)
 
-  statements_written : {ts rest : List Word} {s : Statements} → ReadsStatements ts s rest → BlockWritten s
+  statements_written : {ts rest : List Word} {s : Statements} → ReadsStatements ts s rest → BlockHasNoNegative s
   statements_written no_statement = tt
   statements_written (a_statement s q) = (statement_written s, statements_written q)
 
-  block_written : {ts rest : List Word} {s : Statements} → ReadsBlock ts s rest → BlockWritten s
+  block_written : {ts rest : List Word} {s : Statements} → ReadsBlock ts s rest → BlockHasNoNegative s
   block_written (in_braces r) = statements_written r
 
-  else_written : {ts rest : List Word} {s : Statements} → ReadsElse ts s rest → BlockWritten s
+  else_written : {ts rest : List Word} {s : Statements} → ReadsElse ts s rest → BlockHasNoNegative s
   else_written no_else = tt
   else_written (an_else r) = block_written r
 
-pub program_written : {ts : List Word} {body : Statements} {e : Expression} → ReadsProgram ts body e [] → BlockWritten body × ExpressionWritten e
+pub program_written : {ts : List Word} {body : Statements} {e : Expression} → ReadsProgram ts body e [] → BlockHasNoNegative body × ExpressionHasNoNegative e
 program_written d = (statements_written d.statements, phrase_written d.last)
 
 -- ---- how many arms each choice among several has

@@ -2,9 +2,9 @@
 use Rattle.std.proofs.Common.{◌≡◌, ℕ, ◌<◌, ◌≤◌, ◌+◌, ◌∙◌, refl, ap, sym, arith, List, [], ◌∷◌, ◌++◌, length, append_assoc, map, drop, get_or, subst}
 use Rattle.gcl_core.specs.declared.tokens.Token.{Token}
 use Rattle.gcl_core.specs.declared.words.Word.{Word}
-use Rattle.gcl_core.specs.Names.{Name}
-use Rattle.gcl_core.specs.Spans.{StandInOrder}
-use Rattle.gcl_core.specs.Words.{slice_of, with_token, names_from, names_of, word_of, words_of}
+use Rattle.gcl_core.specs.text.Names.{Name}
+use Rattle.gcl_core.specs.text.Spans.{StandInOrder}
+use Rattle.gcl_core.specs.text.Words.{slice_of, with_token, names_from, names_of, word_of, words_of}
 use Rattle.gcl_core.proofs.TokenWords.{longer_by_one, word_stays}
 use Rattle.gcl_parse.proofs.Nests.{next}
 

@@ -3,8 +3,8 @@ use Rattle.std.proofs.Common.{◌≡◌, ℕ, ◌<◌, ◌≤◌, ◌+◌, refl,
 use Rattle.std.specs.Prelude.{nat_lt, ◌||◌}
 use Rattle.std.proofs.lemmas.Bool.Decides.{nat_tests}
 use Rattle.gcl_core.specs.declared.tokens.Token.{Token}
-use Rattle.gcl_core.specs.Words.{kinds_of}
-use Rattle.gcl_core.specs.Nesting.{breaks_from, level_behind, count_behind}
+use Rattle.gcl_core.specs.text.Words.{kinds_of}
+use Rattle.gcl_core.specs.text.Nesting.{breaks_from, level_behind, count_behind}
 use Rattle.gcl_core.specs.declared.rules.TheConstants.{DEEPEST_NESTING, MOST_OPERATORS}
 
 pub next : (ts : List Token) (i : ℕ) (d : Token) → i < length ts → drop i ts ≡ get_or ts i d ∷ drop (i + 1) ts

@@ -6,11 +6,11 @@ use Rattle.gcl_core.specs.declared.tokens.Sym.TheVariants as y
 use Rattle.gcl_core.specs.declared.syntax.BinOp.{BinOp}
 use Rattle.gcl_core.specs.declared.levels.Level.{Level}
 use Rattle.gcl_core.specs.declared.levels.Level.TheVariants as l
-use Rattle.gcl_core.specs.Syntax.{Expression, negative, opposite}
-use Rattle.gcl_core.specs.Grammar.{operator, leaf, IsRow, or_row, and_row, sum_row, product_row, ReadsPhrase, ReadsMore, a_leaf, in_brackets, with_sign, without_sign, a_comparison, no_comparison, with_not, without_not, a_row, no_more, one_more}
-use Rattle.gcl_core.specs.Levels.{level_of, above}
-use Rattle.gcl_parse.specs.Fronts.{first}
-use Rattle.gcl_parse.specs.Pushdown.{take_word, run}
+use Rattle.gcl_core.specs.meaning.Syntax.{Expression, Neg, Not}
+use Rattle.gcl_core.specs.text.Grammar.{operator, leaf, IsRow, or_row, and_row, sum_row, product_row, ReadsPhrase, ReadsMore, a_leaf, in_brackets, with_sign, without_sign, a_comparison, no_comparison, with_not, without_not, a_row, no_more, one_more}
+use Rattle.gcl_core.specs.text.Levels.{level_of, above}
+use Rattle.gcl_parse.specs.inner.Fronts.{first}
+use Rattle.gcl_parse.specs.inner.Pushdown.{take_word, run}
 use Rattle.gcl_parse.proofs.PhrasesPass.{Ends, reads_runs, more_ends, ends_tighter, atom_first, no_not, operator_binds, word_binds}
 
 -- what is left tells the outcome where nothing is expected
@@ -72,13 +72,13 @@ mutual
   unique (in_brackets r) n (a_leaf k) o = absurd (leaf_no_bracket k)
   unique (in_brackets r) n (in_brackets q) o = unique r (record { less = lit< tt }) q (record { less = lit< tt })
   unique (in_brackets r) n (a_row i q t) o = elim i [ ]
-  unique (with_sign r) n (with_sign q) o = ap negative (unique r n q o)
+  unique (with_sign r) n (with_sign q) o = ap Neg (unique r n q o)
   unique (with_sign r) n (without_sign q) o = absurd (atom_first q refl)
   unique (with_sign r) n (a_row i q t) o = elim i [ ]
   unique (without_sign r) n (with_sign q) o = absurd (atom_first r refl)
   unique (without_sign r) n (without_sign q) o = unique r (ends_tighter l.Atom (lit≤ tt) n) q (ends_tighter l.Atom (lit≤ tt) o)
   unique (without_sign r) n (a_row i q t) o = elim i [ ]
-  unique (with_not r) n (with_not q) o = ap opposite (unique r n q o)
+  unique (with_not r) n (with_not q) o = ap Not (unique r n q o)
   unique (with_not r) n (without_not q) o = absurd (no_not q (lit< tt) refl)
   unique (with_not r) n (a_row i q t) o = elim i [ ]
   unique (without_not r) n (with_not q) o = absurd (no_not r (lit< tt) refl)

@@ -5,10 +5,10 @@ use Rattle.gcl_core.specs.declared.words.Word.TheVariants as w
 use Rattle.gcl_core.specs.declared.tokens.Key.TheVariants as k
 use Rattle.gcl_core.specs.declared.tokens.Sym.TheVariants as y
 use Rattle.gcl_core.specs.declared.levels.Level.TheVariants as l
-use Rattle.gcl_core.specs.Syntax.{Expression, Statement, Statements, ArmList, no_arm, arm, choice_among, assign, uniform, observe, ◌▸◌}
-use Rattle.gcl_core.specs.Grammar.{ReadsStatement, ReadsStatements, ReadsBlock, ReadsElse, a_skip, an_assignment, a_uniform, an_observation, an_if, a_while, a_choice, a_choose, ReadsArms, last_arm, one_more_arm, no_statement, a_statement, in_braces, no_else, an_else, ReadsProgram}
-use Rattle.gcl_parse.specs.Fronts.{first}
-use Rattle.gcl_parse.specs.Parses.{start_at}
+use Rattle.gcl_core.specs.meaning.Syntax.{Expression, Statement, Statements, ArmList, no_arm, arm, Choose, Set, Uniform, Observe, ◌▸◌}
+use Rattle.gcl_core.specs.text.Grammar.{ReadsStatement, ReadsStatements, ReadsBlock, ReadsElse, a_skip, an_assignment, a_uniform, an_observation, an_if, a_while, a_choice, a_choose, ReadsArms, last_arm, one_more_arm, no_statement, a_statement, in_braces, no_else, an_else, ReadsProgram}
+use Rattle.gcl_parse.specs.inner.Fronts.{first}
+use Rattle.gcl_parse.specs.inner.Parses.{start_at}
 use Rattle.gcl_parse.proofs.PhrasesPass.{Ends}
 use Rattle.gcl_parse.proofs.StatementsPass.{Closes, all_runs, block_runs, else_runs, arms_run, before_block, all_not_else, brace_closes}
 use Rattle.gcl_parse.proofs.OnePhrase.{unique, rest_is, left_is, tail_is}
@@ -45,9 +45,9 @@ not_begun (a_choose r s) = λ q. cc
 mutual
   stmt_unique : {ts a b : List Word} {x z : Statement} → ReadsStatement ts x a → first a ≢ Some (w.Key k.Else) → ReadsStatement ts z b → first b ≢ Some (w.Key k.Else) → (x ≡ z) × (a ≡ b)
   stmt_unique a_skip n a_skip o = (refl, refl)
-  stmt_unique (an_assignment {x = i} r) n (an_assignment q) o = (ap (assign i) (unique r semicolon q semicolon), tail_is (rest_is r semicolon q semicolon))
-  stmt_unique (a_uniform {x = i} r) n (a_uniform q) o = (ap (uniform i) (unique r paren q paren), tail_is (tail_is (rest_is r paren q paren)))
-  stmt_unique (an_observation r) n (an_observation q) o = (ap observe (unique r semicolon q semicolon), tail_is (rest_is r semicolon q semicolon))
+  stmt_unique (an_assignment {x = i} r) n (an_assignment q) o = (ap (Set i) (unique r semicolon q semicolon), tail_is (rest_is r semicolon q semicolon))
+  stmt_unique (a_uniform {x = i} r) n (a_uniform q) o = (ap (Uniform i) (unique r paren q paren), tail_is (tail_is (rest_is r paren q paren)))
+  stmt_unique (an_observation r) n (an_observation q) o = (ap Observe (unique r semicolon q semicolon), tail_is (rest_is r semicolon q semicolon))
   stmt_unique (an_if r s t) n (an_if q u v) o =
       let e = unique r (before_block s) q (before_block u) in
       let u' = rw (← rest_is r (before_block s) q (before_block u)) at u in
@@ -69,7 +69,7 @@ mutual
       let x = block_unique r q in
       let u' = rw (← tail_is (block_rest r q)) at u in
       let z = arms_unique s u' in
-      (ap₂ (λ b arms. choice_among (arm i b arms)) x z, arms_rest s u')
+      (ap₂ (λ b arms. Choose (arm i b arms)) x z, arms_rest s u')
 
   arms_unique : {k : ℕ} {ts a b : List Word} {xs zs : ArmList} → ReadsArms k ts xs (w.Sym y.RightBrace ∷ a) → ReadsArms k ts zs (w.Sym y.RightBrace ∷ b) → xs ≡ zs
   arms_unique (last_arm {n = i} r) (last_arm q) = ap (λ b. arm i b no_arm) (block_unique r q)

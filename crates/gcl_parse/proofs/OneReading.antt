@@ -1,13 +1,13 @@
 -- A text is read in exactly one way, as it is written.
 use Rattle.std.proofs.Common.{◌≡◌, ℕ, refl, ap, subst, List, Option, Some, None, ◌⊎◌, inl, inr}
 use Rattle.gcl_core.specs.declared.tokens.Token.{Token}
-use Rattle.gcl_core.specs.Syntax.{Source}
-use Rattle.gcl_core.specs.Words.{kinds_of}
-use Rattle.gcl_core.specs.Lexing.{IsLexed, IsRefused, LexRefusal}
-use Rattle.gcl_core.specs.Nesting.{nesting_break, Nests, IsTooDeep}
-use Rattle.gcl_core.specs.GrammarRefusal.{IsProgram, RefusedAt, IsUnexpected}
-use Rattle.gcl_core.specs.Derivation.{Derives}
-use Rattle.gcl_core.specs.Texts.{IsWrittenIn}
+use Rattle.gcl_core.specs.meaning.Syntax.{Source}
+use Rattle.gcl_core.specs.text.Words.{kinds_of}
+use Rattle.gcl_core.specs.text.Lexing.{IsLexed, IsRefused, LexRefusal}
+use Rattle.gcl_core.specs.text.Nesting.{nesting_break, Nests, IsTooDeep}
+use Rattle.gcl_core.specs.text.GrammarRefusal.{IsProgram, RefusedAt, IsUnexpected}
+use Rattle.gcl_core.specs.text.Derivation.{Derives}
+use Rattle.gcl_core.specs.text.Texts.{IsWrittenIn}
 use Rattle.gcl_parse.specs.OneReading.{HasOneReadingAsWritten}
 use Rattle.gcl_parse.proofs.Refuses.{program_or_refused}
 use Rattle.gcl_parse.proofs.Excludes.{is_program, kinds_derive, not_refused}

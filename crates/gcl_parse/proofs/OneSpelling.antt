@@ -1,9 +1,9 @@
 -- A text that is read in exactly one way as it is written is so as it is checked.
 use Rattle.std.proofs.Common.{◌≡◌, ◌∙◌, ℕ, refl, ap, sym, subst, List, Option, Some, None, ◌⊎◌, inl, inr}
-use Rattle.gcl_core.specs.Syntax.{Source}
-use Rattle.gcl_core.specs.Acceptance.{Refusal, too_many_names, flawed, refusal_of}
-use Rattle.gcl_core.specs.Lowest.{in_lowest}
-use Rattle.gcl_core.specs.Texts.{IsWrittenIn, IsRefusedProgram, many_names, has_flaw, flaw_code, Spells, SpellsNone, as_text, as_program}
+use Rattle.gcl_core.specs.meaning.Syntax.{Source}
+use Rattle.gcl_core.specs.text.Acceptance.{Refusal, too_many_names, flawed, refusal_of}
+use Rattle.gcl_core.specs.meaning.Lowest.{in_lowest}
+use Rattle.gcl_core.specs.text.Texts.{IsWrittenIn, IsRefusedProgram, many_names, has_flaw, flaw_code, Spells, SpellsNone, as_text, as_program}
 use Rattle.gcl_parse.specs.OneReading.{HasOneReadingAsWritten, HasOneReading}
 use Rattle.gcl_parse.proofs.FlawPlaces.{flaw_placed}
 use Rattle.gcl_parse.proofs.OneReading.{Written}

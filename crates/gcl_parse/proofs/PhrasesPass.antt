@@ -7,14 +7,14 @@ use Rattle.gcl_core.specs.declared.tokens.Sym.TheVariants as y
 use Rattle.gcl_core.specs.declared.syntax.BinOp.{BinOp}
 use Rattle.gcl_core.specs.declared.levels.Level.{Level}
 use Rattle.gcl_core.specs.declared.levels.Level.TheVariants as l
-use Rattle.gcl_core.specs.Syntax.{Expression}
-use Rattle.gcl_core.specs.Grammar.{operator, leaf, IsRow, or_row, and_row, sum_row, product_row, ReadsPhrase, ReadsMore, a_leaf, in_brackets, with_sign, without_sign, a_comparison, no_comparison, with_not, without_not, a_row, no_more, one_more}
-use Rattle.gcl_core.specs.Levels.{level_of, above}
-use Rattle.gcl_parse.specs.Fronts.{first}
-use Rattle.gcl_parse.specs.Pushdown as m
-use Rattle.gcl_core.specs.Levels.{rank}
-use Rattle.gcl_parse.specs.Pushdown.{Symbol, phrase, more, take_word, run, stops, goes_on, after_operand}
-use Rattle.gcl_parse.specs.Parses.{operator_at}
+use Rattle.gcl_core.specs.meaning.Syntax.{Expression}
+use Rattle.gcl_core.specs.text.Grammar.{operator, leaf, IsRow, or_row, and_row, sum_row, product_row, ReadsPhrase, ReadsMore, a_leaf, in_brackets, with_sign, without_sign, a_comparison, no_comparison, with_not, without_not, a_row, no_more, one_more}
+use Rattle.gcl_core.specs.text.Levels.{level_of, above}
+use Rattle.gcl_parse.specs.inner.Fronts.{first}
+use Rattle.gcl_parse.specs.inner.Pushdown as m
+use Rattle.gcl_core.specs.text.Levels.{rank}
+use Rattle.gcl_parse.specs.inner.Pushdown.{Symbol, phrase, more, take_word, run, stops, goes_on, after_operand}
+use Rattle.gcl_parse.specs.inner.Parses.{operator_at}
 use Rattle.gcl_core.proofs.Ranks.{same_rank}
 use Rattle.gcl_parse.proofs.Steps as step
 

@@ -8,11 +8,11 @@ use Rattle.gcl_core.specs.declared.words.Word.{Word}
 use Rattle.gcl_core.specs.declared.words.Word.TheVariants as w
 use Rattle.gcl_core.specs.declared.syntax.BinOp.{BinOp}
 use Rattle.gcl_core.specs.declared.levels.Level.{Level}
-use Rattle.gcl_core.specs.Syntax.{Expression, Statement, Statements, ArmList}
-use Rattle.gcl_core.specs.Words.{kind_of_word}
-use Rattle.gcl_core.specs.Grammar.{operator, leaf, ReadsPhrase, ReadsMore, a_leaf, in_brackets, with_sign, without_sign, a_comparison, no_comparison, with_not, without_not, a_row, no_more, one_more, ReadsStatement, ReadsStatements, ReadsBlock, ReadsElse, a_skip, an_assignment, a_uniform, an_observation, an_if, a_while, a_choice, a_choose, ReadsArms, last_arm, one_more_arm, no_statement, a_statement, in_braces, no_else, an_else, ReadsProgram}
-use Rattle.gcl_core.specs.Places.{places_inside, places_in, places_in_block, places_in_else, places_in_arms, places_in_program}
-use Rattle.gcl_parse.specs.Beginnings.{sets_before, begins}
+use Rattle.gcl_core.specs.meaning.Syntax.{Expression, Statement, Statements, ArmList}
+use Rattle.gcl_core.specs.text.Words.{kind_of_word}
+use Rattle.gcl_core.specs.text.Grammar.{operator, leaf, ReadsPhrase, ReadsMore, a_leaf, in_brackets, with_sign, without_sign, a_comparison, no_comparison, with_not, without_not, a_row, no_more, one_more, ReadsStatement, ReadsStatements, ReadsBlock, ReadsElse, a_skip, an_assignment, a_uniform, an_observation, an_if, a_while, a_choice, a_choose, ReadsArms, last_arm, one_more_arm, no_statement, a_statement, in_braces, no_else, an_else, ReadsProgram}
+use Rattle.gcl_core.specs.text.Places.{places_inside, places_in, places_in_block, places_in_else, places_in_arms, places_in_program}
+use Rattle.gcl_parse.specs.inner.Beginnings.{sets_before, begins}
 
 abbrev kinds : List Word → List TokenKind
 kinds ts = map kind_of_word ts

@@ -6,22 +6,22 @@ use Rattle.gcl_core.specs.declared.tokens.Token.{Token}
 use Rattle.gcl_core.specs.declared.tokens.TokenKind.{TokenKind}
 use Rattle.gcl_core.specs.declared.tokens.TokenKind.TheVariants as token
 use Rattle.gcl_core.specs.declared.words.Word.{Word}
-use Rattle.gcl_core.specs.Syntax.{Expression, Statements, Source}
-use Rattle.gcl_core.specs.Names.{Name, number_of}
-use Rattle.gcl_core.specs.Bounds.{VariablesBelow, BlockCounted}
-use Rattle.gcl_core.specs.Listing.{count_all}
-use Rattle.gcl_core.specs.Written.{IsWritten}
-use Rattle.gcl_core.specs.Offsets.{place_of, start_or}
-use Rattle.gcl_core.specs.Spans.{IsInRange, StandInOrder}
-use Rattle.gcl_core.specs.Words.{as_word, kind_of_word, kinds_of, slice_of, with_token, names_from, names_of, word_of, words_of}
-use Rattle.gcl_core.specs.Grammar.{ReadsProgram}
-use Rattle.gcl_core.specs.Places.{places_in_program}
-use Rattle.gcl_core.specs.Derivation.{Derives, place_before}
-use Rattle.gcl_core.specs.GrammarRefusal.{IsUnexpected}
+use Rattle.gcl_core.specs.meaning.Syntax.{Expression, Statements, Source}
+use Rattle.gcl_core.specs.text.Names.{Name, number_of}
+use Rattle.gcl_core.specs.meaning.Bounds.{VariablesBelow, BlockCounted}
+use Rattle.gcl_core.specs.text.ReadingOrder.{count_all}
+use Rattle.gcl_core.specs.text.NoNegative.{HasNoNegative}
+use Rattle.gcl_core.specs.text.Offsets.{place_of, start_or}
+use Rattle.gcl_core.specs.text.Spans.{IsInRange, StandInOrder}
+use Rattle.gcl_core.specs.text.Words.{as_word, kind_of_word, kinds_of, slice_of, with_token, names_from, names_of, word_of, words_of}
+use Rattle.gcl_core.specs.text.Grammar.{ReadsProgram}
+use Rattle.gcl_core.specs.text.Places.{places_in_program}
+use Rattle.gcl_core.specs.text.Derivation.{Derives, place_before}
+use Rattle.gcl_core.specs.text.GrammarRefusal.{IsUnexpected}
 use Rattle.gcl_core.proofs.TokenWords.{Has, has_own, has_later, number_within, kind-as, kinds-by, kinds-words}
-use Rattle.gcl_parse.specs.Beginnings.{begins, beginnings}
-use Rattle.gcl_parse.specs.Fronts.{AreInRange}
-use Rattle.gcl_parse.specs.Pushdown.{run, stops, whole}
+use Rattle.gcl_parse.specs.inner.Beginnings.{begins, beginnings}
+use Rattle.gcl_parse.specs.inner.Fronts.{AreInRange}
+use Rattle.gcl_parse.specs.inner.Pushdown.{run, stops, a_program}
 use Rattle.gcl_parse.proofs.OneProgram.{one_program}
 use Rattle.gcl_parse.proofs.Placed.{lefts, program_placed}
 use Rattle.gcl_parse.proofs.Kept.{WordBelow, WordsBelow, program_below, program_written, program_bounded, program_counted}
@@ -105,7 +105,7 @@ variables_below {text} {tokens} d =
     let b = program_below (length (names_of text tokens)) d.program (words_below text tokens [] (names_of text tokens) refl) in
     record { body = rw d.names b.0; result = rw d.names b.1 }
 
-pub is_written : {text : List ℕ} {tokens : List Token} {p : Source} {places : List ℕ} → Derives text tokens p places → IsWritten p
+pub is_written : {text : List ℕ} {tokens : List Token} {p : Source} {places : List ℕ} → Derives text tokens p places → HasNoNegative p
 is_written d = let w = program_written d.program in record { body = w.0; result = w.1 }
 
 pub arms_counted : {text : List ℕ} {tokens : List Token} {p : Source} {places : List ℕ} → Derives text tokens p places → BlockCounted p.body
@@ -117,7 +117,7 @@ few_statements {text} {tokens} d = let n = program_counted d.program in let m = 
 -- ---- refusals
 
 -- where the reading stops, the tokens are refused
-pub unexpected : (text : List ℕ) (tokens : List Token) {at : ℕ} (words left : List Word) → words ≡ words_of text tokens → run words whole ≡ stops left → at ≡ place_of text tokens (length tokens - length left)
+pub unexpected : (text : List ℕ) (tokens : List Token) {at : ℕ} (words left : List Word) → words ≡ words_of text tokens → run words a_program ≡ stops left → at ≡ place_of text tokens (length tokens - length left)
     → IsUnexpected text tokens at
 unexpected text tokens words left h s p =
     let r = refused words left s in
@@ -129,7 +129,7 @@ unexpected text tokens words left h s p =
       place = p;
     }
 
-pub left_within : (text : List ℕ) (tokens : List Token) (words left : List Word) → words ≡ words_of text tokens → run words whole ≡ stops left → length left ≤ length tokens
+pub left_within : (text : List ℕ) (tokens : List Token) (words left : List Word) → words ≡ words_of text tokens → run words a_program ≡ stops left → length left ≤ length tokens
 left_within text tokens words left h s =
     let n = length-map tokens (word_of (names_of text tokens) text) in
     let m = ap length h in

@@ -1,12 +1,12 @@
 -- Why a text has no program: a refusal of its bytes, of the nesting of its tokens, or of the tokens by the grammar.
 use Rattle.std.proofs.Common.{◌≡◌, ◌∙◌, ℕ, refl, ap, sym, subst, List, Option}
 use Rattle.gcl_core.specs.declared.tokens.Token.{Token}
-use Rattle.gcl_core.specs.Words.{kinds_of}
-use Rattle.gcl_core.specs.Lexing.{IsLexed, IsRefused, LexRefusal, text_too_long, bad_byte, number_too_wide, name_too_long}
-use Rattle.gcl_core.specs.Nesting.{Nests, IsTooDeep}
-use Rattle.gcl_core.specs.Offsets.{place_of}
-use Rattle.gcl_core.specs.GrammarRefusal.{IsUnexpected}
-use Rattle.gcl_core.specs.Texts.{IsRefusedText, too_long, no_piece, wide_number, long_name, unexpected, too_deep}
+use Rattle.gcl_core.specs.text.Words.{kinds_of}
+use Rattle.gcl_core.specs.text.Lexing.{IsLexed, IsRefused, LexRefusal, text_too_long, bad_byte, number_too_wide, name_too_long}
+use Rattle.gcl_core.specs.text.Nesting.{Nests, IsTooDeep}
+use Rattle.gcl_core.specs.text.Offsets.{place_of}
+use Rattle.gcl_core.specs.text.GrammarRefusal.{IsUnexpected}
+use Rattle.gcl_core.specs.text.Texts.{IsRefusedText, too_long, no_piece, wide_number, long_name, unexpected, too_deep}
 use Rattle.gcl_parse.proofs.Excludes.{one_refusal}
 
 pub data Reason : Type 0 where

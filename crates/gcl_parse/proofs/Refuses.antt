@@ -8,13 +8,13 @@ use Rattle.gcl_core.specs.declared.words.Word.{Word}
 use Rattle.gcl_core.specs.declared.words.Word.TheVariants as w
 use Rattle.gcl_core.specs.declared.levels.Level.{Level}
 use Rattle.gcl_core.specs.declared.levels.Level.TheVariants as l
-use Rattle.gcl_core.specs.Syntax.{Expression, Statements}
-use Rattle.gcl_core.specs.Words.{as_word, kind_of_word}
-use Rattle.gcl_core.specs.Grammar.{ReadsProgram}
-use Rattle.gcl_core.specs.GrammarRefusal.{IsProgram, Begins, RefusedAt}
-use Rattle.gcl_parse.specs.Pushdown as m
-use Rattle.gcl_parse.specs.Pushdown.{Symbol, phrase, more, take_word, run, stops, accepts, may_end, whole, goes_on, at_phrase}
-use Rattle.gcl_parse.specs.Parses.{Passes}
+use Rattle.gcl_core.specs.meaning.Syntax.{Expression, Statements}
+use Rattle.gcl_core.specs.text.Words.{as_word, kind_of_word}
+use Rattle.gcl_core.specs.text.Grammar.{ReadsProgram}
+use Rattle.gcl_core.specs.text.GrammarRefusal.{IsProgram, Begins, RefusedAt}
+use Rattle.gcl_parse.specs.inner.Pushdown as m
+use Rattle.gcl_parse.specs.inner.Pushdown.{Symbol, phrase, more, take_word, run, stops, accepts, may_end, a_program, goes_on, at_phrase}
+use Rattle.gcl_parse.specs.inner.Parses.{Passes}
 use Rattle.gcl_parse.proofs.StatementsPass.{program_runs}
 use Rattle.gcl_parse.proofs.Accepts.{accepted_program}
 use Rattle.gcl_parse.proofs.Completes.{fill, Sound, completes, stays, whole_sound}
@@ -114,11 +114,11 @@ reached (v ∷ ts) {s} r d h = go (take_word v s) refl (λ t. reached ts {s = t}
           short = i.short;
         }
 
-accepted_kinds : (ts : List Word) → run ts whole ≡ accepts → IsProgram (kinds ts)
+accepted_kinds : (ts : List Word) → run ts a_program ≡ accepts → IsProgram (kinds ts)
 accepted_kinds ts h = let p = accepted_program ts h in record { words = ts; kinds = refl; body = p.0; result = p.1; reads = p.2 }
 
 -- the kinds up to where it stopped
-parted : {ts r : List Word} (i : Reached ts whole r) → kinds ts ≡ kinds i.front ++ kinds r
+parted : {ts r : List Word} (i : Reached ts a_program r) → kinds ts ≡ kinds i.front ++ kinds r
 parted {ts} {r} i = ap kinds i.parts ∙ map-append kind_of_word i.front r
 
 spliced : (front rest : List Word) (n : ℕ) → kinds (plains (kinds front) ++ rest) ≡ take n (kinds front) ++ (drop n (kinds front) ++ kinds rest)
@@ -127,9 +127,9 @@ spliced front rest n =
     ∙ append_assoc (take n (kinds front)) (drop n (kinds front)) (kinds rest)
 
 -- a front that was passed begins a program
-front_begins : {ts r : List Word} (i : Reached ts whole r) (k : ℕ) → k < length i.front → Begins (take (suc k) (kinds ts))
+front_begins : {ts r : List Word} (i : Reached ts a_program r) (k : ℕ) → k < length i.front → Begins (take (suc k) (kinds ts))
 front_begins {ts} {r} i k h =
-    let p : run (plains (kinds i.front) ++ fill i.stack) whole ≡ accepts = i.goes (fill i.stack) ∙ completes i.sound in
+    let p : run (plains (kinds i.front) ++ fill i.stack) a_program ≡ accepts = i.goes (fill i.stack) ∙ completes i.sound in
     let n = length-map i.front kind_of_word in
     let a : take (suc k) (kinds ts) ≡ take (suc k) (kinds i.front) = ap (take (suc k)) (parted i) ∙ take-append-le (suc k) (kinds i.front) (kinds r) (omega (arith, n)) in
     record {
@@ -138,11 +138,11 @@ front_begins {ts} {r} i k h =
     }
 
 -- a program of these kinds is accepted, whatever its names
-kinds_accepted : {ks : List TokenKind} → IsProgram ks → run (plains ks) whole ≡ accepts
-kinds_accepted p = rw (← p.kinds) (kinds_run p.words whole (program_runs p.reads))
+kinds_accepted : {ks : List TokenKind} → IsProgram ks → run (plains ks) a_program ≡ accepts
+kinds_accepted p = rw (← p.kinds) (kinds_run p.words a_program (program_runs p.reads))
 
 -- and with the word that could not be taken, it begins none
-blocked_begins : {ts : List Word} (v : Word) (q : List Word) (i : Reached ts whole (v ∷ q)) → Begins (take (length i.front + 1) (kinds ts)) → ⊥
+blocked_begins : {ts : List Word} (v : Word) (q : List Word) (i : Reached ts a_program (v ∷ q)) → Begins (take (length i.front + 1) (kinds ts)) → ⊥
 unfolding run
 blocked_begins {ts} v q i b =
     let n = length-map i.front kind_of_word in
@@ -150,21 +150,21 @@ blocked_begins {ts} v q i b =
     ap (take (length i.front + 1)) (parted i) ∙ ap (λ x. take (x + 1) (kinds i.front ++ kinds (v ∷ q))) (sym n) ∙ take-append-add (kinds i.front) (kinds (v ∷ q)) 1 in
     let e : plains (take (length i.front + 1) (kinds ts) ++ b.rest) ≡ plains (kinds i.front) ++ (plain (kind_of_word v) ∷ plains b.rest) =
     ap (λ x. plains (x ++ b.rest)) t ∙ ap plains (append_assoc (kinds i.front) (kind_of_word v ∷ []) b.rest) ∙ map-append plain (kinds i.front) (kind_of_word v ∷ b.rest) in
-    let a : run (plains (kinds i.front) ++ (plain (kind_of_word v) ∷ plains b.rest)) whole ≡ accepts = rw e at (kinds_accepted b.program) in
+    let a : run (plains (kinds i.front) ++ (plain (kind_of_word v) ∷ plains b.rest)) a_program ≡ accepts = rw e at (kinds_accepted b.program) in
     let n : run (plain (kind_of_word v) ∷ plains b.rest) i.stack ≡ stops (plain (kind_of_word v) ∷ plains b.rest) = rw (take_kind v i.stack, i.blocked v q refl) in
     let g = i.goes (plain (kind_of_word v) ∷ plains b.rest) in
     cc
 
-no_program : {ts : List Word} → Reached ts whole [] → IsProgram (kinds ts) → ⊥
+no_program : {ts : List Word} → Reached ts a_program [] → IsProgram (kinds ts) → ⊥
 no_program {ts} i p =
     let a = kinds_accepted p in
     let e : plains (kinds ts) ≡ plains (kinds i.front) ++ [] = ap plains (parted i) ∙ map-append plain (kinds i.front) [] in
     let g = i.goes [] in
     let h = i.short refl in
-    let b : run (plains (kinds i.front) ++ []) whole ≡ accepts = rw e at a in
+    let b : run (plains (kinds i.front) ++ []) a_program ≡ accepts = rw e at a in
     cc
 
-refused_here : (ts r : List Word) → (i : Reached ts whole r) → RefusedAt (kinds ts) (length i.front)
+refused_here : (ts r : List Word) → (i : Reached ts a_program r) → RefusedAt (kinds ts) (length i.front)
 refused_here ts [] i =
     let n = ap length i.parts ∙ length-append i.front [] in
     let k = length-map ts kind_of_word in
@@ -184,14 +184,14 @@ refused_here ts (v ∷ q) i =
       short = λ h. absurd (omega (arith, n, k));
     }
 
-pub refused : (ts r : List Word) → run ts whole ≡ stops r → RefusedAt (kinds ts) (length ts - length r)
+pub refused : (ts r : List Word) → run ts a_program ≡ stops r → RefusedAt (kinds ts) (length ts - length r)
 refused ts r h =
     let i = reached ts r whole_sound h in
     let n = ap length i.parts ∙ length-append i.front r in
     let e : length ts - length r ≡ length i.front = omega (arith, n) in
     rw e (refused_here ts r i)
 
-pub stops_within : (ts r : List Word) → run ts whole ≡ stops r → length r ≤ length ts
+pub stops_within : (ts r : List Word) → run ts a_program ≡ stops r → length r ≤ length ts
 stops_within ts r h =
     let i = reached ts r whole_sound h in
     let n = ap length i.parts ∙ length-append i.front r in
@@ -203,7 +203,7 @@ unfolding run take_word
 extra [] h = absurd (omega arith)
 extra (v ∷ ts) h = refl
 
-pub extra_stops : {ts : List Word} (new : List Word) → Passes whole ts new → 0 < length new → run ts whole ≡ stops new
+pub extra_stops : {ts : List Word} (new : List Word) → Passes a_program ts new → 0 < length new → run ts a_program ≡ stops new
 extra_stops new p h = p.runs [] ∙ extra new h
 
 -- a list whose kinds are accepted is accepted
@@ -217,12 +217,12 @@ kinds_back (v ∷ ts) s h = go (take_word v s) refl (kinds_back ts)
     go (Some t) e ih = rw e (ih t (rw (take_kind v s, e) at h))
 
 pub by_kinds : (ts : List Word) → IsProgram (kinds ts) → (body : Statements) × (e : Expression) × ReadsProgram ts body e []
-by_kinds ts p = accepted_program ts (kinds_back ts whole (kinds_accepted p))
+by_kinds ts p = accepted_program ts (kinds_back ts a_program (kinds_accepted p))
 
 -- the pushdown accepts or stops
 pub program_or_refused : (ks : List TokenKind) → IsProgram ks ⊎ ((index : ℕ) × RefusedAt ks index)
-program_or_refused ks = go (run (plains ks) whole) refl
+program_or_refused ks = go (run (plains ks) a_program) refl
   where
-    go : (o : m.Outcome) → run (plains ks) whole ≡ o → IsProgram ks ⊎ ((index : ℕ) × RefusedAt ks index)
+    go : (o : m.Outcome) → run (plains ks) a_program ≡ o → IsProgram ks ⊎ ((index : ℕ) × RefusedAt ks index)
     go accepts e = inl (subst IsProgram (kinds-plains ks) (accepted_kinds (plains ks) e))
     go (stops r) e = inr (length (plains ks) - length r, subst (λ x. RefusedAt x (length (plains ks) - length r)) (kinds-plains ks) (refused (plains ks) r e))

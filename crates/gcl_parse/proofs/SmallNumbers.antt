@@ -13,17 +13,17 @@ use Rattle.gcl_core.specs.declared.tokens.TokenKind.TheVariants as token
 use Rattle.gcl_core.specs.declared.words.Word.{Word}
 use Rattle.gcl_core.specs.declared.words.Word.TheVariants as w
 use Rattle.gcl_core.specs.declared.levels.Level.{Level}
-use Rattle.gcl_core.specs.Bounds.{ExpressionFits, StatementFits, BlockFits, ArmsFit, NumbersFit}
-use Rattle.gcl_core.specs.Derivation.{Derives}
-use Rattle.gcl_core.specs.Grammar.{leaf, ReadsPhrase, ReadsMore, a_leaf, in_brackets, with_sign, without_sign, a_comparison, no_comparison, with_not, without_not, a_row, no_more, one_more, ReadsStatement, ReadsStatements, ReadsBlock, ReadsElse, a_skip, an_assignment, a_uniform, an_observation, an_if, a_while, a_choice, a_choose, ReadsArms, last_arm, one_more_arm, no_statement, a_statement, in_braces, no_else, an_else}
-use Rattle.gcl_core.specs.Keeping.{IsChecked}
-use Rattle.gcl_core.specs.Lexing.{may_stand, stands}
-use Rattle.gcl_core.specs.Names.{Name, number_of}
-use Rattle.gcl_core.specs.Pieces.{Piece}
-use Rattle.gcl_core.specs.Syntax.{Expression, Statement, Statements, ArmList, Source}
-use Rattle.gcl_core.specs.Texts.{Spells}
-use Rattle.gcl_core.specs.Tokens.{named_kind, key_of, kind_of, tokens_from}
-use Rattle.gcl_core.specs.Words.{as_word, slice_of, names_of, word_of}
+use Rattle.gcl_core.specs.meaning.Bounds.{ExpressionFits, StatementFits, BlockFits, ArmsFit, NumbersFit}
+use Rattle.gcl_core.specs.text.Derivation.{Derives}
+use Rattle.gcl_core.specs.text.Grammar.{leaf, ReadsPhrase, ReadsMore, a_leaf, in_brackets, with_sign, without_sign, a_comparison, no_comparison, with_not, without_not, a_row, no_more, one_more, ReadsStatement, ReadsStatements, ReadsBlock, ReadsElse, a_skip, an_assignment, a_uniform, an_observation, an_if, a_while, a_choice, a_choose, ReadsArms, last_arm, one_more_arm, no_statement, a_statement, in_braces, no_else, an_else}
+use Rattle.gcl_core.specs.meaning.Keeping.{IsChecked}
+use Rattle.gcl_core.specs.text.Lexing.{may_stand, stands}
+use Rattle.gcl_core.specs.text.Names.{Name, number_of}
+use Rattle.gcl_core.specs.text.Pieces.{Piece}
+use Rattle.gcl_core.specs.meaning.Syntax.{Expression, Statement, Statements, ArmList, Source}
+use Rattle.gcl_core.specs.text.Texts.{Spells}
+use Rattle.gcl_core.specs.text.Tokens.{named_kind, key_of, kind_of, tokens_from}
+use Rattle.gcl_core.specs.text.Words.{as_word, slice_of, names_of, word_of}
 use Rattle.gcl_core.proofs.Accepted.{lowest_checked}
 use Rattle.gcl_parse.proofs.Programs.{variables_below, arms_counted}
 

@@ -6,12 +6,12 @@ use Rattle.gcl_core.specs.declared.tokens.Key.TheVariants as k
 use Rattle.gcl_core.specs.declared.tokens.Sym.TheVariants as y
 use Rattle.gcl_parse.specs.declared.starts.Start.TheVariants as b
 use Rattle.gcl_core.specs.declared.levels.Level.TheVariants as l
-use Rattle.gcl_core.specs.Syntax.{Expression, Statement, Statements, ArmList}
-use Rattle.gcl_core.specs.Grammar.{ReadsStatement, ReadsStatements, ReadsBlock, ReadsElse, a_skip, an_assignment, a_uniform, an_observation, an_if, a_while, a_choice, a_choose, ReadsArms, last_arm, one_more_arm, no_statement, a_statement, in_braces, no_else, an_else, ReadsProgram}
-use Rattle.gcl_parse.specs.Fronts.{first}
-use Rattle.gcl_parse.specs.Pushdown as m
-use Rattle.gcl_parse.specs.Pushdown.{Symbol, phrase, arm_and_more, take_word, run, whole}
-use Rattle.gcl_parse.specs.Parses.{start_at}
+use Rattle.gcl_core.specs.meaning.Syntax.{Expression, Statement, Statements, ArmList}
+use Rattle.gcl_core.specs.text.Grammar.{ReadsStatement, ReadsStatements, ReadsBlock, ReadsElse, a_skip, an_assignment, a_uniform, an_observation, an_if, a_while, a_choice, a_choose, ReadsArms, last_arm, one_more_arm, no_statement, a_statement, in_braces, no_else, an_else, ReadsProgram}
+use Rattle.gcl_parse.specs.inner.Fronts.{first}
+use Rattle.gcl_parse.specs.inner.Pushdown as m
+use Rattle.gcl_parse.specs.inner.Pushdown.{Symbol, phrase, arm_and_more, take_word, run, a_program}
+use Rattle.gcl_parse.specs.inner.Parses.{start_at}
 use Rattle.gcl_parse.proofs.Steps as step
 use Rattle.gcl_parse.proofs.PhrasesPass.{Ends, reads_runs}
 
@@ -89,7 +89,7 @@ mutual
   else_runs (an_else r) n s = step.else_on refl s ∙ block_runs r s
 
 -- a program is accepted
-pub program_runs : {ts : List Word} {body : Statements} {e : Expression} → ReadsProgram ts body e [] → run ts whole ≡ m.accepts
+pub program_runs : {ts : List Word} {body : Statements} {e : Expression} → ReadsProgram ts body e [] → run ts a_program ≡ m.accepts
 unfolding run
 program_runs d =
     all_runs d.statements (record { no_start = refl; no_else = λ q. cc }) (m.key k.Return ∷ phrase l.Or ∷ m.sym y.Semicolon ∷ []) ∙ step.key_on refl (phrase l.Or ∷ m.sym y.Semicolon ∷ [])

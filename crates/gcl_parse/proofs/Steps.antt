@@ -15,16 +15,16 @@ use Rattle.gcl_core.specs.declared.syntax.Block.{Block}
 use Rattle.gcl_core.specs.declared.syntax.Stmt.{Stmt}
 use Rattle.gcl_parse.specs.declared.starts.Start.{Start}
 use Rattle.gcl_parse.specs.declared.starts.Start.TheVariants as b'
-use Rattle.gcl_core.specs.Syntax.{Expression}
-use Rattle.gcl_core.specs.Grammar.{operator, IsRow, or_row, and_row, sum_row, product_row, ReadsPhrase, a_leaf, without_not, without_sign, an_else}
-use Rattle.gcl_core.specs.Levels.{level_of, above}
+use Rattle.gcl_core.specs.meaning.Syntax.{Expression}
+use Rattle.gcl_core.specs.text.Grammar.{operator, IsRow, or_row, and_row, sum_row, product_row, ReadsPhrase, a_leaf, without_not, without_sign, an_else}
+use Rattle.gcl_core.specs.text.Levels.{level_of, above}
 use Rattle.gcl_core.proofs.Ranks.{same_rank}
-use Rattle.gcl_parse.specs.Starts.{start, begun}
-use Rattle.gcl_parse.specs.Fronts.{first, behind, key_code, sym_code, is_sym, is_key, number_at}
-use Rattle.gcl_parse.specs.Pushdown as m
-use Rattle.gcl_core.specs.Levels.{rank}
-use Rattle.gcl_parse.specs.Pushdown.{Symbol, phrase, more, take_word, run, stops, goes_on, after_operand, arm_and_more, after_start}
-use Rattle.gcl_parse.specs.Parses.{operator_at, if_of, is_row, leaf_at, Passes, Fails, Parses, ParsesBlock, ParsesElse, ParsesAs, draw, start_at}
+use Rattle.gcl_parse.specs.inner.Starts.{begins_with, begun}
+use Rattle.gcl_parse.specs.inner.Fronts.{first, behind, key_code, sym_code, is_sym, is_key, number_at}
+use Rattle.gcl_parse.specs.inner.Pushdown as m
+use Rattle.gcl_core.specs.text.Levels.{rank}
+use Rattle.gcl_parse.specs.inner.Pushdown.{Symbol, phrase, more, take_word, run, stops, goes_on, after_operand, arm_and_more, after_start}
+use Rattle.gcl_parse.specs.inner.Parses.{operator_at, if_of, is_row, leaf_at, Passes, Fails, Parses, ParsesBlock, ParsesElse, ParsesAs, draw, start_at}
 
 other_key : (a b : Key) → b ≢ a → (key_code b == key_code a) ≡ false
 other_key k.Skip k.Skip h = absurd (h refl)
@@ -403,7 +403,7 @@ arms_off (suc n) [] h s = refl
 arms_off (suc n) (v ∷ ts) h s = rw (not_sym y.Bar v (λ e. h (omega arith, e)))
 
 -- a statement begins, or none does
-stmt_at : (v : Word) (b : Start) (ts : List Word) (s : List Symbol) → start v ≡ Some b → run (v ∷ ts) (m.stmts ∷ s) ≡ run ts (after_start b ++ (m.stmts ∷ s))
+stmt_at : (v : Word) (b : Start) (ts : List Word) (s : List Symbol) → begins_with v ≡ Some b → run (v ∷ ts) (m.stmts ∷ s) ≡ run ts (after_start b ++ (m.stmts ∷ s))
 unfolding run take_word
 stmt_at v b ts s h = rw h
 
@@ -419,7 +419,7 @@ no_more_stmts (v ∷ ts) h s = rw h
 some_is : {a b : Start} → Some a ≡ Some b → a ≡ b
 some_is h = cc
 
-pub is_begun : (v : Word) (b : Start) → start v ≡ Some b → v ≡ begun b
+pub is_begun : (v : Word) (b : Start) → begins_with v ≡ Some b → v ≡ begun b
 is_begun (w.Number n) b h = cc
 is_begun (w.Name i) b h = let e : Some (b'.Name i) ≡ Some b = h in subst (λ x. w.Name i ≡ begun x) (some_is e) refl
 is_begun (w.Key k.Skip) b h = subst (λ x. w.Key k.Skip ≡ begun x) (some_is h) refl

@@ -1,7 +1,7 @@
 -- A text is read in exactly one way: as one program, or as none, with one code at one place. This project's own rule.
 use Rattle.std.specs.Prelude.{◌≡◌, ℕ, ◌⊎◌, List, Option}
-use Rattle.gcl_core.specs.Syntax.{Source}
-use Rattle.gcl_core.specs.Texts.{IsWrittenIn, IsRefusedText, Spells, SpellsNone}
+use Rattle.gcl_core.specs.meaning.Syntax.{Source}
+use Rattle.gcl_core.specs.text.Texts.{IsWrittenIn, IsRefusedText, Spells, SpellsNone}
 
 -- as it is written
 pub record HasOneReadingAsWritten (text : List ℕ) : Type 0 where

@@ -1,8 +1,8 @@
 // Where statements begin.
 
 ghost use Rattle.std.specs.Prelude.{◌≡◌, IfOk};
-ghost use Rattle.gcl_core.specs.Words.{kinds_of};
-ghost use Rattle.gcl_parse.specs.Beginnings as beginning;
+ghost use Rattle.gcl_core.specs.text.Words.{kinds_of};
+ghost use Rattle.gcl_parse.specs.inner.Beginnings as beginning;
 
 use gcl_core::{Key, Sym, Token, TokenKind};
 use std::alloc::{AllocError, Global};

@@ -1,11 +1,11 @@
 // Reading expressions.
 
 ghost use Rattle.std.specs.Prelude.{◌≡◌, ◌<◌, length, IfOk, IsTrue, option_map};
-ghost use Rattle.gcl_core.specs.Grammar.{operator as operator_of};
-ghost use Rattle.gcl_parse.specs.Parses.{Parses, operator_at, leaf_at, is_row};
-ghost use Rattle.gcl_parse.specs.Fronts.{first};
-ghost use Rattle.gcl_core.specs.Views.{expression_of};
-ghost use Rattle.gcl_core.specs.Syntax.{opposite, negative, binary};
+ghost use Rattle.gcl_core.specs.text.Grammar.{operator as operator_of};
+ghost use Rattle.gcl_parse.specs.inner.Parses.{Parses, operator_at, leaf_at, is_row};
+ghost use Rattle.gcl_parse.specs.inner.Fronts.{first};
+ghost use Rattle.gcl_core.specs.meaning.Views.{expression_of};
+ghost use Rattle.gcl_core.specs.meaning.Syntax.{Not, Neg, Bin};
 
 use crate::parser::{Halt, Parser};
 use gcl_core::{BinOp, Expr, Key, Level, Sym, Word};
@@ -60,19 +60,19 @@ impl Parser<'_> {
     }
 
     fn negation(&self, operand: Expr) -> Result<Expr, AllocError>
-        ensures { IfOk result (λ e. expression_of e ≡ opposite (expression_of operand)) }
+        ensures { IfOk result (λ e. expression_of e ≡ Not (expression_of operand)) }
     {
         Ok(Expr::Not(Box::new(self.alloc(), operand)?))
     }
 
     fn minus(&self, operand: Expr) -> Result<Expr, AllocError>
-        ensures { IfOk result (λ e. expression_of e ≡ negative (expression_of operand)) }
+        ensures { IfOk result (λ e. expression_of e ≡ Neg (expression_of operand)) }
     {
         Ok(Expr::Neg(Box::new(self.alloc(), operand)?))
     }
 
     fn binary(&self, op: BinOp, left: Expr, right: Expr) -> Result<Expr, AllocError>
-        ensures { IfOk result (λ e. expression_of e ≡ binary op (expression_of left) (expression_of right)) }
+        ensures { IfOk result (λ e. expression_of e ≡ Bin op (expression_of left) (expression_of right)) }
     {
         Ok(Expr::Bin(
             op,

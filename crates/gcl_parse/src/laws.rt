@@ -3,14 +3,14 @@
 ghost use Rattle.std.specs.Prelude.{◌≡◌, ◌↔◌, ◌⊎◌, ℕ, List};
 ghost use Rattle.gcl_core.specs.declared.tokens.Token.{Token};
 ghost use Rattle.gcl_core.specs.declared.tokens.TokenKind.{TokenKind};
-ghost use Rattle.gcl_core.specs.Syntax.{Source};
-ghost use Rattle.gcl_core.specs.Bounds.{BlockCounted};
-ghost use Rattle.gcl_core.specs.Keeping.{IsChecked};
-ghost use Rattle.gcl_core.specs.Texts.{Spells};
-ghost use Rattle.gcl_core.specs.Words.{kinds_of};
-ghost use Rattle.gcl_core.specs.Derivation.{Derives};
-ghost use Rattle.gcl_core.specs.Written.{IsWritten};
-ghost use Rattle.gcl_core.specs.GrammarRefusal.{IsProgram, RefusedAt};
+ghost use Rattle.gcl_core.specs.meaning.Syntax.{Source};
+ghost use Rattle.gcl_core.specs.meaning.Bounds.{BlockCounted};
+ghost use Rattle.gcl_core.specs.meaning.Keeping.{IsChecked};
+ghost use Rattle.gcl_core.specs.text.Texts.{Spells};
+ghost use Rattle.gcl_core.specs.text.Words.{kinds_of};
+ghost use Rattle.gcl_core.specs.text.Derivation.{Derives};
+ghost use Rattle.gcl_core.specs.text.NoNegative.{HasNoNegative};
+ghost use Rattle.gcl_core.specs.text.GrammarRefusal.{IsProgram, RefusedAt};
 ghost use Rattle.gcl_parse.specs.OneReading.{HasOneReadingAsWritten, HasOneReading};
 ghost use Rattle.gcl_parse.specs.Refused.{IsDerived};
 
@@ -33,7 +33,7 @@ pub fn program_or_refused()
 pub fn one_program()
     ensures program { (text : List ℕ) (tokens : List Token) (p q : Source) (at places : List ℕ)
         → Derives text tokens p at → Derives text tokens q places → (q ≡ p) × (places ≡ at) }
-    ensures written { (text : List ℕ) (tokens : List Token) (p : Source) (at : List ℕ) → Derives text tokens p at → IsWritten p }
+    ensures written { (text : List ℕ) (tokens : List Token) (p : Source) (at : List ℕ) → Derives text tokens p at → HasNoNegative p }
     ensures arms { (text : List ℕ) (tokens : List Token) (p : Source) (at : List ℕ) → Derives text tokens p at → BlockCounted p.body }
 {}
 

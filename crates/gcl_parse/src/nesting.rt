@@ -1,9 +1,9 @@
 // The nesting rule.
 
 ghost use Rattle.std.specs.Prelude.{◌≡◌, ◌≤◌};
-ghost use Rattle.gcl_core.specs.Nesting as nesting;
+ghost use Rattle.gcl_core.specs.text.Nesting as nesting;
 ghost use Rattle.gcl_core.specs.declared.rules.TheConstants as rule;
-ghost use Rattle.gcl_core.specs.Words.{kinds_of};
+ghost use Rattle.gcl_core.specs.text.Words.{kinds_of};
 
 use gcl_core::{DEEPEST_NESTING, Key, MOST_OPERATORS, Sym, Token, TokenKind};
 

@@ -1,9 +1,9 @@
 // The parser over the words of a text.
 
 ghost use Rattle.std.specs.Prelude.{◌≡◌, ◌<◌, ◌↔◌, length, IsTrue};
-ghost use Rattle.gcl_parse.specs.Fronts.{first, behind, number_at, AreInRange};
-ghost use Rattle.gcl_parse.specs.Parses.{Takes, TakesNumber};
-ghost use Rattle.gcl_parse.specs.Pushdown as m;
+ghost use Rattle.gcl_parse.specs.inner.Fronts.{first, behind, number_at, AreInRange};
+ghost use Rattle.gcl_parse.specs.inner.Parses.{TakesWord, TakesNumber};
+ghost use Rattle.gcl_parse.specs.inner.Pushdown as m;
 
 use gcl_core::{Key, Sym, Word};
 use std::alloc::{AllocError, AllocFailed, Global};
@@ -51,7 +51,7 @@ impl<'a> Model for Parser<'a> {
 
     ghost view = { λ p. p.rest.now };
 
-    ghost use Rattle.gcl_parse.specs.Fronts.{AreInRange};
+    ghost use Rattle.gcl_parse.specs.inner.Fronts.{AreInRange};
 
     ghost invariant = { λ p. AreInRange p.rest.now };
 }
@@ -96,7 +96,7 @@ impl<'a> Parser<'a> {
 
     /// Takes this symbol.
     pub fn sym(&mut self, sym: Sym) -> Result<(), Halt>
-        ensures { Takes (m.sym sym) (Word.Sym sym) self.old result self.new }
+        ensures { TakesWord (m.sym sym) (Word.Sym sym) self.old result self.new }
     {
         if !self.next_is(Word::Sym(sym)) {
             return Err(Halt::Unexpected);
@@ -107,7 +107,7 @@ impl<'a> Parser<'a> {
 
     /// Takes this reserved name.
     pub fn key(&mut self, key: Key) -> Result<(), Halt>
-        ensures { Takes (m.key key) (Word.Key key) self.old result self.new }
+        ensures { TakesWord (m.key key) (Word.Key key) self.old result self.new }
     {
         if !self.next_is(Word::Key(key)) {
             return Err(Halt::Unexpected);

@@ -1,18 +1,18 @@
 // Reading programs.
 
 ghost use Rattle.std.specs.Prelude.{◌≡◌, ℕ, ◌+◌, ◌<◌, ◌≤◌, List, length, IfOk, IsOk, IfErr, IsOkUnless};
-ghost use Rattle.gcl_core.specs.Syntax.{Source};
-ghost use Rattle.gcl_core.specs.Views.{source_of};
-ghost use Rattle.gcl_core.specs.Bounds.{BlockCounted, VariablesBelow};
-ghost use Rattle.gcl_core.specs.Listing.{count_all};
-ghost use Rattle.gcl_core.specs.Spans.{StandInOrder};
-ghost use Rattle.gcl_core.specs.Offsets.{place_of};
-ghost use Rattle.gcl_core.specs.Words.{kinds_of};
-ghost use Rattle.gcl_core.specs.Derivation.{Derives};
-ghost use Rattle.gcl_core.specs.Nesting.{Nests};
-ghost use Rattle.gcl_core.specs.Written.{IsWritten};
+ghost use Rattle.gcl_core.specs.meaning.Syntax.{Source};
+ghost use Rattle.gcl_core.specs.meaning.Views.{source_of};
+ghost use Rattle.gcl_core.specs.meaning.Bounds.{BlockCounted, VariablesBelow};
+ghost use Rattle.gcl_core.specs.text.ReadingOrder.{count_all};
+ghost use Rattle.gcl_core.specs.text.Spans.{StandInOrder};
+ghost use Rattle.gcl_core.specs.text.Offsets.{place_of};
+ghost use Rattle.gcl_core.specs.text.Words.{kinds_of};
+ghost use Rattle.gcl_core.specs.text.Derivation.{Derives};
+ghost use Rattle.gcl_core.specs.text.Nesting.{Nests};
+ghost use Rattle.gcl_core.specs.text.NoNegative.{HasNoNegative};
 ghost use Rattle.gcl_core.specs.declared.rules.TheConstants.{LONGEST_TEXT};
-ghost use Rattle.gcl_parse.specs.Refused.{IsRefused};
+ghost use Rattle.gcl_parse.specs.Refused.{IsGrammarRefused};
 
 use crate::beginnings::beginnings;
 use crate::error::ParseError;
@@ -47,7 +47,7 @@ fn place(text: &[u8], tokens: &[Token], i: usize) -> u32
 ///
 /// `TooDeep` comes exactly where a token breaks the nesting rule, at the first that does, whatever else is wrong. Else
 /// `Unexpected` comes exactly where the tokens are no program, at the first with which they begin none, or at the end of the
-/// text. `OutOfMemory` comes where memory is wanting.
+/// text. `OutOfMemory` comes where memory runs out.
 pub fn parse(alloc: Global, text: &[u8], tokens: &[Token]) -> Result<Parsed, ParseError>
     requires short { length text.now ≤ LONGEST_TEXT }
     requires order { StandInOrder 0 tokens.now (length text.now) }
@@ -58,11 +58,11 @@ pub fn parse(alloc: Global, text: &[u8], tokens: &[Token]) -> Result<Parsed, Par
         → IsOkUnless result ParseError.OutOfMemory }
     ensures nested { IsOk result → Nests (kinds_of tokens.now) }
     ensures variables { IfOk result (λ p. VariablesBelow (source_of p.program)) }
-    ensures written { IfOk result (λ p. IsWritten (source_of p.program)) }
+    ensures written { IfOk result (λ p. HasNoNegative (source_of p.program)) }
     ensures arms { IfOk result (λ p. BlockCounted (source_of p.program).body) }
     ensures places { IfOk result (λ p. length p.places ≡ count_all (source_of p.program).body + 1) }
     ensures statements { IfOk result (λ p. count_all (source_of p.program).body < length tokens.now) }
-    ensures refused { IfErr result (λ e. IsRefused text.now tokens.now e) }
+    ensures refused { IfErr result (λ e. IsGrammarRefused text.now tokens.now e) }
 {
     if let Some(i) = nesting_break(tokens) {
         return Err(ParseError::TooDeep {

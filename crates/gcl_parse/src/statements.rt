@@ -1,9 +1,9 @@
 // Reading statements.
 
 ghost use Rattle.std.specs.Prelude.{◌≡◌, ◌<◌, ◌↔◌, IsTrue, Some};
-ghost use Rattle.gcl_parse.specs.Parses.{ParsesAll, ParsesBlock, ParsesElse, ParsesArm, ParsesArms, ParsesRest, ParsesAssignment, ParsesDraw, start_at};
-ghost use Rattle.gcl_parse.specs.Programs.{ParsesWhole, ParsesProgram};
-ghost use Rattle.gcl_parse.specs.Fronts.{first};
+ghost use Rattle.gcl_parse.specs.inner.Parses.{ParsesAll, ParsesBlock, ParsesElse, ParsesArm, ParsesArms, ParsesRest, ParsesAssignment, ParsesDraw, start_at};
+ghost use Rattle.gcl_parse.specs.inner.Programs.{ParsesWhole, ParsesProgram};
+ghost use Rattle.gcl_parse.specs.inner.Fronts.{first};
 
 use crate::parser::{Halt, Parser};
 use crate::starts::Start;

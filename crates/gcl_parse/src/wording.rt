@@ -1,8 +1,8 @@
 // From the tokens of a text to its words.
 
 ghost use Rattle.std.specs.Prelude.{◌≡◌, ◌≤◌, ◌<◌, ◌-◌, ◌^◌, length, IfOk, OnOk};
-ghost use Rattle.gcl_core.specs.Spans.{StandInOrder};
-ghost use Rattle.gcl_core.specs.Words.{slice_of, with_token, word_of, names_of, words_of};
+ghost use Rattle.gcl_core.specs.text.Spans.{StandInOrder};
+ghost use Rattle.gcl_core.specs.text.Words.{slice_of, with_token, word_of, names_of, words_of};
 ghost use Rattle.gcl_core.specs.declared.rules.TheConstants.{LONGEST_TEXT};
 
 use gcl_core::{Names, Token, TokenKind, Word};

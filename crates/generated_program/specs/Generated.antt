@@ -2,9 +2,9 @@
 use Rattle.std.specs.Prelude.{ℕ, zero, suc, ◌+◌, ◌%◌, pos, List, [], ◌∷◌, codes}
 use Rattle.gcl_core.specs.declared.syntax.BinOp.TheVariants as op
 use Rattle.gcl_core.specs.declared.syntax.Weight.{Weight}
-use Rattle.gcl_core.specs.Names.{Name}
-use Rattle.gcl_core.specs.Syntax.{Expression, number, variable, binary, Source}
-use Rattle.gcl_core.specs.Syntax.{Statement, assign, branch, loop, choice, uniform, observe, Statements, done, ◌▸◌}
+use Rattle.gcl_core.specs.text.Names.{Name}
+use Rattle.gcl_core.specs.meaning.Syntax.{Expression, Num, Var, Bin, Source}
+use Rattle.gcl_core.specs.meaning.Syntax.{Statement, Set, If, While, Choice, Uniform, Observe, Statements, done, ◌▸◌}
 
 -- its eight variables, in their order
 abbrev pub variable_names : List Name
@@ -13,30 +13,30 @@ variable_names = codes "v0" ∷ codes "v1" ∷ codes "v2" ∷ codes "v3" ∷ cod
 -- ---- expressions
 
 -- `x + n`
-abbrev pub plus : ℕ → ℕ → Expression
-plus x n = binary op.Add (variable x) (number (pos n))
+abbrev pub plus_number : ℕ → ℕ → Expression
+plus_number x n = Bin op.Add (Var x) (Num (pos n))
 
 -- `x % n`
 abbrev pub modulo : ℕ → ℕ → Expression
-modulo x n = binary op.Rem (variable x) (number (pos n))
+modulo x n = Bin op.Rem (Var x) (Num (pos n))
 
 -- `x % n != m`
 abbrev pub differs : ℕ → ℕ → ℕ → Expression
-differs x n m = binary op.Ne (modulo x n) (number (pos m))
+differs x n m = Bin op.Ne (modulo x n) (Num (pos m))
 
 -- `x < y`
 abbrev pub less : ℕ → ℕ → Expression
-less x y = binary op.Lt (variable x) (variable y)
+less x y = Bin op.Lt (Var x) (Var y)
 
 -- ---- statements
 
 -- a variable is first set to its own number
 abbrev pub first_assignment : ℕ → Statement
-first_assignment x = assign x (number (pos x))
+first_assignment x = Set x (Num (pos x))
 
 -- the block `{ x := x + 1; }`
-abbrev pub one_more : ℕ → Statements
-one_more x = assign x (plus x 1) ▸ done
+abbrev pub add_one : ℕ → Statements
+add_one x = Set x (plus_number x 1) ▸ done
 
 -- `1/d`
 abbrev pub one_of : ℕ → Weight
@@ -49,11 +49,11 @@ one_of d = record { num = 1; den = d }
 -- 3  `if v < w { v := v + 1; } else { w := w + 1; }`
 -- 4  `while v % 3 != 0 { v := v + 1; }`
 abbrev pub shaped : ℕ → ℕ → ℕ → ℕ → Statement
-shaped zero i v w = assign v (plus w i)
-shaped (suc zero) i v w = uniform v (number (pos (i % 7 + 2)))
-shaped (suc (suc zero)) i v w = choice (one_of (i % 9 + 2)) (assign v (variable w) ▸ done) (one_more v)
-shaped (suc (suc (suc zero))) i v w = branch (less v w) (one_more v) (one_more w)
-shaped _ i v w = loop (differs v 3 0) (one_more v)
+shaped zero i v w = Set v (plus_number w i)
+shaped (suc zero) i v w = Uniform v (Num (pos (i % 7 + 2)))
+shaped (suc (suc zero)) i v w = Choice (one_of (i % 9 + 2)) (Set v (Var w) ▸ done) (add_one v)
+shaped (suc (suc (suc zero))) i v w = If (less v w) (add_one v) (add_one w)
+shaped _ i v w = While (differs v 3 0) (add_one v)
 
 -- the statement of the number i, over the variables `i % 8` and `(i + 3) % 8`
 abbrev pub numbered_statement : ℕ → Statement
@@ -68,7 +68,7 @@ each_from statement i (suc n) others = statement i ▸ each_from statement (i + 
 
 -- `observe v1 % 4 != 3;`
 abbrev pub observation : Statement
-observation = observe (differs 1 4 3)
+observation = Observe (differs 1 4 3)
 
 -- a statement for each number below k, and the observation
 abbrev pub numbered_statements : ℕ → Statements

@@ -1,8 +1,8 @@
 //! The generated program.
 ghost use Rattle.std.specs.Prelude.{◌≡◌, ◌-◌, ◌^◌, ◌<◌, ◌≤◌, IfOk};
-ghost use Rattle.gcl_core.specs.Keeping.{IsChecked};
-ghost use Rattle.gcl_core.specs.Listing.{count_all};
-ghost use Rattle.gcl_core.specs.Views.{statements_of, source_of};
+ghost use Rattle.gcl_core.specs.meaning.Keeping.{IsChecked};
+ghost use Rattle.gcl_core.specs.text.ReadingOrder.{count_all};
+ghost use Rattle.gcl_core.specs.meaning.Views.{statements_of, source_of};
 ghost use Rattle.generated_program.specs.Generated.{generated};
 ghost use Rattle.generated_program.specs.declared.generating.TheConstants.{GREATEST_NUMBER};
 

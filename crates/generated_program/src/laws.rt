@@ -1,10 +1,10 @@
 //! What holds of all generated programs.
 ghost use Rattle.std.specs.Prelude.{◌≡◌, ◌≤◌, ℕ, List, length};
-ghost use Rattle.gcl_core.specs.Canonical.{canonical_text};
-ghost use Rattle.gcl_core.specs.Keeping.{IsChecked};
-ghost use Rattle.gcl_core.specs.Listing.{count_all};
-ghost use Rattle.gcl_core.specs.Syntax.{Source};
-ghost use Rattle.gcl_core.specs.Texts.{IsWrittenIn, Spells};
+ghost use Rattle.gcl_core.specs.text.Canonical.{canonical_text};
+ghost use Rattle.gcl_core.specs.meaning.Keeping.{IsChecked};
+ghost use Rattle.gcl_core.specs.text.ReadingOrder.{count_all};
+ghost use Rattle.gcl_core.specs.meaning.Syntax.{Source};
+ghost use Rattle.gcl_core.specs.text.Texts.{IsWrittenIn, Spells};
 ghost use Rattle.gcl_core.specs.declared.rules.TheConstants.{LONGEST_TEXT};
 ghost use Rattle.gcl_print.specs.ReadBack.{HasProgram};
 ghost use Rattle.generated_program.specs.Generated.{generated, generated_body};

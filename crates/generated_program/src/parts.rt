@@ -1,8 +1,8 @@
 //! The parts of the generated program.
 ghost use Rattle.std.specs.Prelude.{◌≡◌, ◌<◌, IfOk, pos};
-ghost use Rattle.gcl_core.specs.Syntax.{number, variable, binary, assign, done, ◌▸◌};
-ghost use Rattle.gcl_core.specs.Views.{expression_of, statement_of, statements_of};
-ghost use Rattle.generated_program.specs.Generated.{variable_names, plus, modulo, differs, less, one_more, numbered_statement};
+ghost use Rattle.gcl_core.specs.meaning.Syntax.{Num, Var, Bin, Set, done, ◌▸◌};
+ghost use Rattle.gcl_core.specs.meaning.Views.{expression_of, statement_of, statements_of};
+ghost use Rattle.generated_program.specs.Generated.{variable_names, plus_number, modulo, differs, less, add_one, numbered_statement};
 
 use gcl_core::{BinOp, Block, Expr, Names, Stmt, Weight};
 use std::alloc::{AllocError, Global};
@@ -24,20 +24,20 @@ pub fn names(alloc: Global) -> Result<Names, AllocError>
 }
 
 fn operation(alloc: Global, op: BinOp, left: Expr, right: Expr) -> Result<Expr, AllocError>
-    ensures { IfOk result (λ e. expression_of e ≡ binary op (expression_of left) (expression_of right)) }
+    ensures { IfOk result (λ e. expression_of e ≡ Bin op (expression_of left) (expression_of right)) }
 {
     Ok(Expr::Bin(op, Box::new(alloc, left)?, Box::new(alloc, right)?))
 }
 
 // A number that is not below 0.
 pub fn count(n: u32) -> Expr
-    ensures { expression_of result ≡ number (pos n) }
+    ensures { expression_of result ≡ Num (pos n) }
 {
     Expr::Num(i64::from(n))
 }
 
 fn sum(alloc: Global, x: u32, n: u32) -> Result<Expr, AllocError>
-    ensures { IfOk result (λ e. expression_of e ≡ plus x n) }
+    ensures { IfOk result (λ e. expression_of e ≡ plus_number x n) }
 {
     operation(alloc, BinOp::Add, Expr::Var(x), count(n))
 }
@@ -64,7 +64,7 @@ fn comparison(alloc: Global, x: u32, y: u32) -> Result<Expr, AllocError>
 // The block with an assignment alone.
 #[tactic(auto, using(gcl_core::proofs::ViewLemmas::views))]
 fn assignment(alloc: Global, x: u32, e: Expr) -> Result<Block, AllocError>
-    ensures { IfOk result (λ b. statements_of b ≡ assign x (expression_of e) ▸ done) }
+    ensures { IfOk result (λ b. statements_of b ≡ Set x (expression_of e) ▸ done) }
 {
     let mut stmts = Vec::new(alloc);
     stmts.push(Stmt::Set(x, e))?;
@@ -72,7 +72,7 @@ fn assignment(alloc: Global, x: u32, e: Expr) -> Result<Block, AllocError>
 }
 
 fn increment(alloc: Global, x: u32) -> Result<Block, AllocError>
-    ensures { IfOk result (λ b. statements_of b ≡ one_more x) }
+    ensures { IfOk result (λ b. statements_of b ≡ add_one x) }
 {
     assignment(alloc, x, sum(alloc, x, 1)?)
 }

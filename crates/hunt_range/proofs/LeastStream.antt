@@ -18,14 +18,14 @@ use Rattle.claim_board.specs.Board.{dealt_to, had_none, AreDealtTo}
 use Rattle.least_board.specs.declared.pass.LeastPass.{LeastPass}
 use Rattle.least_board.specs.Board.{offers_of, seen_by, IsLeast, offered_by}
 use Rattle.hunt_range.specs.Sought.{Sought, sought_of, LeastWanted}
-use Rattle.hunt_range.specs.inner.Blocks.{first_of}
+use Rattle.hunt_range.specs.inner.Blocks.{block_start}
 use Rattle.tally_range.specs.Blocks.{blocks_over}
 use Rattle.hunt_range.specs.inner.Hunters.{HasHunted, HasHuntedRuns}
 
 module _ (s : Sought) (n r : ℕ) where
   -- a stream of a block that was dealt
   covered : (j i : ℕ) (ps : List Pass) (qs : List LeastPass) → AllZip (HasHunted s) ps qs → All (λ (q : LeastPass). r ≤ seen_by q) qs → 0 < total (λ (p : Pass). times j (dealt_to p)) ps →
-      first_of s j ≤ i → i < first_of s j + STREAMS_OF_A_BLOCK → i < s.to → s.wants i ≡ true → r ≤ i
+      block_start s j ≤ i → i < block_start s j + STREAMS_OF_A_BLOCK → i < s.to → s.wants i ≡ true → r ≤ i
   covered j i [] [] z seen some low high inside w = absurd (omega arith)
   covered j i [] (q ∷ qs) z seen some low high inside w = absurd z
   covered j i (p ∷ ps) [] z seen some low high inside w = absurd z
@@ -38,14 +38,14 @@ module _ (s : Sought) (n r : ℕ) where
 
   -- a block that was never dealt
   never : (j blocks : ℕ) (ps : List Pass) (qs : List LeastPass) → 0 < length ps → AllZip (HasHunted s) ps qs → All (λ (q : LeastPass). r ≤ seen_by q) qs → AreDealtTo n ps →
-      (Any (λ (p : Pass). had_none p ≡ true) ps → n ≡ blocks) → n ≤ j → j < blocks → r ≤ first_of s j
+      (Any (λ (p : Pass). had_none p ≡ true) ps → n ≡ blocks) → n ≤ j → j < blocks → r ≤ block_start s j
   never j blocks [] qs some z seen dealt all le lt = absurd (omega arith)
   never j blocks (p ∷ ps) [] some z seen dealt all le lt = absurd z
   never j blocks (p ∷ ps) (q ∷ qs) some z seen dealt all le lt =
       let less : r ≤ seen_by q = All-head (λ (q : LeastPass). r ≤ seen_by q) q qs seen in
       ⊎_elim
       (λ (none : had_none p ≡ true). let e = all (0, p, omega arith, refl, none) in absurd (omega arith))
-      (λ (at : (k : ℕ) × (0 < times k (dealt_to p)) × (seen_by q ≤ first_of s k)).
+      (λ (at : (k : ℕ) × (0 < times k (dealt_to p)) × (seen_by q ≤ block_start s k)).
       let d = dealt at.0 in
       let k = once_inside at.0 n (omega arith) in
       omega arith)
@@ -68,8 +68,8 @@ module _ (s : Sought) (n r : ℕ) where
     no_less : (i : ℕ) → s.from ≤ i → i < s.to → s.wants i ≡ true → r ≤ i
     no_less i low inside w =
         let j = (i - s.from) / STREAMS_OF_A_BLOCK in
-        let begins : first_of s j ≤ i = omega arith in
-        let ends : i < first_of s j + STREAMS_OF_A_BLOCK = omega arith in
+        let begins : block_start s j ≤ i = omega arith in
+        let ends : i < block_start s j + STREAMS_OF_A_BLOCK = omega arith in
         let within : j < blocks_over s.from s.to = omega arith in
         ⊎_elim
         (λ (lt : j < n). let d = dealt j in let one = once_there j n lt in covered j i ps qs hunted seen (omega arith) begins ends inside w)

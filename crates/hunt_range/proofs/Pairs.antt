@@ -14,7 +14,7 @@ use Rattle.least_board.specs.declared.pass.LeastBoard.{LeastBoard}
 use Rattle.least_board.specs.declared.pass.LeastPass.{LeastPass}
 use Rattle.least_board.specs.Board as least
 use Rattle.hunt_range.specs.declared.hunter.Hunter.{Hunter}
-use Rattle.hunt_range.specs.inner.Hunters.{IsReady, HasWorked, AreAll}
+use Rattle.hunt_range.specs.inner.Hunters.{IsReadyHunter, HasWorked, AreAll}
 
 -- how often x is the number of a pass, and of a hunter's
 abbrev pub in_passes : ℕ → List Pass → ℕ
@@ -36,7 +36,7 @@ pub record Pairing (b : Board) (l : LeastBoard) (ps : List Pass) (qs : List Leas
   pub new_passes : All claim.IsNew ps
   pub bids : All (least.IsPassOf l) qs
   pub new_bids : All (least.IsNew (least.top_of l)) qs
-  pub ready : All (IsReady b l) hs
+  pub ready : All (IsReadyHunter b l) hs
   pub each_pass : (x : ℕ) → in_passes x ps + passes_in x hs ≡ once_below x (claim.workers_of b)
   pub each_bid : (x : ℕ) → in_bids x qs + bids_in x hs ≡ once_below x (least.workers_of l)
 
@@ -55,7 +55,7 @@ module _ (b : Board) (l : LeastBoard) where
         new_passes = n.0;
         bids = c.0;
         new_bids = m.0;
-        ready = all_push (IsReady b l) hs hs' h hh i.ready (record { pass = a.1; bid = c.1; new = n.1; no_offer = m.1.0 });
+        ready = all_push (IsReadyHunter b l) hs hs' h hh i.ready (record { pass = a.1; bid = c.1; new = n.1; no_offer = m.1.0 });
         each_pass = λ x. let t = total_pop (λ (p : Pass). times x (claim.numbers_of p)) ps ps' p pp in let u = total_pop (λ (h : Hunter). times x (claim.numbers_of h.pass)) hs' hs h hh in let all = i.each_pass x in omega arith;
         each_bid = λ x. let t = total_pop (λ (q : LeastPass). times x (least.numbers_of q)) qs qs' q qq in let u = total_pop (λ (h : Hunter). times x (least.numbers_of h.bid)) hs' hs h hh in let all = i.each_bid x in omega arith;
       }

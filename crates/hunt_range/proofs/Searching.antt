@@ -20,7 +20,7 @@ use Rattle.least_board.specs.declared.pass.LeastPass.{LeastPass}
 use Rattle.least_board.specs.Board as least
 use Rattle.hunt_range.specs.declared.hunter.Hunter.{Hunter}
 use Rattle.hunt_range.specs.Sought.{Sought, sought_of, NoneWanted}
-use Rattle.hunt_range.specs.inner.Blocks.{first_of, FirstWanted}
+use Rattle.hunt_range.specs.inner.Blocks.{block_start, FirstWanted}
 use Rattle.hunt_range.specs.inner.Hunters.{Covers, AreWanted, Searched, HasHunted, IsSameHunter}
 
 -- what was searched of the runs of the code
@@ -53,22 +53,22 @@ module _ (s : Sought) where
 
   -- one block more
   covers_more : (dealt : List ℕ) (block seen : ℕ) → Covers s dealt seen →
-      ((i : ℕ) → first_of s block ≤ i → i < first_of s block + STREAMS_OF_A_BLOCK → i < s.to → s.wants i ≡ true → seen ≤ i) → Covers s (dealt ++ block ∷ []) seen
+      ((i : ℕ) → block_start s block ≤ i → i < block_start s block + STREAMS_OF_A_BLOCK → i < s.to → s.wants i ≡ true → seen ≤ i) → Covers s (dealt ++ block ∷ []) seen
   covers_more dealt block seen c here j i h low high inside w =
       ⊎_elim (λ (old : 0 < times j dealt). c j i old low high inside w)
-      (λ (e : j ≡ block). let f = ap (first_of s) e in here i (omega arith) (omega arith) inside w)
+      (λ (e : j ≡ block). let f = ap (block_start s) e in here i (omega arith) (omega arith) inside w)
       (listed_more j block dealt h)
 
   -- one that begins at what was seen, or behind it
-  pub covers_behind : (dealt : List ℕ) (block seen : ℕ) → Covers s dealt seen → seen ≤ first_of s block → Covers s (dealt ++ block ∷ []) seen
+  pub covers_behind : (dealt : List ℕ) (block seen : ℕ) → Covers s dealt seen → seen ≤ block_start s block → Covers s (dealt ++ block ∷ []) seen
   covers_behind dealt block seen c le = covers_more dealt block seen c (λ i low high inside w. omega arith)
 
   -- one without a stream that is wanted
-  pub covers_empty : (dealt : List ℕ) (block seen : ℕ) → Covers s dealt seen → FirstWanted s (first_of s block) s.to None → Covers s (dealt ++ block ∷ []) seen
+  pub covers_empty : (dealt : List ℕ) (block seen : ℕ) → Covers s dealt seen → FirstWanted s (block_start s block) s.to None → Covers s (dealt ++ block ∷ []) seen
   covers_empty dealt block seen c none = covers_more dealt block seen c (λ i low high inside w. absurd (none i low high inside w))
 
   -- one whose first stream that is wanted is at least what was seen
-  pub covers_found : (dealt : List ℕ) (block seen x : ℕ) → Covers s dealt seen → FirstWanted s (first_of s block) s.to (Some x) → seen ≤ x → Covers s (dealt ++ block ∷ []) seen
+  pub covers_found : (dealt : List ℕ) (block seen x : ℕ) → Covers s dealt seen → FirstWanted s (block_start s block) s.to (Some x) → seen ≤ x → Covers s (dealt ++ block ∷ []) seen
   covers_found dealt block seen x c found le = covers_more dealt block seen c (λ i low high inside w.
       ⊎_elim (λ (lt : i < x). absurd (found.4 i low lt w)) (λ (ge : x ≤ i). omega arith) (cases_lt i x))
 
@@ -93,19 +93,19 @@ module _ (s : Sought) (p p' : Pass) (q q' : LeastPass) (block : ℕ) (was : Sear
   wanted_still : least.offers_of q' ≡ least.offers_of q → AreWanted s (least.offers_of q')
   wanted_still same = subst (AreWanted s) (sym same) was.wanted
 
-  pub stops : least.offers_of q' ≡ least.offers_of q → least.seen_by q' ≤ first_of s block → HasHunted s p' q'
+  pub stops : least.offers_of q' ≡ least.offers_of q → least.seen_by q' ≤ block_start s block → HasHunted s p' q'
   stops same behind = (
     record { covers = subst (λ xs. Covers s xs (least.seen_by q')) (sym dealt) (covers_behind s (claim.dealt_to p) block (least.seen_by q') covered_still behind); wanted = wanted_still same },
     inr (block, subst (λ xs. 0 < times block xs) (sym dealt) (let t = times-append block (claim.dealt_to p) (block ∷ []) in let h = times_here block [] in omega arith), behind),
   )
 
-  pub goes_on : least.offers_of q' ≡ least.offers_of q → FirstWanted s (first_of s block) s.to None → Searched s p' q'
+  pub goes_on : least.offers_of q' ≡ least.offers_of q → FirstWanted s (block_start s block) s.to None → Searched s p' q'
   goes_on same none = record {
     covers = subst (λ xs. Covers s xs (least.seen_by q')) (sym dealt) (covers_empty s (claim.dealt_to p) block (least.seen_by q') covered_still none);
     wanted = wanted_still same;
   }
 
-  pub offers : (x : ℕ) → least.offers_of q' ≡ least.offers_of q ++ x ∷ [] → least.seen_by q' ≤ x → FirstWanted s (first_of s block) s.to (Some x) → Searched s p' q'
+  pub offers : (x : ℕ) → least.offers_of q' ≡ least.offers_of q ++ x ∷ [] → least.seen_by q' ≤ x → FirstWanted s (block_start s block) s.to (Some x) → Searched s p' q'
   offers x more seen found = record {
     covers = subst (λ xs. Covers s xs (least.seen_by q')) (sym dealt) (covers_found s (claim.dealt_to p) block (least.seen_by q') x covered_still found seen);
     wanted = subst (AreWanted s) (sym more) (wanted_more s (least.offers_of q) x was.wanted (omega (arith, found.0)) found.2 found.3);

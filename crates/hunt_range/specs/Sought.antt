@@ -2,7 +2,7 @@
 use Rattle.std.specs.Prelude.{ℕ, ◌<◌, ◌≤◌, ◌≡◌, Bool, true, List, Option, Some, None}
 use Rattle.gcl_core.specs.declared.answers.Answer.{Answer}
 use Rattle.gcl_core.specs.declared.answers.TallyKey.{TallyKey}
-use Rattle.gcl_core.specs.Outcomes.{same_key}
+use Rattle.gcl_core.specs.meaning.Outcomes.{same_key}
 use Rattle.tally_range.specs.declared.range.SeedRange.{SeedRange}
 use Rattle.tally_range.specs.Counts.{key_on}
 

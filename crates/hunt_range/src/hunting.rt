@@ -1,13 +1,13 @@
 //! A hunt, from its boards to its answer.
 ghost use Rattle.std.specs.Prelude.{◌≡◌, false, Bool, List, All, IfOk, vec_len};
 ghost use Rattle.gcl_core.specs.declared.answers.Answer.{Answer};
-ghost use Rattle.gcl_core.specs.Runs.{InRange};
+ghost use Rattle.gcl_core.specs.meaning.LimitRange.{InRange};
 ghost use Rattle.sampler_code.specs.Assembled.{IsRunOf};
 ghost use Rattle.tally_range.specs.Ranges.{IsRange, IsWorkers};
 ghost use Rattle.claim_board.specs.Board as claim;
 ghost use Rattle.least_board.specs.Board as offers;
 ghost use Rattle.hunt_range.specs.Sought.{sought_of, LeastWanted};
-ghost use Rattle.hunt_range.specs.inner.Hunters.{Fits, IsReady, HasHuntedRuns, AreAll};
+ghost use Rattle.hunt_range.specs.inner.Hunters.{BelongTogether, IsReadyHunter, HasHuntedRuns, AreAll};
 
 use crate::hunter::Hunter;
 use crate::working::run_all;
@@ -32,7 +32,7 @@ fn hunters_of(
     requires bids { offers.AreAllPasses least.now bids.items × All (offers.IsNew (offers.top_of least.now)) bids.items }
     requires count { vec_len bids ≡ vec_len passes }
     ensures all { IfOk result (λ hunters. AreAll board.now least.now hunters.items) }
-    ensures ready { IfOk result (λ hunters. All (IsReady board.now least.now) hunters.items) }
+    ensures ready { IfOk result (λ hunters. All (IsReadyHunter board.now least.now) hunters.items) }
 {
     let mut hunters = Vec::with_capacity(alloc, passes.len())?;
     while let Some(pass) = passes.pop() {
@@ -60,7 +60,7 @@ fn close_both(
     mut hunters: Vec<Hunter>,
 ) -> Result<Option<u64>, AllocError>
     requires range { IsRange range.now }
-    requires fits { Fits board least range.now }
+    requires fits { BelongTogether board least range.now }
     requires all { AreAll board least hunters.items }
     requires hunted { All (λ h. h.failed ≡ false → HasHuntedRuns s.now l.now range.now want.now h.pass h.bid) hunters.items }
     ensures { IfOk result (λ found. (run : List Bool → Answer) → IsRunOf s.now l.now run → LeastWanted (sought_of run range.now want.now) found) }
@@ -86,7 +86,7 @@ fn close_both(
 /// The least stream of the range on which the run of the sampler has this key: it ends in this outcome, or needs more bits than the budget.
 /// `None` comes exactly where there is none. The answer is the same for any number of threads and any gate. Streams go in blocks of
 /// [`STREAMS_OF_A_BLOCK`], and the gate is told of each block before its first stream; blocks behind a stream that was found may be left out. An error comes only where
-/// memory is wanting.
+/// memory runs out.
 pub fn hunt<R: Threads + Sync, G: Gate>(
     rt: &R,
     alloc: Global,

@@ -2,9 +2,9 @@
 ghost use Rattle.std.specs.Prelude.{All, IfOk};
 ghost use Rattle.std.specs.List.{AllZip};
 ghost use Rattle.std.specs.Thread.{IsSync};
-ghost use Rattle.gcl_core.specs.Runs.{InRange};
+ghost use Rattle.gcl_core.specs.meaning.LimitRange.{InRange};
 ghost use Rattle.tally_range.specs.Ranges.{IsRange};
-ghost use Rattle.hunt_range.specs.inner.Hunters.{Fits, IsReady, IsSameHunter, HasHuntedRuns, HasWorked};
+ghost use Rattle.hunt_range.specs.inner.Hunters.{BelongTogether, IsReadyHunter, IsSameHunter, HasHuntedRuns, HasWorked};
 
 use crate::hunter::Hunter;
 use crate::streams::{first_stream, first_wanted};
@@ -19,7 +19,7 @@ use zar_io::Gate;
 
 /// Claims blocks, and offers of each the first stream that is wanted. It stops where no block is left, or where a number was looked at
 /// that the block claimed last does not begin below. The gate is told of each block before its first stream. An error comes only where
-/// memory is wanting.
+/// memory runs out.
 pub fn work<G: Gate>(
     alloc: Global,
     board: &Board,
@@ -33,8 +33,8 @@ pub fn work<G: Gate>(
 ) -> Result<(), AllocError>
     requires limits { InRange l.now }
     requires range { IsRange range.now }
-    requires fits { Fits board.now least.now range.now }
-    requires ready { IsReady board.now least.now hunter.old }
+    requires fits { BelongTogether board.now least.now range.now }
+    requires ready { IsReadyHunter board.now least.now hunter.old }
     ensures same { IsSameHunter hunter.old hunter.new }
     ensures hunted { IfOk result (λ _. HasHuntedRuns s.now l.now range.now want.now hunter.new.pass hunter.new.bid) }
 {
@@ -65,8 +65,8 @@ fn work_for<G: Gate>(
 )
     requires limits { InRange l.now }
     requires range { IsRange range.now }
-    requires fits { Fits board.now least.now range.now }
-    requires ready { IsReady board.now least.now hunter.old }
+    requires fits { BelongTogether board.now least.now range.now }
+    requires ready { IsReadyHunter board.now least.now hunter.old }
     ensures { HasWorked (HasHuntedRuns s.now l.now range.now want.now) hunter.old hunter.new }
 {
     hunter.failed = work(alloc, board, least, s, l, range, want, gate, hunter).is_err();
@@ -87,8 +87,8 @@ pub fn run_all<R: Threads + Sync, G: Gate>(
 )
     requires limits { InRange l.now }
     requires range { IsRange range.now }
-    requires fits { Fits board.now least.now range.now }
-    requires ready { All (IsReady board.now least.now) hunters.old }
+    requires fits { BelongTogether board.now least.now range.now }
+    requires ready { All (IsReadyHunter board.now least.now) hunters.old }
     ensures { AllZip (HasWorked (HasHuntedRuns s.now l.now range.now want.now)) hunters.old hunters.new }
 {
     if hunters.len() == 0 {
@@ -112,11 +112,11 @@ pub fn run_all<R: Threads + Sync, G: Gate>(
     join_mut(
         rt,
         &mut ||
-            requires { IsSync R.row × IsSync G.row × InRange l.now × IsRange range.now × Fits board.now least.now range.now × All (IsReady board.now least.now) front.now }
+            requires { IsSync R.row × IsSync G.row × InRange l.now × IsRange range.now × BelongTogether board.now least.now range.now × All (IsReadyHunter board.now least.now) front.now }
             ensures { AllZip (HasWorked (HasHuntedRuns s.entry.now l.entry.now range.entry.now want.entry.now)) front.entry.now front.exit.now }
         { run_all(rt, alloc, board, least, s, l, range, want, gate, front) },
         &mut ||
-            requires { IsSync R.row × IsSync G.row × InRange l.now × IsRange range.now × Fits board.now least.now range.now × All (IsReady board.now least.now) back.now }
+            requires { IsSync R.row × IsSync G.row × InRange l.now × IsRange range.now × BelongTogether board.now least.now range.now × All (IsReadyHunter board.now least.now) back.now }
             ensures { AllZip (HasWorked (HasHuntedRuns s.entry.now l.entry.now range.entry.now want.entry.now)) back.entry.now back.exit.now }
         { run_all(rt, alloc, board, least, s, l, range, want, gate, back) },
     );

@@ -3,9 +3,9 @@ use Rattle.std.proofs.Common.{◌≡◌, ℕ, zero, suc, ◌+◌, ◌-◌, ◌*�
 use Rattle.std.proofs.Math.Nat.{pow-suc, lt_of_mul-lt-mul_left, mul-lt-mul_of_pos_right, le_of_mul-le-mul_right, mul-le-mul_left}
 use Rattle.gcl_core.specs.declared.answers.Limit.TheVariants.{Rounds}
 use Rattle.gcl_core.specs.declared.answers.Outcome.TheVariants as outcome
-use Rattle.gcl_core.specs.Fractions.{Fraction, nothing, plus, times, power, power_sum, IsOne, IsBelowOne}
-use Rattle.gcl_core.specs.Mass.{round_mass, failed_mass, mass_of_those}
-use Rattle.gcl_core.specs.Syntax.{Source}
+use Rattle.gcl_core.specs.weighing.Fractions.{Fraction, zero_share, plus, times, power, power_sum, IsOne, IsBelowOne}
+use Rattle.gcl_core.specs.weighing.Mass.{round_mass, failed_mass, mass_of_those}
+use Rattle.gcl_core.specs.meaning.Syntax.{Source}
 use Rattle.frac128.specs.Fraction.{InLowest, IsEqual, lowest}
 use Rattle.frac128.proofs.Divisors.{product_pos, cancel}
 use Rattle.mass_tables.specs.Scale.{whole}
@@ -14,7 +14,7 @@ use Rattle.mass_tables.specs.Width.{round_width, width_of}
 use Rattle.mass_fold.specs.declared.error.MassError.{MassError}
 use Rattle.mass_fold.specs.declared.error.MassError.TheVariants.{TooWide, TooManyStates, AllFailed, OutOfMemory}
 use Rattle.mass_fold.specs.Amounts.{held}
-use Rattle.mass_fold.specs.Masses.{counted, Holds, RoundGives, WholeWithin}
+use Rattle.mass_fold.specs.Masses.{counted, HoldMasses, RoundGives, WholeWithin}
 use Rattle.mass_fold.specs.Refused.{IsLimit, RoundRefused, MassRefused}
 use Rattle.mass_fold.specs.Rounds.{geometric, scale_of, InRounds, RoundsBlame, OverRest, OverRestBlames}
 use Rattle.mass_fold.specs.Rows.{Rows}
@@ -74,7 +74,7 @@ module _ (p : Source) (n : ℕ) (r : Option ℕ) (rows : Rows) (f : Fraction) (r
     M = Q * f.1 ^ k
 
     abbrev limit_of : Bool → Fraction
-    limit_of b = cond b (power g (suc k)) nothing
+    limit_of b = cond b (power g (suc k)) zero_share
 
     limit_exact : (b : Bool) (W : ℕ) → (power f (suc k)).1 * W ≡ (power f (suc k)).0 * M → (limit_of b).1 * (W * cond b 1 0) ≡ (limit_of b).0 * M
     limit_exact true W e =
@@ -111,7 +111,7 @@ module _ (p : Source) (n : ℕ) (r : Option ℕ) (rows : Rows) (f : Fraction) (r
             let u = ap (λ z. s1 * S1 * z) l in
             omega arith
 
-  pub rounds_hold : (R : ℕ) → 1 ≤ R → (masses : Rows) → InRounds f R rows masses → Holds (scale_of Q f R) (mass_of_those p n r (Some R)) masses
+  pub rounds_hold : (R : ℕ) → 1 ≤ R → (masses : Rows) → InRounds f R rows masses → HoldMasses (scale_of Q f R) (mass_of_those p n r (Some R)) masses
   rounds_hold zero some masses h = absurd (omega arith)
   rounds_hold (suc k) some masses h =
       let a = at_scale f rows (suc k) some at_most_one Q round.parts in
@@ -125,7 +125,7 @@ module _ (p : Source) (n : ℕ) (r : Option ℕ) (rows : Rows) (f : Fraction) (r
       }
 
   -- ---- no limit of rounds
-  pub rest_holds : f.0 < f.1 → (masses : Rows) → OverRest f rows masses → Holds (Q - whole Q f) (mass_of_those p n r None) masses
+  pub rest_holds : f.0 < f.1 → (masses : Rows) → OverRest f rows masses → HoldMasses (Q - whole Q f) (mass_of_those p n r None) masses
   rest_holds below masses h =
       let s = h Q round.parts in
       let l : g.0 < g.1 = some_pass below in

@@ -3,14 +3,14 @@ use Rattle.std.proofs.Common.{◌≡◌, ℕ, ◌+◌, ◌≤◌, ◌<◌, [], �
 use Rattle.std.specs.List.{sum}
 use Rattle.std.proofs.lemmas.List.Sums.{sum_by-cons}
 use Rattle.gcl_core.specs.declared.answers.Limit.TheVariants as limit_kind
-use Rattle.gcl_core.specs.Arms.{parts_of}
-use Rattle.gcl_core.specs.Parts.{AreParts}
-use Rattle.gcl_core.specs.Syntax.{choice_among, Statements, ArmList, no_arm, arm}
-use Rattle.gcl_core.specs.Bounds.{ArmsAreWeighed}
-use Rattle.gcl_core.specs.Value.{State}
-use Rattle.gcl_core.specs.Blocks.{End, limit}
-use Rattle.gcl_core.specs.Fractions.{Fraction}
-use Rattle.gcl_core.specs.WeightedEnds.{Weighted, scaled, class_weight, no_class_weight}
+use Rattle.gcl_core.specs.meaning.Arms.{parts_of}
+use Rattle.gcl_core.specs.meaning.Parts.{AreParts}
+use Rattle.gcl_core.specs.meaning.Syntax.{Choose, Statements, ArmList, no_arm, arm}
+use Rattle.gcl_core.specs.meaning.Bounds.{ArmsAreWeighed}
+use Rattle.gcl_core.specs.meaning.Value.{State}
+use Rattle.gcl_core.specs.meaning.Blocks.{End, limit}
+use Rattle.gcl_core.specs.weighing.Fractions.{Fraction}
+use Rattle.gcl_core.specs.weighing.WeightedEnds.{Weighted, scaled, class_weight, no_class_weight}
 use Rattle.frac128.specs.Fraction.{IsEqual}
 use Rattle.mass_tables.specs.Tables.{Table, Flow, all_end, statement_flow, block_flow, arms_flow, draws_each, draw_weights, states}
 use Rattle.mass_tables.specs.Scale.{Whole, Wholes, Within, amount, weight}
@@ -44,7 +44,7 @@ module _ (n : ℕ) (r : Option ℕ) (all : ArmList) (ps : AreParts (parts_of all
   b = sum (parts_of all)
 
   abbrev whole : Table → Flow
-  whole I = statement_flow n r (choice_among all) I
+  whole I = statement_flow n r (Choose all) I
 
   abbrev pub ends : Table → Weighted End
   ends I = all_end (limit limit_kind.Attempts) (scaled (no_class_weight b r) I)
@@ -89,7 +89,7 @@ module _ (n : ℕ) (r : Option ℕ) (all : ArmList) (ps : AreParts (parts_of all
   weighs : (N L : ℕ) (I : Table) (J : Weighted End) (rest : ArmList) (out : Entries) (F : Ended) → ArmsAreWeighed all → ArmsAreWeighed rest → Around N L I (whole I) → (at : ArmsAt whole (arms_flow n r b rest) out F N L I J) →
       weight N at.table + (weight N at.gone + arms_weight N b r (parts_of rest) I) ≡ weight N I + weight N J
   weighs N L I J rest out F wa wr h at =
-      let k = kept_one n r N L (choice_among all) I (ps, wa) h.before h.after h.inside in
+      let k = kept_one n r N L (Choose all) I (ps, wa) h.before h.after h.inside in
       let m = kept_arms n r N L b rest wr I at.inside in
       let x = at.going (λ s. 1) in
       let y = at.stopping (λ x. 1) in
@@ -128,7 +128,7 @@ module _ (n : ℕ) (r : Option ℕ) (all : ArmList) (ps : AreParts (parts_of all
               let at = l N L I J Np s t h in
               let f = block_flow n r a (scaled u I) in
               let q = y N L (scaled u I) at.gone Np (side_stands N L I J Np s h at) at.stopped (first_arm n r N L b p a rest I at.inside) in
-              let k = kept_one n r N L (choice_among all) I (ps, wa) h.before h.after h.inside in
+              let k = kept_one n r N L (Choose all) I (ps, wa) h.before h.after h.inside in
               merge_blamed N L out left E error at.table f.next (whole I).next J Np (z E) t at.stands q.0
               (λ U. let i = at.going U in let o = amount_append N U f.next (arms_flow n r b rest I).next in omega arith) (omega arith) h.few_after (omega arith)
 

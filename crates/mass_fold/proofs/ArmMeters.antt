@@ -1,12 +1,12 @@
 -- What a meter counts in a choice among several, arm by arm.
 use Rattle.std.proofs.Common.{◌≡◌, ℕ, ◌*◌, ◌<◌, Option, subst}
 use Rattle.std.specs.List.{sum}
-use Rattle.gcl_core.specs.Arms.{parts_of}
-use Rattle.gcl_core.specs.Parts.{AreParts, partial_sums}
-use Rattle.gcl_core.specs.Syntax.{choice_among, Statements, ArmList, no_arm, arm}
-use Rattle.gcl_core.specs.Blocks.{End}
-use Rattle.gcl_core.specs.Fractions.{Fraction}
-use Rattle.gcl_core.specs.WeightedEnds.{Weighted, scaled, class_weight}
+use Rattle.gcl_core.specs.meaning.Arms.{parts_of}
+use Rattle.gcl_core.specs.meaning.Parts.{AreParts, partial_sums}
+use Rattle.gcl_core.specs.meaning.Syntax.{Choose, Statements, ArmList, no_arm, arm}
+use Rattle.gcl_core.specs.meaning.Blocks.{End}
+use Rattle.gcl_core.specs.weighing.Fractions.{Fraction}
+use Rattle.gcl_core.specs.weighing.WeightedEnds.{Weighted, scaled, class_weight}
 use Rattle.gcl_core.proofs.PartialSums.{last_is}
 use Rattle.frac128.specs.Fraction.{IsEqual}
 use Rattle.mass_tables.specs.Tables.{Table, Flow, statement_flow, block_flow, arms_flow}
@@ -33,10 +33,10 @@ module _ (n : ℕ) (r : Option ℕ) (all : ArmList) (ps : AreParts (parts_of all
   b = sum (parts_of all)
 
   abbrev whole : Table → Flow
-  whole I = statement_flow n r (choice_among all) I
+  whole I = statement_flow n r (Choose all) I
 
   abbrev draws : Table → Reached
-  draws I = statement_draws n r (choice_among all) I
+  draws I = statement_draws n r (Choose all) I
 
   pub metered_start : (mid : Meter) → CountsDraws r b (partial_sums (parts_of all)) es m mid → ArmsMetered r whole draws (arms_draws n r b all) es E m mid
   metered_start mid x = record {

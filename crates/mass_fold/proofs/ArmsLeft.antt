@@ -5,11 +5,11 @@ use Rattle.std.proofs.lemmas.List.Sums.{sum_by-cons}
 use Rattle.std.specs.List.{sum}
 use Rattle.gcl_core.specs.declared.rules.TheConstants.{MOST_ARMS}
 use Rattle.gcl_core.specs.declared.syntax.Block.{Block}
-use Rattle.gcl_core.specs.Arms.{parts_of}
-use Rattle.gcl_core.specs.Draw.{last_end}
-use Rattle.gcl_core.specs.Parts.{sums_from, partial_sums}
-use Rattle.gcl_core.specs.Syntax.{no_arm, arm}
-use Rattle.gcl_core.specs.Views.{statements_of, arm_list_of}
+use Rattle.gcl_core.specs.meaning.Arms.{parts_of}
+use Rattle.gcl_core.specs.meaning.Draw.{last_end}
+use Rattle.gcl_core.specs.meaning.Parts.{sums_from, partial_sums}
+use Rattle.gcl_core.specs.meaning.Syntax.{no_arm, arm}
+use Rattle.gcl_core.specs.meaning.Views.{statements_of, arm_list_of}
 use Rattle.gcl_core.proofs.PartialSums.{last_is}
 use Rattle.gcl_core.proofs.ArmLists.{as_many_arms, parts_more, no_parts}
 

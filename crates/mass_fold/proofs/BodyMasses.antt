@@ -2,12 +2,12 @@
 use Rattle.std.proofs.Common.{◌≡◌, ℕ, ◌+◌, ◌*◌, ◌<◌, Bool, true, false, cond, [], ◌∷◌, Option, refl, sym, ap, ◌∙◌, subst, arith}
 use Rattle.std.specs.Prelude.{◌==◌}
 use Rattle.std.proofs.lemmas.Bool.Decides.{nat_tests}
-use Rattle.gcl_core.specs.Syntax.{Statements}
-use Rattle.gcl_core.specs.Value.{State}
-use Rattle.gcl_core.specs.Blocks.{End, on}
-use Rattle.gcl_core.specs.Fractions.{Fraction, one, times}
-use Rattle.gcl_core.specs.WeightedEnds.{Weighted, sure, scaled, weighted_ends}
-use Rattle.gcl_core.specs.Mass.{sum_of, is_failed}
+use Rattle.gcl_core.specs.meaning.Syntax.{Statements}
+use Rattle.gcl_core.specs.meaning.Value.{State}
+use Rattle.gcl_core.specs.meaning.Blocks.{End, on}
+use Rattle.gcl_core.specs.weighing.Fractions.{Fraction, one, times}
+use Rattle.gcl_core.specs.weighing.WeightedEnds.{Weighted, sure, scaled, weighted_ends}
+use Rattle.gcl_core.specs.weighing.Mass.{sum_of, is_failed}
 use Rattle.frac128.specs.Fraction.{IsEqual}
 use Rattle.mass_tables.specs.Tables.{Table, block_flow}
 use Rattle.mass_tables.specs.Scale.{whole, Wholes, Within, amount}

@@ -6,11 +6,11 @@ use mir.Val.{SFits}
 use Rattle.gcl_core.specs.declared.answers.Fault.{Fault}
 use Rattle.gcl_core.specs.declared.answers.Fault.TheVariants.{BadBound}
 use Rattle.gcl_core.specs.declared.answers.Limit.TheVariants.{Attempts}
-use Rattle.gcl_core.specs.Draw.{bits_for}
-use Rattle.gcl_core.specs.Value.{State, Value}
-use Rattle.gcl_core.specs.Blocks.{fault, limit, by_value, by_bound}
-use Rattle.gcl_core.specs.Fractions.{Fraction, one}
-use Rattle.gcl_core.specs.WeightedEnds.{class_weight, no_class_weight}
+use Rattle.gcl_core.specs.meaning.Draw.{bits_for}
+use Rattle.gcl_core.specs.meaning.Value.{State, Value}
+use Rattle.gcl_core.specs.meaning.Blocks.{fault, limit, by_value, by_bound}
+use Rattle.gcl_core.specs.weighing.Fractions.{Fraction, one}
+use Rattle.gcl_core.specs.weighing.WeightedEnds.{class_weight, no_class_weight}
 use Rattle.mass_tables.specs.Counts.{sum_below}
 use Rattle.mass_tables.proofs.Draws.{power_pos}
 use Rattle.mass_fold.specs.declared.error.MassError.{MassError}

@@ -1,9 +1,9 @@
 -- Draws on a table, entry by entry.
 use Rattle.std.proofs.Common.{◌≡◌, ℕ, zero, suc, ◌+◌, ◌-◌, ◌*◌, ◌≤◌, ◌<◌, ◌^◌, pos, [], ◌∷◌, Some, None, slice_set, refl, sym, ap, ◌∙◌, subst, arith}
 use Rattle.std.proofs.Math.Nat.{mul-le-mul_left}
-use Rattle.gcl_core.specs.Value.{State}
-use Rattle.gcl_core.specs.Blocks.{End}
-use Rattle.gcl_core.specs.Fractions.{Fraction, times, one}
+use Rattle.gcl_core.specs.meaning.Value.{State}
+use Rattle.gcl_core.specs.meaning.Blocks.{End}
+use Rattle.gcl_core.specs.weighing.Fractions.{Fraction, times, one}
 use Rattle.frac128.specs.Fraction.{IsEqual, product_of}
 use Rattle.frac128.proofs.Divisors.{product_pos}
 use Rattle.mass_tables.specs.Scale.{whole, Whole, amount}

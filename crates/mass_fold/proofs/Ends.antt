@@ -1,7 +1,7 @@
 -- One more weight among what has ended.
 use Rattle.std.proofs.Common.{◌≡◌, ℕ, ◌+◌, ◌*◌, ◌≤◌, ◌<◌, ◌^◌, Some, None, refl, sym, ap, ◌∙◌, subst, arith}
-use Rattle.gcl_core.specs.Blocks.{End}
-use Rattle.gcl_core.specs.Fractions.{Fraction}
+use Rattle.gcl_core.specs.meaning.Blocks.{End}
+use Rattle.gcl_core.specs.weighing.Fractions.{Fraction}
 use Rattle.frac128.specs.Fraction.{InLowest, sum_of}
 use Rattle.mass_tables.specs.Scale.{whole, Whole, amount, Wholes}
 use Rattle.mass_tables.proofs.Wholes.{sum_whole, sum_refused}

@@ -1,9 +1,9 @@
 -- What a fold asks of a program, and statements as their views.
 use Rattle.std.proofs.Common.{◌≡◌, ℕ, suc, ◌+◌, ◌≤◌, ◌<◌, List, [], ◌∷◌, Option, length, drop, get_or, drop-cons, refl, sym, ap, ◌∙◌, subst, arith}
 use Rattle.gcl_core.specs.declared.syntax.Stmt.{Stmt}
-use Rattle.gcl_core.specs.Views.{statement_of, list_of}
-use Rattle.gcl_core.specs.Syntax.{Statement, Statements, ◌▸◌}
-use Rattle.gcl_core.specs.Bounds.{StatementIsWeighed, BlockIsWeighed, StatementBelow, BlockBelow}
+use Rattle.gcl_core.specs.meaning.Views.{statement_of, list_of}
+use Rattle.gcl_core.specs.meaning.Syntax.{Statement, Statements, ◌▸◌}
+use Rattle.gcl_core.specs.meaning.Bounds.{StatementIsWeighed, BlockIsWeighed, StatementBelow, BlockBelow}
 use Rattle.mass_tables.specs.Tables.{statement_flow}
 use Rattle.mass_fold.specs.declared.error.MassError.{MassError}
 use Rattle.mass_fold.specs.declared.ended.Ended.{Ended}

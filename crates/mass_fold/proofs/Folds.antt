@@ -4,13 +4,13 @@ use Rattle.std.specs.Map.{keys_of}
 use Rattle.std.specs.List.Sorted.{IsStrictlySortedBy}
 use Rattle.std.proofs.Math.ListN.{drop_of_length-le}
 use Rattle.gcl_core.specs.declared.syntax.Stmt.{Stmt}
-use Rattle.gcl_core.specs.Views.{list_of}
-use Rattle.gcl_core.specs.Syntax.{Expression, Statement, skip, assign, branch, uniform, observe, Statements, done, ◌▸◌}
-use Rattle.gcl_core.specs.Bounds.{StatementIsWeighed, BlockIsWeighed}
-use Rattle.gcl_core.specs.Value.{State, Value, value_of, is_zero}
-use Rattle.gcl_core.specs.Blocks.{End, on, failed, fault, by_value}
-use Rattle.gcl_core.specs.Fractions.{Fraction}
-use Rattle.gcl_core.specs.WeightedEnds.{Weighted, sure, taken_on, statement_weighted}
+use Rattle.gcl_core.specs.meaning.Views.{list_of}
+use Rattle.gcl_core.specs.meaning.Syntax.{Expression, Statement, Skip, Set, If, Uniform, Observe, Statements, done, ◌▸◌}
+use Rattle.gcl_core.specs.meaning.Bounds.{StatementIsWeighed, BlockIsWeighed}
+use Rattle.gcl_core.specs.meaning.Value.{State, Value, value_of, is_zero}
+use Rattle.gcl_core.specs.meaning.Blocks.{End, on, failed, fault, by_value}
+use Rattle.gcl_core.specs.weighing.Fractions.{Fraction}
+use Rattle.gcl_core.specs.weighing.WeightedEnds.{Weighted, sure, taken_on, statement_weighted}
 use Rattle.mass_tables.specs.Tables.{Table, Flow, going_on, gone, holds, fails, only, faults, each, statement_flow, block_flow, states}
 use Rattle.mass_tables.specs.Scale.{Wholes, TablesWithin, Within, amount, weight}
 use Rattle.mass_tables.specs.Counts.{moved, stopped, kept_if, none_kept, none_stopped, all_kept, all_stopped, part_at, rest_at, drawn, undrawn, multiplied}
@@ -23,7 +23,7 @@ use Rattle.mass_fold.specs.declared.ended.Gone.TheVariants as gone_kind
 use Rattle.mass_fold.specs.declared.ended.Ended.{Ended}
 use Rattle.mass_fold.specs.Amounts.{Entries, held, Held, Blames, order}
 use Rattle.mass_fold.specs.Ended.{end_of, rows_of}
-use Rattle.mass_fold.specs.Steps.{StepsTo, StepBlames, Shares, shared, Draws, UniformTo, UniformBlames}
+use Rattle.mass_fold.specs.Steps.{StepsTo, StepBlames, Shares, shared, BothWhole, UniformTo, UniformBlames}
 use Rattle.mass_fold.specs.Fold.{Stands, EndStands, FoldsTo, FoldBlames, Around, FoldsOne, OneBlames}
 use Rattle.mass_fold.proofs.Shares.{shares_stand, part_above, rest_above, draws_in, each_state}
 
@@ -161,8 +161,8 @@ module _ (n : ℕ) (r : Option ℕ) where
       (λ G. amount_going N G (taken_on I step) ∙ amount_each N (at_on G) step x I h ∙ amount_ext N _ _ I (p G))
       (λ G. amount_gone N G (taken_on I step) ∙ amount_each N (at_gone G) step x I h ∙ amount_ext N _ _ I (q G))
 
-  pub fold_skip : (es : Entries) (E : Ended) → FoldsOne (statement_flow n r skip) es E es E
-  fold_skip es E = fold_each skip (statement_weighted n r skip) (λ s. on s) (λ I. []) all_kept none_stopped es E es E (λ s. refl) (λ G s. refl) (λ G s. refl)
+  pub fold_skip : (es : Entries) (E : Ended) → FoldsOne (statement_flow n r Skip) es E es E
+  fold_skip es E = fold_each Skip (statement_weighted n r Skip) (λ s. on s) (λ I. []) all_kept none_stopped es E es E (λ s. refl) (λ G s. refl) (λ G s. refl)
       (λ N Np a b w. record { kept = b; ended = w; going = λ G. omega arith; stopping = λ G. let z = held_none N es in omega arith })
 
   set_on : (x : ℕ) (G : State → ℕ) (v : Value) (s : State) → at_on G (set_end x v s) ≡ by_value (λ f. 0) v (λ z. G (slice_set s x z))
@@ -173,16 +173,16 @@ module _ (n : ℕ) (r : Option ℕ) where
   set_gone x G (Ok z) s = refl
   set_gone x G (Err f) s = refl
 
-  pub fold_assign : (x : ℕ) (e : Expression) (es : Entries) (E : Ended) (fs : Entries) (F : Ended) → StepsTo (moved x (value_of e)) (stopped (value_of e)) [] es E fs F → FoldsOne (statement_flow n r (assign x e)) es E fs F
-  fold_assign x e es E fs F d = fold_each (assign x e) (statement_weighted n r (assign x e)) (λ s. set_end x (value_of e s) s) (λ I. []) (moved x (value_of e)) (stopped (value_of e)) es E fs F
+  pub fold_assign : (x : ℕ) (e : Expression) (es : Entries) (E : Ended) (fs : Entries) (F : Ended) → StepsTo (moved x (value_of e)) (stopped (value_of e)) [] es E fs F → FoldsOne (statement_flow n r (Set x e)) es E fs F
+  fold_assign x e es E fs F d = fold_each (Set x e) (statement_weighted n r (Set x e)) (λ s. set_end x (value_of e s) s) (λ I. []) (moved x (value_of e)) (stopped (value_of e)) es E fs F
       (λ s. set_sure x (value_of e s) s) (λ G s. set_on x G (value_of e s) s) (λ G s. set_gone x G (value_of e s) s) d
 
-  pub assign_blames : (x : ℕ) (e : Expression) (es : Entries) (E : Ended) (error : MassError) → StepBlames (moved x (value_of e)) (stopped (value_of e)) [] es E error → OneBlames (statement_flow n r (assign x e)) es E error
+  pub assign_blames : (x : ℕ) (e : Expression) (es : Entries) (E : Ended) (error : MassError) → StepBlames (moved x (value_of e)) (stopped (value_of e)) [] es E error → OneBlames (statement_flow n r (Set x e)) es E error
   assign_blames x e es E error d N L I J Np s t w m =
-      let step = statement_weighted n r (assign x e) in
+      let step = statement_weighted n r (Set x e) in
       let end : State → End = λ s. set_end x (value_of e s) s in
       let one : (s : State) → step s ≡ sure (end s) = λ s. set_sure x (value_of e s) s in
-      let k = kept_one n r N L (assign x e) I tt w.before w.after w.inside in
+      let k = kept_one n r N L (Set x e) I tt w.before w.after w.inside in
       let a : (G : State → ℕ) → amount N G (going_on (taken_on I step)) ≡ amount N (moved x (value_of e) G) I = λ G. amount_going N G (taken_on I step) ∙ amount_each N (at_on G) step end I one ∙ amount_ext N _ _ I (λ s. set_on x G (value_of e s) s) in
       let b : amount N (λ x. 1) (gone (taken_on I step)) ≡ amount N (stopped (value_of e) (λ x. 1)) I = amount_gone N (λ x. 1) (taken_on I step) ∙ amount_each N (at_gone (λ x. 1)) step end I one ∙ amount_ext N _ _ I (λ s. set_gone x (λ x. 1) (value_of e s) s) in
       step_blamed N L (moved x (value_of e)) (stopped (value_of e)) es E error I (going_on (taken_on I step)) J Np d s t (λ G. let z = a G in omega arith) (omega arith) w.few_after (omega arith)
@@ -193,8 +193,8 @@ module _ (n : ℕ) (r : Option ℕ) where
 
   pub fold_observe : (e : Expression) (es : Entries) (E : Ended) (first second : Entries) (F G : Ended) → StepsTo (kept_if (holds (value_of e))) (stopped (value_of e)) [] es E first F →
       StepsTo (kept_if (fails (value_of e))) (stopped (value_of e)) [] es E second F → StepsTo none_kept (all_stopped (end_of gone_kind.Failed)) [] second F [] G →
-      FoldsOne (statement_flow n r (observe e)) es E first G
-  fold_observe e es E first second F G d c a = fold_each (observe e) (statement_weighted n r (observe e)) (λ s. seen_end (value_of e s) s) (λ I. []) (kept_if (holds (value_of e))) (seen_stop e) es E first G
+      FoldsOne (statement_flow n r (Observe e)) es E first G
+  fold_observe e es E first second F G d c a = fold_each (Observe e) (statement_weighted n r (Observe e)) (λ s. seen_end (value_of e s) s) (λ I. []) (kept_if (holds (value_of e))) (seen_stop e) es E first G
       (λ s. seen_sure (value_of e s) s) (λ H s. by_on H (value_of e s) s) (λ H s. by_gone H (value_of e s) s)
       (λ N Np b h w. let p = d N Np tt h w in let q = c N Np tt h w in let t = a N Np tt q.kept p.ended in
       record {
@@ -243,11 +243,11 @@ module _ (n : ℕ) (r : Option ℕ) where
   end_blamed x es E e N L I J Np d s t m =
       d N L [] Np tt s.kept t.kept (λ G. let z = held_none N es in omega arith) (omega arith) (omega arith) (let a = s.same (λ s. 1) in let b = t.same (λ x. 1) in omega arith)
 
-  pub observe_blames : (e : Expression) (es : Entries) (E : Ended) (error : MassError) → StepBlames all_kept (stopped (value_of e)) [] es E error → OneBlames (statement_flow n r (observe e)) es E error
+  pub observe_blames : (e : Expression) (es : Entries) (E : Ended) (error : MassError) → StepBlames all_kept (stopped (value_of e)) [] es E error → OneBlames (statement_flow n r (Observe e)) es E error
   observe_blames e es E error d N L I J Np s t w m = split_blamed (value_of e) es E error N L I J Np d s t w.few_before m
 
   pub failed_blames : (e : Expression) (es first second : Entries) (E F : Ended) (error : MassError) → StepsTo (kept_if (holds (value_of e))) (stopped (value_of e)) [] es E first F →
-      StepsTo (kept_if (fails (value_of e))) (stopped (value_of e)) [] es E second F → StepBlames none_kept (all_stopped (end_of gone_kind.Failed)) [] second F error → OneBlames (statement_flow n r (observe e)) es E error
+      StepsTo (kept_if (fails (value_of e))) (stopped (value_of e)) [] es E second F → StepBlames none_kept (all_stopped (end_of gone_kind.Failed)) [] second F error → OneBlames (statement_flow n r (Observe e)) es E error
   failed_blames e es first second E F error d c b N L I J Np s t w m =
       let v = value_of e in
       let two = looked_second v es first second E F d c N I J Np s t in
@@ -256,11 +256,11 @@ module _ (n : ℕ) (r : Option ℕ) where
       end_blamed failed second F error N L (only (fails v) I) (J ++ faults v I) Np b two.0 two.1 (omega arith)
 
   -- ---- branches
-  pub branch_blames : (e : Expression) (a c : Statements) (es : Entries) (E : Ended) (error : MassError) → StepBlames all_kept (stopped (value_of e)) [] es E error → OneBlames (statement_flow n r (branch e a c)) es E error
+  pub branch_blames : (e : Expression) (a c : Statements) (es : Entries) (E : Ended) (error : MassError) → StepBlames all_kept (stopped (value_of e)) [] es E error → OneBlames (statement_flow n r (If e a c)) es E error
   branch_blames e a c es E error d N L I J Np s t w m = split_blamed (value_of e) es E error N L I J Np d s t w.few_before m
 
   module _ (e : Expression) (a c : Statements) (es first second : Entries) (E F : Ended) (d : StepsTo (kept_if (holds (value_of e))) (stopped (value_of e)) [] es E first F) (k : StepsTo (kept_if (fails (value_of e))) (stopped (value_of e)) [] es E second F) where
-    pub fold_branch : (ls cs rs : Entries) (G H : Ended) → FoldsTo (block_flow n r a) first F ls G → FoldsTo (block_flow n r c) second G cs H → ((E : Ended) → StepsTo all_kept none_stopped ls cs E rs E) → FoldsOne (statement_flow n r (branch e a c)) es E rs H
+    pub fold_branch : (ls cs rs : Entries) (G H : Ended) → FoldsTo (block_flow n r a) first F ls G → FoldsTo (block_flow n r c) second G cs H → ((E : Ended) → StepsTo all_kept none_stopped ls cs E rs E) → FoldsOne (statement_flow n r (If e a c)) es E rs H
     fold_branch ls cs rs G H x y m N L I J Np s t w =
         let v = value_of e in
         let A = only (holds v) I in
@@ -275,7 +275,7 @@ module _ (n : ℕ) (r : Option ℕ) where
           end_along N H _ _ (λ K. regroup K N (J ++ faults v I) fa.ended fc.ended ∙ regroup K N J (faults v I) (fa.ended ++ fc.ended)) o.1,
         )
 
-    pub first_blames : (error : MassError) → FoldBlames (block_flow n r a) first F error → OneBlames (statement_flow n r (branch e a c)) es E error
+    pub first_blames : (error : MassError) → FoldBlames (block_flow n r a) first F error → OneBlames (statement_flow n r (If e a c)) es E error
     first_blames error x N L I J Np s t w m =
         let v = value_of e in
         let p = looked_first v es first second E F d k N I J Np s t in
@@ -284,7 +284,7 @@ module _ (n : ℕ) (r : Option ℕ) where
         x N L (only (holds v) I) (J ++ faults v I) Np p.0 p.1 (both_first N L (faults v I) (block_flow n r a (only (holds v) I)) (block_flow n r c (only (fails v) I)) w.inside) (omega arith)
 
     module _ (ls : Entries) (G : Ended) (x : FoldsTo (block_flow n r a) first F ls G) (wa : BlockIsWeighed a) where
-      pub second_blames : (error : MassError) → FoldBlames (block_flow n r c) second G error → OneBlames (statement_flow n r (branch e a c)) es E error
+      pub second_blames : (error : MassError) → FoldBlames (block_flow n r c) second G error → OneBlames (statement_flow n r (If e a c)) es E error
       second_blames error y N L I J Np s t w m =
           let v = value_of e in
           let A = only (holds v) I in
@@ -301,7 +301,7 @@ module _ (n : ℕ) (r : Option ℕ) where
           let z = kept_all n r N L a wa A wf in
           y N L C ((J ++ faults v I) ++ fa.ended) Np q.0 u.1 (both_second N L (faults v I) fa fc w.inside) (omega arith)
 
-      pub both_blame : (cs : Entries) (H : Ended) (error : MassError) → BlockIsWeighed c → FoldsTo (block_flow n r c) second G cs H → ((E : Ended) → StepBlames all_kept none_stopped ls cs E error) → OneBlames (statement_flow n r (branch e a c)) es E error
+      pub both_blame : (cs : Entries) (H : Ended) (error : MassError) → BlockIsWeighed c → FoldsTo (block_flow n r c) second G cs H → ((E : Ended) → StepBlames all_kept none_stopped ls cs E error) → OneBlames (statement_flow n r (If e a c)) es E error
       both_blame cs H error wc y b N L I J Np s t w m =
           let v = value_of e in
           let A = only (holds v) I in
@@ -312,12 +312,12 @@ module _ (n : ℕ) (r : Option ℕ) where
           let q = looked_second v es first second E F d k N I J Np s t in
           let u = x N L A (J ++ faults v I) Np p.0 p.1 (both_first N L (faults v I) fa fc w.inside) in
           let o = y N L C ((J ++ faults v I) ++ fa.ended) Np q.0 u.1 (both_second N L (faults v I) fa fc w.inside) in
-          let z = kept_one n r N L (branch e a c) I (wa, wc) w.before w.after w.inside in
+          let z = kept_one n r N L (If e a c) I (wa, wc) w.before w.after w.inside in
           merge_blamed N L ls cs E error fa.next fc.next (fa.next ++ fc.next) J Np (b E) t u.0 o.0 (λ G. let i = amount_append N G fa.next fc.next in omega arith) (omega arith) w.few_after (omega arith)
 
   -- ---- uniform draws
   module _ (x : ℕ) (e : Expression) (es : Entries) (E : Ended) (o : IsStrictlySortedBy order (keys_of es)) where
-    drawn_shares : (N L : ℕ) (I : Table) → 0 < N → Stands N es I → Around N L I (statement_flow n r (uniform x e) I) →
+    drawn_shares : (N L : ℕ) (I : Table) → 0 < N → Stands N es I → Around N L I (statement_flow n r (Uniform x e) I) →
         (Shares N (part_at (value_of e) r) es × ((G : State → ℕ) → shared N (part_at (value_of e) r) G es ≡ amount N G (multiplied (part_at (value_of e) r) I)))
         × (Shares N (rest_at (value_of e) r) es × ((G : State → ℕ) → shared N (rest_at (value_of e) r) G es ≡ amount N G (multiplied (rest_at (value_of e) r) I)))
     drawn_shares N L I Np s w =
@@ -325,21 +325,21 @@ module _ (n : ℕ) (r : Option ℕ) where
         let m = drawn_whole x v r N I w.before w.after w.inside.ended in
         (shares_stand (part_at v r) (part_above v r) N es I Np o w.before m.0 s, shares_stand (rest_at v r) (rest_above v r) N es I Np o w.before m.1 s)
 
-    pub fold_draw : (fs : Entries) (F : Ended) → UniformTo x (value_of e) r es E fs F → FoldsOne (statement_flow n r (uniform x e)) es E fs F
+    pub fold_draw : (fs : Entries) (F : Ended) → UniformTo x (value_of e) r es E fs F → FoldsOne (statement_flow n r (Uniform x e)) es E fs F
     fold_draw fs F d N L I J Np s t w =
         let v = value_of e in
         let h = drawn_shares N L I Np s w in
         let u = d N Np s.kept t.kept h.0.0 h.1.0 in (
           record { kept = u.kept; same = λ G. let a = u.going G in let b = h.0.1 (drawn x v G) in let c = drawn_next x v r N G I in omega arith },
-          record { kept = u.ended; same = λ G. let a = u.stopping G in let b = h.1.1 (undrawn v G) in let c = drawn_ended x v r N G I in let k = t.same G in let i = amount_append N G J (statement_flow n r (uniform x e) I).ended in omega arith },
+          record { kept = u.ended; same = λ G. let a = u.stopping G in let b = h.1.1 (undrawn v G) in let c = drawn_ended x v r N G I in let k = t.same G in let i = amount_append N G J (statement_flow n r (Uniform x e) I).ended in omega arith },
         )
 
-    pub draw_blames : (error : MassError) → UniformBlames x (value_of e) r es E error → OneBlames (statement_flow n r (uniform x e)) es E error
+    pub draw_blames : (error : MassError) → UniformBlames x (value_of e) r es E error → OneBlames (statement_flow n r (Uniform x e)) es E error
     draw_blames error d N L I J Np s t w m =
         let v = value_of e in
-        let f = statement_flow n r (uniform x e) I in
+        let f = statement_flow n r (Uniform x e) I in
         let h = drawn_shares N L I Np s w in
-        let k = kept_one n r N L (uniform x e) I tt w.before w.after w.inside in
-        let dr = each_state (Draws N (part_at v r) (rest_at v r)) N es I Np s (draws_in N v r I w.inside.draws) in
+        let k = kept_one n r N L (Uniform x e) I tt w.before w.after w.inside in
+        let dr = each_state (BothWhole N (part_at v r) (rest_at v r)) N es I Np s (draws_in N v r I w.inside.draws) in
         d N L f.next Np s.kept t.kept h.0.0 h.1.0 dr (λ G. let b = h.0.1 (drawn x v G) in let c = drawn_next x v r N G I in omega arith) (omega arith) w.few_after
         (let b = h.1.1 (undrawn v (λ x. 1)) in let c = drawn_ended x v r N (λ x. 1) I in let z = t.same (λ x. 1) in omega arith)

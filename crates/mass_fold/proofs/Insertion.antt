@@ -8,7 +8,7 @@ use Rattle.std.specs.List.Sorted.{IsStrictlySortedBy}
 use Rattle.std.proofs.lemmas.Map.{lookup-none}
 use Rattle.std.proofs.lemmas.Map.Entries.{none_below_head}
 use Rattle.std.proofs.lemmas.Map.Keys.{sorted_tail}
-use Rattle.gcl_core.specs.Fractions.{Fraction}
+use Rattle.gcl_core.specs.weighing.Fractions.{Fraction}
 use Rattle.frac128.specs.Fraction.{InLowest, sum_of}
 use Rattle.frac128.proofs.Divisors.{product_pos, factor_pos}
 use Rattle.mass_tables.specs.Scale.{whole, Whole}

@@ -9,8 +9,8 @@ use Rattle.std.proofs.lemmas.List.Kept.{AllPairs-cons}
 use Rattle.std.proofs.lemmas.Map.Keys.{sorted_tail}
 use Rattle.std.proofs.lemmas.Map.Views.{All-after_first}
 use Rattle.gcl_core.specs.declared.answers.Outcome.{Outcome}
-use Rattle.gcl_core.specs.Fractions.{Fraction}
-use Rattle.gcl_core.specs.Order.{is_before}
+use Rattle.gcl_core.specs.weighing.Fractions.{Fraction}
+use Rattle.gcl_core.specs.meaning.Order.{is_before}
 use Rattle.frac128.specs.Fraction.{InLowest}
 use Rattle.mass_fold.specs.Rows.{Rows, outcomes_of, Ascending, EachLowest}
 use Rattle.mass_fold.proofs.OutcomeKeys.{Tells}

@@ -1,11 +1,11 @@
 -- Loops and choices of a fold.
 use Rattle.std.proofs.Common.{◌≡◌, ℕ, zero, suc, ◌+◌, ◌≤◌, ◌<◌, [], ◌++◌, Option, refl, sym, ap, ◌∙◌, subst, arith}
 use Rattle.gcl_core.specs.declared.answers.Limit.TheVariants as limit_kind
-use Rattle.gcl_core.specs.Syntax.{Expression, Statements}
-use Rattle.gcl_core.specs.Bounds.{BlockIsWeighed}
-use Rattle.gcl_core.specs.Value.{State, Value, value_of}
-use Rattle.gcl_core.specs.Blocks.{End, limit}
-use Rattle.gcl_core.specs.WeightedEnds.{Weighted}
+use Rattle.gcl_core.specs.meaning.Syntax.{Expression, Statements}
+use Rattle.gcl_core.specs.meaning.Bounds.{BlockIsWeighed}
+use Rattle.gcl_core.specs.meaning.Value.{State, Value, value_of}
+use Rattle.gcl_core.specs.meaning.Blocks.{End, limit}
+use Rattle.gcl_core.specs.weighing.WeightedEnds.{Weighted}
 use Rattle.mass_tables.specs.Tables.{Table, Flow, holds, fails, only, faults, all_end, loop_flow, block_flow, states}
 use Rattle.mass_tables.specs.Scale.{Within, amount, weight}
 use Rattle.mass_tables.specs.Counts.{stopped, kept_if, none_kept, none_stopped, all_kept, all_stopped}

@@ -3,12 +3,12 @@ use Rattle.std.proofs.Common.{◌≡◌, ℕ, zero, suc, ◌*◌, ◌≤◌, ◌
 use Rattle.std.proofs.Math.ListN.{drop_of_length-le}
 use Rattle.gcl_core.specs.declared.syntax.Stmt.{Stmt}
 use Rattle.gcl_core.specs.declared.syntax.Weight.{Weight}
-use Rattle.gcl_core.specs.Views.{list_of}
-use Rattle.gcl_core.specs.Syntax.{Expression, Statement, branch, choice, uniform, Statements, done, ◌▸◌}
-use Rattle.gcl_core.specs.Bounds.{IsWeight, StatementIsWeighed}
-use Rattle.gcl_core.specs.Value.{State, Value, value_of}
-use Rattle.gcl_core.specs.Blocks.{by_value, by_bound, choice_ends, uniform_ends}
-use Rattle.gcl_core.specs.Draw.{last_end}
+use Rattle.gcl_core.specs.meaning.Views.{list_of}
+use Rattle.gcl_core.specs.meaning.Syntax.{Expression, Statement, If, Choice, Uniform, Statements, done, ◌▸◌}
+use Rattle.gcl_core.specs.meaning.Bounds.{IsWeight, StatementIsWeighed}
+use Rattle.gcl_core.specs.meaning.Value.{State, Value, value_of}
+use Rattle.gcl_core.specs.meaning.Blocks.{by_value, by_bound}
+use Rattle.gcl_core.specs.meaning.Draw.{last_end, choice_ends, uniform_ends}
 use Rattle.gcl_core.proofs.EqualClasses.{last_of_equal}
 use Rattle.mass_tables.specs.Tables.{Table, Flow, holds, fails, only, faults, statement_flow, block_flow}
 use Rattle.mass_tables.specs.Reached.{Reached, drawn_each, drawn_bound, statement_draws, block_draws}
@@ -68,7 +68,7 @@ bound_priced r M v (e ∷ I) k =
 module _ (n : ℕ) (r : Option ℕ) where
   -- a uniform draw
   pub uniform_meters : (x : ℕ) (e : Expression) (es : Entries) (E : Ended) (m m' : Meter) → CountsAll (IsBoundPriced (value_of e) r) (bound_price (value_of e) r) es m m' →
-      MetersOne r (statement_flow n r (uniform x e)) (statement_draws n r (uniform x e)) es E m m'
+      MetersOne r (statement_flow n r (Uniform x e)) (statement_draws n r (Uniform x e)) es E m m'
   uniform_meters x e es E m m' c N M L I J Np Mp s t w k =
       let v = value_of e in
       counted_as (N * M) _ _ m m' (s.same (bound_price v r M) ∙ sym (amount_drawn_bound N (price r M) v I))
@@ -115,7 +115,7 @@ module _ (n : ℕ) (r : Option ℕ) where
   -- ---- both sides of a branch, and of a choice
   pub branch_meters : (e : Expression) (a c : Statements) (es first second : Entries) (E F : Ended) → StepsTo (kept_if (holds (value_of e))) (stopped (value_of e)) [] es E first F →
       StepsTo (kept_if (fails (value_of e))) (stopped (value_of e)) [] es E second F → (ls : Entries) (G : Ended) (m now m' : Meter) → FoldsTo (block_flow n r a) first F ls G →
-      Meters r (block_flow n r a) (block_draws n r a) first F m now → Meters r (block_flow n r c) (block_draws n r c) second G now m' → MetersOne r (statement_flow n r (branch e a c)) (statement_draws n r (branch e a c)) es E m m'
+      Meters r (block_flow n r a) (block_draws n r a) first F m now → Meters r (block_flow n r c) (block_draws n r c) second G now m' → MetersOne r (statement_flow n r (If e a c)) (statement_draws n r (If e a c)) es E m m'
   branch_meters e a c es first second E F d k ls G m now m' x y z N M L I J Np Mp s t w pr =
       let v = value_of e in
       let A = only (holds v) I in
@@ -132,7 +132,7 @@ module _ (n : ℕ) (r : Option ℕ) where
 
   pub choice_meters : (p : Weight) (a c : Statements) (w : IsWeight p) (es : Entries) (E : Ended) (first second : Entries) (F : Ended) → SidesTo p r es E first second F → (ls : Entries) (G : Ended) (m mid now m' : Meter) →
       CountsDraws r p.den (choice_ends p) es m mid → FoldsTo (block_flow n r a) first F ls G →
-      Meters r (block_flow n r a) (block_draws n r a) first F mid now → Meters r (block_flow n r c) (block_draws n r c) second G now m' → MetersOne r (statement_flow n r (choice p a c)) (statement_draws n r (choice p a c)) es E m m'
+      Meters r (block_flow n r a) (block_draws n r a) first F mid now → Meters r (block_flow n r c) (block_draws n r c) second G now m' → MetersOne r (statement_flow n r (Choice p a c)) (statement_draws n r (Choice p a c)) es E m m'
   choice_meters p a c w es E first second F d ls G m mid now m' h x y z N M L I J Np Mp s t wi pr =
       let A = choices.A n r p a c w es E I in
       let C = choices.C n r p a c w es E I in

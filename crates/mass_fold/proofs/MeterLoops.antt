@@ -1,10 +1,10 @@
 -- What a meter counts in a loop, turn by turn.
 use Rattle.std.proofs.Common.{◌≡◌, ℕ, zero, suc, ◌+◌, ◌*◌, ◌<◌, [], ◌++◌, Option, refl, sym, ap, ◌∙◌, subst, arith}
-use Rattle.gcl_core.specs.Syntax.{Expression, Statements}
-use Rattle.gcl_core.specs.Bounds.{BlockIsWeighed}
-use Rattle.gcl_core.specs.Value.{value_of}
-use Rattle.gcl_core.specs.Blocks.{End}
-use Rattle.gcl_core.specs.WeightedEnds.{Weighted}
+use Rattle.gcl_core.specs.meaning.Syntax.{Expression, Statements}
+use Rattle.gcl_core.specs.meaning.Bounds.{BlockIsWeighed}
+use Rattle.gcl_core.specs.meaning.Value.{value_of}
+use Rattle.gcl_core.specs.meaning.Blocks.{End}
+use Rattle.gcl_core.specs.weighing.WeightedEnds.{Weighted}
 use Rattle.mass_tables.specs.Tables.{Table, Flow, holds, fails, only, faults, loop_flow, block_flow}
 use Rattle.mass_tables.specs.Reached.{Reached, loop_draws, block_draws}
 use Rattle.mass_tables.specs.Scale.{Within, amount, weight}

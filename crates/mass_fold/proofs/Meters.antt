@@ -1,9 +1,9 @@
 -- What a meter counts, draw by draw.
 use Rattle.std.proofs.Common.{◌≡◌, ℕ, ◌+◌, ◌*◌, ◌^◌, ◌≤◌, ◌<◌, [], ◌∷◌, Option, Some, None, refl, sym, ap, ◌∙◌, subst, arith}
 use Rattle.std.proofs.Math.Nat.{mul-le-mul_left, mul-le-mul_right}
-use Rattle.gcl_core.specs.Value.{State}
-use Rattle.gcl_core.specs.Fractions.{Fraction, times}
-use Rattle.gcl_core.specs.WeightedEnds.{class_weight, no_class_weight}
+use Rattle.gcl_core.specs.meaning.Value.{State}
+use Rattle.gcl_core.specs.weighing.Fractions.{Fraction, times}
+use Rattle.gcl_core.specs.weighing.WeightedEnds.{class_weight, no_class_weight}
 use Rattle.frac128.specs.Fraction.{InLowest, IsEqual, sum_of, product_of}
 use Rattle.frac128.proofs.Divisors.{product_pos}
 use Rattle.mass_tables.specs.Scale.{whole, Whole}

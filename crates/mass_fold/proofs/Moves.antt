@@ -1,9 +1,9 @@
 -- What an assignment makes of one state.
 use Rattle.std.proofs.Common.{◌≡◌, ℕ, zero, suc, pos, negsuc, ℤ, length, Ok, Err, Bool, true, false, cond, not, ◌≤◌, arith, refl, sym, ap, ◌∙◌, subst, slice_set}
 use Rattle.gcl_core.specs.declared.answers.Fault.{Fault}
-use Rattle.gcl_core.specs.Syntax.{Expression}
-use Rattle.gcl_core.specs.Value.{State, Value, Reads, is_zero}
-use Rattle.gcl_core.specs.Blocks.{End, by_value}
+use Rattle.gcl_core.specs.meaning.Syntax.{Expression}
+use Rattle.gcl_core.specs.meaning.Value.{State, Value, ExpressionBelow, is_zero}
+use Rattle.gcl_core.specs.meaning.Blocks.{End, by_value}
 use Rattle.mass_tables.specs.Tables.{holds, fails}
 use Rattle.mass_fold.specs.declared.ended.Gone.{Gone}
 use Rattle.mass_fold.specs.Ended.{end_of, fault_end}
@@ -21,8 +21,8 @@ moved_err x v s s' f p q G = ap (λ o. by_value (λ f. 0) o (λ z. G (slice_set 
 pub stopped_err : (v : State → Value) (s s' : State) (f : Fault) (k : Gone) → Err f ≡ v s' → s' ≡ s → end_of k ≡ fault_end f → (G : End → ℕ) → stopped v G s ≡ G (end_of k)
 stopped_err v s s' f k p q r G = ap (λ o. by_value (λ f. G (fault_end f)) o (λ z. 0)) (ap v (sym q) ∙ sym p) ∙ ap G (sym r)
 
-pub reads_at : (e : Expression) (m : ℕ) (s' : State) → length s' ≡ m → Reads e m → Reads e (length s')
-reads_at e m s' p h = subst (Reads e) (sym p) h
+pub reads_at : (e : Expression) (m : ℕ) (s' : State) → length s' ≡ m → ExpressionBelow e m → ExpressionBelow e (length s')
+reads_at e m s' p h = subst (ExpressionBelow e) (sym p) h
 
 pub kept_ok : (test : State → Bool) (b : Bool) (s : State) → test s ≡ b → (G : State → ℕ) → kept_if test G s ≡ cond b (G s) 0
 kept_ok test b s p G = ap (λ b. cond b (G s) 0) p

@@ -2,8 +2,8 @@
 use Rattle.std.proofs.Common.{◌≡◌, ◌⊎◌, inl, inr, ⊎_elim, zero, suc, true, true≢false, [], ◌∷◌, refl, sym, ap, ◌∙◌, subst, arith}
 use Rattle.std.specs.Prelude.{Contains}
 use Rattle.gcl_core.specs.declared.answers.Outcome.{Outcome}
-use Rattle.gcl_core.specs.Fractions.{Fraction}
-use Rattle.gcl_core.specs.Order.{is_before}
+use Rattle.gcl_core.specs.weighing.Fractions.{Fraction}
+use Rattle.gcl_core.specs.meaning.Order.{is_before}
 use Rattle.gcl_core.proofs.OutcomeOrder.{before_trans, before_itself}
 use Rattle.mass_fold.specs.Rows.{Rows, outcomes_of, Ascending, AreMasses}
 use Rattle.mass_fold.proofs.OutcomeRows.{all_after, ascending_rest, outcome_at, same_length}

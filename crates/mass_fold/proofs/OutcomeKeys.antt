@@ -7,8 +7,8 @@ use Rattle.std.specs.BTreeMap.{insert_entry}
 use Rattle.std.specs.Map.{keys_of}
 use Rattle.std.specs.List.Sorted.{IsStrictlySortedBy}
 use Rattle.gcl_core.specs.declared.answers.Outcome.{Outcome}
-use Rattle.gcl_core.specs.Fractions.{Fraction}
-use Rattle.gcl_core.specs.Order.{is_before}
+use Rattle.gcl_core.specs.weighing.Fractions.{Fraction}
+use Rattle.gcl_core.specs.meaning.Order.{is_before}
 use Rattle.mass_fold.specs.Amounts.{SumAt}
 use Rattle.mass_fold.specs.Rows.{Rows}
 use Rattle.mass_fold.specs.Outcomes.{AddGives}

@@ -4,9 +4,9 @@ use Rattle.std.specs.Prelude.{All, AllPairs, Contains}
 use native.Mathlib.Nat.{mul-div_cancel', dvd-mul_left}
 use Rattle.std.proofs.lemmas.Nat.Gcd.{IsGcd-swap}
 use Rattle.gcl_core.specs.declared.answers.Outcome.{Outcome}
-use Rattle.gcl_core.specs.Fractions.{Fraction}
-use Rattle.gcl_core.specs.Order.{is_before}
-use Rattle.gcl_core.specs.Outcomes.{same_outcome}
+use Rattle.gcl_core.specs.weighing.Fractions.{Fraction}
+use Rattle.gcl_core.specs.meaning.Order.{is_before}
+use Rattle.gcl_core.specs.meaning.Outcomes.{same_outcome}
 use Rattle.gcl_core.proofs.OutcomeOrder.{before_differs, after_differs}
 use Rattle.gcl_core.proofs.SameOutcomes.{same_outcomes, outcome_itself}
 use Rattle.frac128.specs.Fraction.{InLowest, IsEqual, lowest}
@@ -14,7 +14,7 @@ use Rattle.frac128.proofs.Divisors.{gauss, along_to, lowest_from, product_pos, c
 use Rattle.mass_tables.specs.Scale.{whole, Whole}
 use Rattle.mass_fold.specs.declared.error.MassError.{MassError}
 use Rattle.mass_fold.specs.Amounts.{held, Held}
-use Rattle.mass_fold.specs.Masses.{counted, Holds}
+use Rattle.mass_fold.specs.Masses.{counted, HoldMasses}
 use Rattle.mass_fold.specs.Rows.{Rows, outcomes_of, Ascending, EachLowest, AreMasses}
 use Rattle.mass_fold.proofs.Insertion.{whole_pos}
 
@@ -104,7 +104,7 @@ row_of N x (row ∷ rows) h = by (same_outcome x row.0) refl (λ k. row_of N x r
         (r.0, (suc r.1.0, omega arith, r.1.2))
 
 -- ---- all rows
-module _ (N : ℕ) (mass : (Outcome → Bool) → Fraction) (rows : Rows) (holds : Holds N mass rows) (ascending : Ascending rows) (each : EachLowest rows) where
+module _ (N : ℕ) (mass : (Outcome → Bool) → Fraction) (rows : Rows) (holds : HoldMasses N mass rows) (ascending : Ascending rows) (each : EachLowest rows) where
   abbrev mass_at : Outcome → Fraction
   mass_at x = mass (same_outcome x)
 
@@ -134,10 +134,10 @@ module _ (N : ℕ) (mass : (Outcome → Bool) → Fraction) (rows : Rows) (holds
   pub are_masses : AreMasses mass_at rows
   are_masses = record { ascending = ascending; each = λ x f c. let m = is_mass x f c in (m.positive, m.is); all = has_row }
 
-pub rows_are : (N : ℕ) (mass : (Outcome → Bool) → Fraction) (es rows : Rows) → rows ≡ es → Holds N mass es → Ascending rows → EachLowest rows → AreMasses (λ x. mass (same_outcome x)) rows
-rows_are N mass es rows p h a l = are_masses N mass rows (subst (Holds N mass) (sym p) h) a l
+pub rows_are : (N : ℕ) (mass : (Outcome → Bool) → Fraction) (es rows : Rows) → rows ≡ es → HoldMasses N mass es → Ascending rows → EachLowest rows → AreMasses (λ x. mass (same_outcome x)) rows
+rows_are N mass es rows p h a l = are_masses N mass rows (subst (HoldMasses N mass) (sym p) h) a l
 
-pub if_rows : (N : ℕ) (mass : (Outcome → Bool) → Fraction) (es : Rows) (result : Result Rows MassError) → Holds N mass es → IfOk result (λ rows. rows ≡ es) → IfOk result Ascending → IfOk result EachLowest →
+pub if_rows : (N : ℕ) (mass : (Outcome → Bool) → Fraction) (es : Rows) (result : Result Rows MassError) → HoldMasses N mass es → IfOk result (λ rows. rows ≡ es) → IfOk result Ascending → IfOk result EachLowest →
     IfOk result (AreMasses (λ x. mass (same_outcome x)))
 if_rows N mass es (Ok rows) h p a l = rows_are N mass es rows p h a l
 if_rows N mass es (Err e) h p a l = tt

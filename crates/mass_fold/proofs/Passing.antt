@@ -1,12 +1,12 @@
 -- A walk over the weights of a table, each turned into another at a scale of its own.
 use Rattle.std.proofs.Common.{◌≡◌, ℕ, ◌+◌, ◌*◌, ◌≤◌, ◌<◌, [], ◌∷◌, sym, ap, subst, arith}
 use Rattle.gcl_core.specs.declared.answers.Outcome.{Outcome}
-use Rattle.gcl_core.specs.Fractions.{Fraction}
+use Rattle.gcl_core.specs.weighing.Fractions.{Fraction}
 use Rattle.mass_tables.specs.Scale.{whole, Whole}
 use Rattle.mass_fold.specs.declared.error.MassError.{MassError}
 use Rattle.mass_fold.specs.Amounts.{held, Held, Blames}
 use Rattle.mass_fold.specs.Outcomes.{AddGives, AddBlames}
-use Rattle.mass_fold.specs.Rounds.{AreParts, TableParts}
+use Rattle.mass_fold.specs.Rounds.{ArePartsOfOne, TableParts}
 use Rattle.mass_fold.specs.Rows.{Rows}
 
 -- what stands once the rest is left: each weight at scale M is C times what it was at scale N
@@ -23,7 +23,7 @@ module _ (M C : ℕ → ℕ) (f : Fraction) (rows : Rows) where
 
   -- a weight s turned into t
   abbrev pub TurnsTo : Fraction → Fraction → Type 0
-  TurnsTo s t = (N : ℕ) → AreParts N s f → Whole (M N) t × (whole (M N) t ≡ C N * whole N s)
+  TurnsTo s t = (N : ℕ) → ArePartsOfOne N s f → Whole (M N) t × (whole (M N) t ≡ C N * whole N s)
 
   pub passing_start : (masses rest : Rows) → masses ≡ [] → rest ≡ rows → PassesOn masses rest
   passing_start masses rest p q N h =
@@ -36,7 +36,7 @@ module _ (M C : ℕ → ℕ) (f : Fraction) (rows : Rows) where
     now : (N : ℕ) → TableParts N rows f → Passing N (M N) (C N) rows masses ((x, s) ∷ rest')
     now N h = subst (Passing N (M N) (C N) rows masses) p (on N h)
 
-    pub parts_here : (N : ℕ) → TableParts N rows f → AreParts N s f
+    pub parts_here : (N : ℕ) → TableParts N rows f → ArePartsOfOne N s f
     parts_here N h =
         let a = now N h in
         record { positive = h.positive; first = a.left.1; second = h.failed; sum = omega (arith, h.sum, a.less) }

@@ -6,10 +6,9 @@ use Rattle.std.proofs.Math.Nat.{pow-suc, pow-zero, one-dvd, mul-le-mul_left, le_
 use Rattle.std.proofs.lemmas.Nat.{pow-add}
 use Rattle.std.proofs.lemmas.Nat.Gcd.{dvd_trans, dvd_refl, IsGcd-swap}
 use Rattle.std.specs.Int.{IsGcd}
-use Rattle.gcl_core.specs.Draw.{bits_for}
-use Rattle.gcl_core.specs.OneDraw.{called_again}
-use Rattle.gcl_core.specs.Fractions.{Fraction, times, power}
-use Rattle.gcl_core.specs.WeightedEnds.{class_weight, no_class_weight}
+use Rattle.gcl_core.specs.meaning.Draw.{bits_for, rejected_numbers}
+use Rattle.gcl_core.specs.weighing.Fractions.{Fraction, times, power}
+use Rattle.gcl_core.specs.weighing.WeightedEnds.{class_weight, no_class_weight}
 use Rattle.frac128.specs.Fraction.{lowest, InLowest, IsEqual, fits, product_of}
 use Rattle.frac128.proofs.Divisors.{coprime_parts, coprime_product, coprime_products, product_pos, lowest_in_lowest, lowest_equal, cancel, equal_trans}
 use Rattle.mass_tables.specs.Scale.{whole, Whole}
@@ -135,7 +134,7 @@ module _ (b : ℕ) (bp : 1 ≤ b) where
   pub parts_unlimited : (part rest : Fraction) → InLowest part → InLowest rest → IsEqual part (1, b) → IsEqual rest (0, 1) → IsParts b None part rest
   parts_unlimited part rest l k p q = record { part_positive = let z = l.positive in omega arith; rest_positive = let z = k.positive in omega arith; part_is = p; rest_is = q }
 
-  module _ (r : ℕ) (rp : 1 ≤ r) (again : Fraction) (l : InLowest again) (is : IsEqual again (called_again b, 2 ^ bits_for b)) where
+  module _ (r : ℕ) (rp : 1 ≤ r) (again : Fraction) (l : InLowest again) (is : IsEqual again (rejected_numbers b, 2 ^ bits_for b)) where
     abbrev D : ℕ
     D = all_parts b (Some r)
 
@@ -146,7 +145,7 @@ module _ (b : ℕ) (bp : 1 ≤ b) where
     Q = no_part b (Some r)
 
     none_again : again.0 ≡ 0 → Q ≡ 0
-    none_again z = zero_power r rp (called_again b) (zero_left (called_again b) again.1 (let x = l.positive in omega arith) (let y = ap (λ u. u * 2 ^ bits_for b) z in omega (arith, is)))
+    none_again z = zero_power r rp (rejected_numbers b) (zero_left (rejected_numbers b) again.1 (let x = l.positive in omega arith) (let y = ap (λ u. u * 2 ^ bits_for b) z in omega (arith, is)))
       where
         zero_left : (a b : ℕ) → 0 < b → a * b ≡ 0 → a ≡ 0
         zero_left zero b h e = refl
@@ -173,13 +172,13 @@ module _ (b : ℕ) (bp : 1 ≤ b) where
         none : (x y Q D : ℕ) → x * 1 ≡ 0 * y → Q ≡ 0 → x * D ≡ Q * y
         none x y Q D e n = let z : x ≡ 0 = omega arith in rw (z, n) (omega arith)
 
-    -- the power of what is called again
+    -- the power of what is rejected
     rest_as : (rest : Fraction) → IsPower again r rest → rest.0 * D ≡ Q * rest.1
     rest_as rest i =
-        equal_trans rest (power again r) (Q, D) (power_pos again l r) i.is (power_as again (called_again b) (bits_for b) is r)
+        equal_trans rest (power again r) (Q, D) (power_pos again l r) i.is (power_as again (rejected_numbers b) (bits_for b) is r)
 
     pub parts_refused : PowerBlames again r → (N L : ℕ) → 0 < N → Whole N (class_weight b (Some r) 1) → Whole N (no_class_weight b (Some r)) → 2 ^ 128 ≤ N
-    parts_refused h N L Np w v = h N Np (equal_whole N (power again r) (no_class_weight b (Some r)) (power_pos again l r) (power_as again (called_again b) (bits_for b) is r) v).1
+    parts_refused h N L Np w v = h N Np (equal_whole N (power again r) (no_class_weight b (Some r)) (power_pos again l r) (power_as again (rejected_numbers b) (bits_for b) is r) v).1
 
     module _ (rest given over : Fraction) (i : IsPower again r rest) (gl : InLowest given) (ol : InLowest over) (ge : IsEqual given (rest.1 - rest.0, rest.1)) (oe : IsEqual over (1, b)) where
       part_as : (times given over).0 * D ≡ 1 * S * (times given over).1
@@ -219,7 +218,7 @@ module _ (b : ℕ) (bp : 1 ≤ b) where
           product_refused N given over Np x.1 (let z = whole_at_most N (class_weight b (Some r) 1).0 (class_weight b (Some r) 1).1 m w in omega (arith, x.0)) e
 
 -- ---- as the code has them
-pub as_again : (b a w : ℕ) (again : Fraction) → w ≡ b → a ≡ 2 ^ bits_for b → IsEqual again (a - w, a) → IsEqual again (called_again b, 2 ^ bits_for b)
+pub as_again : (b a w : ℕ) (again : Fraction) → w ≡ b → a ≡ 2 ^ bits_for b → IsEqual again (a - w, a) → IsEqual again (rejected_numbers b, 2 ^ bits_for b)
 as_again b a w again p q e = subst (λ a. IsEqual again (a - b, a)) q (subst (λ w. IsEqual again (a - w, a)) p e)
 
 pub as_over : (b w : ℕ) (f : Fraction) → w ≡ b → IsEqual f (1, w) → IsEqual f (1, b)

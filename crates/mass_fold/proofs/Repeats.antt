@@ -1,12 +1,12 @@
 -- A weight of one round in some rounds: that it is exact, and why it is refused.
 use Rattle.std.proofs.Common.{◌≡◌, ℕ, zero, suc, ◌+◌, ◌-◌, ◌*◌, ◌^◌, ◌≤◌, ◌<◌, Some, None, sym, ap, ◌∙◌, subst, arith}
 use Rattle.std.proofs.Math.Nat.{pow-suc, pow-zero, one-le-pow, pow-le-pow_right, mul-le-mul_left, mul-le-mul_right, le_of_mul-le-mul_left, le_of_mul-le-mul_right}
-use Rattle.gcl_core.specs.Fractions.{Fraction, times}
+use Rattle.gcl_core.specs.weighing.Fractions.{Fraction, times}
 use Rattle.frac128.specs.Fraction.{InLowest, sum_of, product_of}
 use Rattle.frac128.proofs.Divisors.{product_pos, lowest_in_lowest}
 use Rattle.mass_tables.specs.Scale.{whole, Whole}
 use Rattle.mass_tables.proofs.Wholes.{whole_from, sum_whole, sum_wide, product_whole, product_wide, whole_multiple}
-use Rattle.mass_fold.specs.Rounds.{geometric, scale_of, AreParts, MayRepeat, IsRepeated, RepeatBlames}
+use Rattle.mass_fold.specs.Rounds.{geometric, scale_of, ArePartsOfOne, MayRepeat, IsRepeated, RepeatBlames}
 use Rattle.mass_fold.proofs.Powers.{product_is}
 
 -- ---- numbers
@@ -142,7 +142,7 @@ sum_blames s f t u zero R l r a e h N C p = absurd (let z = r.some in omega arit
 sum_blames s f t u (suc j) R l r a e h N C p = up_to N f j R C p.second.positive l (sum_large s f j t r.is N p.positive p.first p.second C p.some (p.bound (suc j) l) u a e h)
 
 -- ---- parts of one whole
-pub parts_repeat : (N : ℕ) (s f : Fraction) (R : ℕ) → AreParts N s f → MayRepeat N 1 s f R
+pub parts_repeat : (N : ℕ) (s f : Fraction) (R : ℕ) → ArePartsOfOne N s f → MayRepeat N 1 s f R
 parts_repeat N s f R p = record {
   positive = p.positive;
   some = omega arith;
@@ -154,8 +154,8 @@ parts_repeat N s f R p = record {
       omega arith;
 }
 
-pub parts_blame : (s f : Fraction) (R : ℕ) → RepeatBlames s f R → (N : ℕ) → AreParts N s f → 2 ^ 128 ≤ scale_of N f R
+pub parts_blame : (s f : Fraction) (R : ℕ) → RepeatBlames s f R → (N : ℕ) → ArePartsOfOne N s f → 2 ^ 128 ≤ scale_of N f R
 parts_blame s f R x N p = let h = x N 1 (parts_repeat N s f R p) in omega arith
 
-pub parts_turn : (s f : Fraction) (R : ℕ) (t : Fraction) → IsRepeated s f R t → (N : ℕ) → AreParts N s f → Whole (scale_of N f R) t × (whole (scale_of N f R) t ≡ geometric f R * whole N s)
+pub parts_turn : (s f : Fraction) (R : ℕ) (t : Fraction) → IsRepeated s f R t → (N : ℕ) → ArePartsOfOne N s f → Whole (scale_of N f R) t × (whole (scale_of N f R) t ≡ geometric f R * whole N s)
 parts_turn s f R t x N p = x N p.positive p.first p.second

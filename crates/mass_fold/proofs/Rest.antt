@@ -3,7 +3,7 @@ use Rattle.std.proofs.Common.{◌≡◌, ℕ, zero, suc, ◌+◌, ◌-◌, ◌*�
 use Rattle.std.specs.Prelude.{◌==◌}
 use Rattle.std.proofs.lemmas.Bool.Decides.{nat_tests}
 use Rattle.std.proofs.Math.Nat.{lt_of_mul-lt-mul_left, mul-lt-mul_of_pos_right}
-use Rattle.gcl_core.specs.Fractions.{Fraction}
+use Rattle.gcl_core.specs.weighing.Fractions.{Fraction}
 use Rattle.frac128.specs.Fraction.{IsEqual, product_of, quotient_of}
 use Rattle.frac128.proofs.Divisors.{product_pos, cancel}
 use Rattle.mass_tables.specs.Scale.{whole, Whole}
@@ -11,7 +11,7 @@ use Rattle.mass_tables.proofs.Wholes.{whole_from, product_whole, product_refused
 use Rattle.mass_fold.specs.declared.error.MassError.{MassError}
 use Rattle.mass_fold.specs.declared.error.MassError.TheVariants.{TooWide, TooManyStates, AllFailed, OutOfMemory}
 use Rattle.mass_fold.specs.Amounts.{Blames}
-use Rattle.mass_fold.specs.Rounds.{AreParts, TableParts, OverRestBlames}
+use Rattle.mass_fold.specs.Rounds.{ArePartsOfOne, TableParts, OverRestBlames}
 use Rattle.mass_fold.specs.Rows.{Rows}
 
 abbrev turned : Fraction → Fraction
@@ -33,7 +33,7 @@ module _ (s f r : Fraction) (below : f.0 < f.1) (rp : 0 < r.1) (is : IsEqual r (
       above zero b c d p q e = absurd (let z = product_pos c b q p in omega arith)
       above (suc a) b c d p q e = omega arith
 
-  module _ (N : ℕ) (p : AreParts N s f) where
+  module _ (N : ℕ) (p : ArePartsOfOne N s f) where
     abbrev M : ℕ
     M = N - whole N f
 

@@ -1,10 +1,10 @@
 -- A walk over the states that a body ends in, with the outcome of each added.
 use Rattle.std.proofs.Common.{◌≡◌, ℕ, ◌+◌, ◌*◌, ◌<◌, [], ◌∷◌, refl, sym, ap, subst, arith}
 use Rattle.gcl_core.specs.declared.answers.Outcome.{Outcome}
-use Rattle.gcl_core.specs.Fractions.{Fraction}
-use Rattle.gcl_core.specs.Runs.{outcome_of}
-use Rattle.gcl_core.specs.Syntax.{Expression}
-use Rattle.gcl_core.specs.Value.{State, value_of}
+use Rattle.gcl_core.specs.weighing.Fractions.{Fraction}
+use Rattle.gcl_core.specs.meaning.Outcomes.{outcome_of}
+use Rattle.gcl_core.specs.meaning.Syntax.{Expression}
+use Rattle.gcl_core.specs.meaning.Value.{State, value_of}
 use Rattle.mass_tables.specs.Scale.{whole}
 use Rattle.mass_fold.specs.declared.error.MassError.{MassError}
 use Rattle.mass_fold.specs.Amounts.{Entries, held, Held}

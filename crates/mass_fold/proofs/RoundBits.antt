@@ -1,9 +1,9 @@
 -- What a meter holds after a round.
 use Rattle.std.proofs.Common.{◌≡◌, ℕ, ◌*◌, ◌<◌, Option, sym, subst, arith}
-use Rattle.gcl_core.specs.Fractions.{Fraction}
-use Rattle.gcl_core.specs.Mass.{is_failed, failed_mass}
-use Rattle.gcl_core.specs.Bounds.{BlockIsWeighed}
-use Rattle.gcl_core.specs.Syntax.{Source}
+use Rattle.gcl_core.specs.weighing.Fractions.{Fraction}
+use Rattle.gcl_core.specs.weighing.Mass.{is_failed, failed_mass}
+use Rattle.gcl_core.specs.meaning.Bounds.{BlockIsWeighed}
+use Rattle.gcl_core.specs.meaning.Syntax.{Source}
 use Rattle.frac128.specs.Fraction.{InLowest, IsEqual, lowest}
 use Rattle.mass_tables.specs.Width.{round_width}
 use Rattle.mass_fold.specs.declared.meter.Meter.{Meter}

@@ -2,12 +2,12 @@
 use Rattle.std.proofs.Common.{◌≡◌, ℕ, ◌+◌, ◌-◌, ◌*◌, ◌≤◌, ◌<◌, Bool, cond, [], length, Option, Some, None, refl, sym, ap, ◌∙◌, subst, arith}
 use Rattle.std.proofs.Math.Nat.{one-le-pow, mul-le-mul_left}
 use Rattle.gcl_core.specs.declared.answers.Outcome.{Outcome}
-use Rattle.gcl_core.specs.Blocks.{End, on}
-use Rattle.gcl_core.specs.Bounds.{BlockIsWeighed}
-use Rattle.gcl_core.specs.Mass.{sum_of, ends_in, is_failed, round_mass, failed_mass}
-use Rattle.gcl_core.specs.Runs.{zeros}
-use Rattle.gcl_core.specs.Syntax.{Source}
-use Rattle.gcl_core.specs.WeightedEnds.{weighted_ends}
+use Rattle.gcl_core.specs.meaning.Blocks.{End, on}
+use Rattle.gcl_core.specs.meaning.Bounds.{BlockIsWeighed}
+use Rattle.gcl_core.specs.weighing.Mass.{sum_of, ends_in, is_failed, round_mass, failed_mass}
+use Rattle.gcl_core.specs.meaning.Outcomes.{zeros}
+use Rattle.gcl_core.specs.meaning.Syntax.{Source}
+use Rattle.gcl_core.specs.weighing.WeightedEnds.{weighted_ends}
 use Rattle.frac128.specs.Fraction.{lowest}
 use Rattle.frac128.proofs.Divisors.{lowest_in_lowest}
 use Rattle.mass_tables.specs.Scale.{amount}

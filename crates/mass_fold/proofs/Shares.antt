@@ -6,10 +6,10 @@ use Rattle.std.specs.Map.{keys_of}
 use Rattle.std.specs.List.{IsDistinct, AllByRecursion}
 use Rattle.std.specs.List.Sorted.{IsStrictlySortedBy}
 use Rattle.std.proofs.lemmas.Map.Keys.{IsDistinct-from_sorted, IsDistinct-head, IsDistinct-tail}
-use Rattle.gcl_core.specs.Value.{State, Value}
-use Rattle.gcl_core.specs.Blocks.{by_value, by_bound}
-use Rattle.gcl_core.specs.Fractions.{Fraction, times, one}
-use Rattle.gcl_core.specs.WeightedEnds.{scaled, class_weight, no_class_weight}
+use Rattle.gcl_core.specs.meaning.Value.{State, Value}
+use Rattle.gcl_core.specs.meaning.Blocks.{by_value, by_bound}
+use Rattle.gcl_core.specs.weighing.Fractions.{Fraction, times, one}
+use Rattle.gcl_core.specs.weighing.WeightedEnds.{scaled, class_weight, no_class_weight}
 use Rattle.frac128.specs.Fraction.{IsEqual}
 use Rattle.frac128.proofs.Divisors.{product_pos, along_to, cancel}
 use Rattle.mass_tables.specs.Tables.{Table, bound_draws, draw_weights}
@@ -21,7 +21,7 @@ use Rattle.mass_tables.proofs.Draws.{share, class_pos, no_class_pos}
 use Rattle.mass_tables.proofs.EqualFractions.{equal_times}
 use Rattle.mass_tables.proofs.Kept.{times_swap}
 use Rattle.mass_fold.specs.Amounts.{Entries, held, Held, order}
-use Rattle.mass_fold.specs.Steps.{Shares, shared, EachState, Draws}
+use Rattle.mass_fold.specs.Steps.{Shares, shared, EachState, BothWhole}
 use Rattle.mass_fold.specs.Fold.{Stands}
 use Rattle.mass_fold.proofs.Entries.{same, same_is, same_is_eq, at}
 use Rattle.mass_fold.proofs.Insertion.{whole_pos}
@@ -210,7 +210,7 @@ rest_above v r s = by_state (v s)
     by_state (Ok z) = by_sign z
     by_state (Err f) = omega arith
 
-pub draws_in : (N : ℕ) (v : State → Value) (r : Option ℕ) (I : Table) → AllWhole N (bound_draws v r I) → EachIn (Draws N (part_at v r) (rest_at v r)) I
+pub draws_in : (N : ℕ) (v : State → Value) (r : Option ℕ) (I : Table) → AllWhole N (bound_draws v r I) → EachIn (BothWhole N (part_at v r) (rest_at v r)) I
 draws_in N v r [] h = tt
 draws_in N v r (e ∷ I) h = (by_state (v e.1) (all_first N _ (bound_draws v r I) h), draws_in N v r I (all_second N (by_value (λ f. []) (v e.1) (λ v. by_bound v [] (λ m. draw_weights m r))) (bound_draws v r I) h))
   where

@@ -5,11 +5,11 @@ use Rattle.std.specs.Map.{keys_of}
 use Rattle.std.specs.List.Sorted.{IsStrictlySortedBy}
 use Rattle.gcl_core.specs.declared.answers.Limit.TheVariants as limit_kind
 use Rattle.gcl_core.specs.declared.syntax.Weight.{Weight}
-use Rattle.gcl_core.specs.Syntax.{choice, Statements}
-use Rattle.gcl_core.specs.Bounds.{IsWeight, BlockIsWeighed}
-use Rattle.gcl_core.specs.Blocks.{End, limit}
-use Rattle.gcl_core.specs.Fractions.{Fraction, times}
-use Rattle.gcl_core.specs.WeightedEnds.{Weighted, scaled, class_weight, no_class_weight}
+use Rattle.gcl_core.specs.meaning.Syntax.{Choice, Statements}
+use Rattle.gcl_core.specs.meaning.Bounds.{IsWeight, BlockIsWeighed}
+use Rattle.gcl_core.specs.meaning.Blocks.{End, limit}
+use Rattle.gcl_core.specs.weighing.Fractions.{Fraction, times}
+use Rattle.gcl_core.specs.weighing.WeightedEnds.{Weighted, scaled, class_weight, no_class_weight}
 use Rattle.frac128.specs.Fraction.{IsEqual, product_of}
 use Rattle.frac128.proofs.Divisors.{product_pos, cancel}
 use Rattle.mass_tables.specs.Tables.{Table, all_end, both, statement_flow, block_flow, draws_each, draw_weights}
@@ -25,7 +25,7 @@ use Rattle.mass_fold.specs.declared.ended.Gone.TheVariants as gone_kind
 use Rattle.mass_fold.specs.declared.ended.Ended.{Ended}
 use Rattle.mass_fold.specs.Amounts.{Entries, order}
 use Rattle.mass_fold.specs.Ended.{end_of, rows_of}
-use Rattle.mass_fold.specs.Steps.{StepsTo, StepBlames, EachState, Draws, DrawsTo, DrawBlames, IsParts}
+use Rattle.mass_fold.specs.Steps.{StepsTo, StepBlames, EachState, BothWhole, DrawsTo, DrawBlames, IsParts}
 use Rattle.mass_fold.specs.Fold.{Stands, FoldsTo, FoldBlames, Around, FoldsOne, OneBlames, UndecidedTo, UndecidedBlames, WeighedBy, WeighBlamesBy, SidesWithin, SidesTo, SidesBlame}
 use Rattle.mass_fold.proofs.Insertion.{whole_pos, product_below}
 use Rattle.mass_fold.proofs.Powers.{equal_whole, whole_at_most, product_equal}
@@ -50,7 +50,7 @@ side_equal part over w u count op pp oe e q = cancel_all part.0 part.1 over.0 ov
     cancel_all : (a b o p x y c d n : ℕ) → 0 < p → 0 < b → o * 1 ≡ n * p → x * (b * p) ≡ a * o * y → a * n * d ≡ c * b → x * d ≡ c * y
     cancel_all a b o p x y c d n pp bp f g h = cancel (b * p) _ _ (product_pos b p bp pp) (step a b o p x y c d n f g h)
 
-same_draws : (N : ℕ) (w : Fraction) (es : Entries) → Whole N w → EachState (Draws N (λ s. w) (λ s. w)) es
+same_draws : (N : ℕ) (w : Fraction) (es : Entries) → Whole N w → EachState (BothWhole N (λ s. w) (λ s. w)) es
 same_draws N w [] h = tt
 same_draws N w (d ∷ es) h = ((h, h), same_draws N w es h)
 
@@ -192,10 +192,10 @@ module _ (n : ℕ) (r : Option ℕ) (p : Weight) (a c : Statements) (w : IsWeigh
   abbrev pub Z : Table → Weighted End
   Z I = all_end (limit limit_kind.Attempts) (scaled (no_class_weight p.den r) I)
 
-  pub inside : (N L : ℕ) (I : Table) → Around N L I (statement_flow n r (choice p a c) I) → Within N L (both (Z I) (block_flow n r a (A I)) (block_flow n r c (C I)))
+  pub inside : (N L : ℕ) (I : Table) → Around N L I (statement_flow n r (Choice p a c) I) → Within N L (both (Z I) (block_flow n r a (A I)) (block_flow n r c (C I)))
   inside N L I h = record { tables = h.inside.tables; ended = h.inside.ended; draws = all_second N (draws_each (draw_weights p.den r) I) ((block_flow n r a (A I)).draws ++ (block_flow n r c (C I)).draws) h.inside.draws }
 
-  pub sides_within : (N L : ℕ) (I : Table) → Around N L I (statement_flow n r (choice p a c) I) → SidesWithin N L p r I
+  pub sides_within : (N L : ℕ) (I : Table) → Around N L I (statement_flow n r (Choice p a c) I) → SidesWithin N L p r I
   sides_within N L I h =
       let fa = block_flow n r a (A I) in
       let fc = block_flow n r c (C I) in
@@ -204,14 +204,14 @@ module _ (n : ℕ) (r : Option ℕ) (p : Weight) (a c : Statements) (w : IsWeigh
       let y = head_few n r N L c (C I) (both_second N L (Z I) fa fc i).tables in
       record { before = h.before; first = x.0; second = y.0; third = ends_whole N (limit limit_kind.Attempts) (scaled (no_class_weight p.den r) I) (ends_first N (Z I) (fa.ended ++ fc.ended) i.ended); few_first = x.1; few_second = y.1 }
 
-  pub sides_blame : (error : MassError) → (es ≡ [] → ⊥) → SidesBlame p r es E error → OneBlames (statement_flow n r (choice p a c)) es E error
+  pub sides_blame : (error : MassError) → (es ≡ [] → ⊥) → SidesBlame p r es E error → OneBlames (statement_flow n r (Choice p a c)) es E error
   sides_blame error some d N L I J Np s t h m =
       let ds = all_first N (draws_each (draw_weights p.den r) I) ((block_flow n r a (A I)).draws ++ (block_flow n r c (C I)).draws) h.inside.draws in
       let dw = draws_head N es I (draw_weights p.den r) Np s some ds in
       d N L I J Np s t (record { one = dw.0; none = dw.1.0 }) (sides_within N L I h) m
 
   module _ (first second : Entries) (F : Ended) (d : SidesTo p r es E first second F) where
-    pub fold_choice : (ls cs rs : Entries) (G H : Ended) → FoldsTo (block_flow n r a) first F ls G → FoldsTo (block_flow n r c) second G cs H → ((E : Ended) → StepsTo all_kept none_stopped ls cs E rs E) → FoldsOne (statement_flow n r (choice p a c)) es E rs H
+    pub fold_choice : (ls cs rs : Entries) (G H : Ended) → FoldsTo (block_flow n r a) first F ls G → FoldsTo (block_flow n r c) second G cs H → ((E : Ended) → StepsTo all_kept none_stopped ls cs E rs E) → FoldsOne (statement_flow n r (Choice p a c)) es E rs H
     fold_choice ls cs rs G H x y m N L I J Np s t h =
         let fa = block_flow n r a (A I) in
         let fc = block_flow n r c (C I) in
@@ -223,14 +223,14 @@ module _ (n : ℕ) (r : Option ℕ) (p : Weight) (a c : Statements) (w : IsWeigh
           end_along N H _ _ (λ K. regroup K N (J ++ Z I) fa.ended fc.ended ∙ regroup K N J (Z I) (fa.ended ++ fc.ended)) o.1,
         )
 
-    weighed_up : (N L : ℕ) (I : Table) → Around N L I (statement_flow n r (choice p a c) I) → weight N (Z I) + (weight N (A I) + weight N (C I)) ≡ weight N I
+    weighed_up : (N L : ℕ) (I : Table) → Around N L I (statement_flow n r (Choice p a c) I) → weight N (Z I) + (weight N (A I) + weight N (C I)) ≡ weight N I
     weighed_up N L I h =
         let q = sides_within N L I h in
         let z = all_end_weight N (limit limit_kind.Attempts) (scaled (no_class_weight p.den r) I) in
         let k = choice_kept N p.num p.den r I w.at_most_one (let z = w.positive in omega arith) q.before q.first q.second q.third in
         omega arith
 
-    pub first_blames : (error : MassError) → FoldBlames (block_flow n r a) first F error → OneBlames (statement_flow n r (choice p a c)) es E error
+    pub first_blames : (error : MassError) → FoldBlames (block_flow n r a) first F error → OneBlames (statement_flow n r (Choice p a c)) es E error
     first_blames error x N L I J Np s t h m =
         let i = inside N L I h in
         let q = d N L I J Np s t (sides_within N L I h) in
@@ -239,7 +239,7 @@ module _ (n : ℕ) (r : Option ℕ) (p : Weight) (a c : Statements) (w : IsWeigh
         x N L (A I) (J ++ Z I) Np q.0 q.2 (both_first N L (Z I) (block_flow n r a (A I)) (block_flow n r c (C I)) i) (omega arith)
 
     module _ (ls : Entries) (G : Ended) (x : FoldsTo (block_flow n r a) first F ls G) (wa : BlockIsWeighed a) where
-      pub second_blames : (error : MassError) → FoldBlames (block_flow n r c) second G error → OneBlames (statement_flow n r (choice p a c)) es E error
+      pub second_blames : (error : MassError) → FoldBlames (block_flow n r c) second G error → OneBlames (statement_flow n r (Choice p a c)) es E error
       second_blames error y N L I J Np s t h m =
           let fa = block_flow n r a (A I) in
           let fc = block_flow n r c (C I) in
@@ -253,7 +253,7 @@ module _ (n : ℕ) (r : Option ℕ) (p : Weight) (a c : Statements) (w : IsWeigh
           let z = kept_all n r N L a wa (A I) wf in
           y N L (C I) ((J ++ Z I) ++ fa.ended) Np q.1 u.1 (both_second N L (Z I) fa fc i) (omega arith)
 
-      pub both_blame : (cs : Entries) (H : Ended) (error : MassError) → BlockIsWeighed c → FoldsTo (block_flow n r c) second G cs H → ((E : Ended) → StepBlames all_kept none_stopped ls cs E error) → OneBlames (statement_flow n r (choice p a c)) es E error
+      pub both_blame : (cs : Entries) (H : Ended) (error : MassError) → BlockIsWeighed c → FoldsTo (block_flow n r c) second G cs H → ((E : Ended) → StepBlames all_kept none_stopped ls cs E error) → OneBlames (statement_flow n r (Choice p a c)) es E error
       both_blame cs H error wc y b N L I J Np s t h m =
           let fa = block_flow n r a (A I) in
           let fc = block_flow n r c (C I) in
@@ -261,7 +261,7 @@ module _ (n : ℕ) (r : Option ℕ) (p : Weight) (a c : Statements) (w : IsWeigh
           let q = d N L I J Np s t (sides_within N L I h) in
           let u = x N L (A I) (J ++ Z I) Np q.0 q.2 (both_first N L (Z I) fa fc i) in
           let o = y N L (C I) ((J ++ Z I) ++ fa.ended) Np q.1 u.1 (both_second N L (Z I) fa fc i) in
-          let z = kept_one n r N L (choice p a c) I (w, wa, wc) h.before h.after h.inside in
+          let z = kept_one n r N L (Choice p a c) I (w, wa, wc) h.before h.after h.inside in
           merge_blamed N L ls cs E error fa.next fc.next (fa.next ++ fc.next) J Np (b E) t u.0 o.0 (λ G. let i = amount_append N G fa.next fc.next in omega arith) (omega arith) h.few_after (omega arith)
 
 -- ---- as the code has it

@@ -7,8 +7,8 @@ use Rattle.std.specs.Map.Iter.{TakesFirst}
 use Rattle.std.proofs.lemmas.List.{get_or-map}
 use Rattle.std.proofs.lemmas.Map.Entries.{length-keys_of}
 use Rattle.std.proofs.lemmas.Map.Views.{All-keys-insert_entry, All-turn}
-use Rattle.gcl_core.specs.Value.{State}
-use Rattle.gcl_core.specs.Fractions.{Fraction}
+use Rattle.gcl_core.specs.meaning.Value.{State}
+use Rattle.gcl_core.specs.weighing.Fractions.{Fraction}
 use Rattle.mass_fold.specs.Amounts.{Entries, order}
 
 module _ (m : ℕ) (es : Entries) (sized : All (λ s. length s ≡ m) (keys_of es)) where

@@ -5,10 +5,10 @@ use native.Mathlib.Nat.{mul-div_cancel'}
 use Rattle.std.proofs.Math.Nat.{le_of_mul-le-mul_left}
 use Rattle.gcl_core.specs.declared.answers.Answer.{Answer}
 use Rattle.gcl_core.specs.declared.answers.Limits.{Limits}
-use Rattle.gcl_core.specs.Fractions.{Fraction, IsShare, IsWithinShare}
-use Rattle.gcl_core.specs.Mass.{mass_of}
-use Rattle.gcl_core.specs.StringWeight.{outcome_weight}
-use Rattle.gcl_core.specs.Syntax.{Source}
+use Rattle.gcl_core.specs.weighing.Fractions.{Fraction, IsShare, IsWithinShare}
+use Rattle.gcl_core.specs.weighing.Mass.{mass_of}
+use Rattle.gcl_core.specs.weighing.StringWeight.{outcome_weight}
+use Rattle.gcl_core.specs.meaning.Syntax.{Source}
 use Rattle.frac128.specs.Divisor.{gcd}
 use Rattle.frac128.specs.Fraction.{lowest}
 use Rattle.frac128.proofs.Divisors.{gcd_is, gcd_pos, cancel}

@@ -6,8 +6,8 @@ use Rattle.std.specs.Cmp.Lexicographic.{slice_cmp}
 use Rattle.std.specs.BTreeMap.{is_at}
 use Rattle.std.specs.Map.{lookup}
 use Rattle.frac128.specs.Fraction.{sum_of, Overfills}
-use Rattle.gcl_core.specs.Value.{State}
-use Rattle.gcl_core.specs.Fractions.{Fraction}
+use Rattle.gcl_core.specs.meaning.Value.{State}
+use Rattle.gcl_core.specs.weighing.Fractions.{Fraction}
 use Rattle.mass_tables.specs.Tables.{Table, states}
 use Rattle.mass_tables.specs.Scale.{whole, Whole, amount, weight}
 use Rattle.mass_fold.specs.declared.error.MassError.{MassError}

@@ -1,12 +1,12 @@
 -- What the fold of a program's body gives.
 use Rattle.std.specs.Prelude.{◌≡◌, ℕ, ◌+◌, ◌*◌, ◌<◌, ◌≤◌, Bool, cond, length, Option, Some, None}
-use Rattle.gcl_core.specs.Syntax.{Source}
-use Rattle.gcl_core.specs.Blocks.{End, on}
-use Rattle.gcl_core.specs.Runs.{zeros}
-use Rattle.gcl_core.specs.WeightedEnds.{weighted_ends}
-use Rattle.gcl_core.specs.Mass.{sum_of, failed_mass}
+use Rattle.gcl_core.specs.meaning.Syntax.{Source}
+use Rattle.gcl_core.specs.meaning.Blocks.{End, on}
+use Rattle.gcl_core.specs.meaning.Outcomes.{zeros}
+use Rattle.gcl_core.specs.weighing.WeightedEnds.{weighted_ends}
+use Rattle.gcl_core.specs.weighing.Mass.{sum_of, failed_mass}
 use Rattle.frac128.specs.Fraction.{IsEqual, Overfills}
-use Rattle.gcl_core.specs.Fractions.{Fraction}
+use Rattle.gcl_core.specs.weighing.Fractions.{Fraction}
 use Rattle.mass_tables.specs.Scale.{whole, Whole, amount}
 use Rattle.mass_tables.specs.Reached.{draws_of}
 use Rattle.mass_tables.specs.Tables.{tables_of}

@@ -1,9 +1,9 @@
 -- What has ended, at a scale.
 use Rattle.std.specs.Prelude.{◌≡◌, ℕ, ◌+◌, ◌*◌, ◌≤◌, ◌<◌, [], ◌∷◌}
 use Rattle.gcl_core.specs.declared.answers.Fault.{Fault}
-use Rattle.gcl_core.specs.Blocks.{End, failed, fault, limit}
-use Rattle.gcl_core.specs.Fractions.{Fraction}
-use Rattle.gcl_core.specs.WeightedEnds.{Weighted}
+use Rattle.gcl_core.specs.meaning.Blocks.{End, failed, fault, limit}
+use Rattle.gcl_core.specs.weighing.Fractions.{Fraction}
+use Rattle.gcl_core.specs.weighing.WeightedEnds.{Weighted}
 use Rattle.mass_tables.specs.Scale.{whole, Whole, Wholes, amount}
 use Rattle.mass_fold.specs.declared.error.MassError.{MassError}
 use Rattle.mass_fold.specs.declared.error.MassError.TheVariants.{TooWide}

@@ -1,14 +1,14 @@
 -- What a fold makes of a table with each state once, beside what the definition makes of a table.
 use Rattle.std.specs.Prelude.{◌≡◌, ℕ, ◌+◌, ◌-◌, ◌*◌, Option, ◌<◌, ◌≤◌, ◌++◌}
 use Rattle.std.specs.List.{sum}
-use Rattle.gcl_core.specs.Value.{State, value_of}
+use Rattle.gcl_core.specs.meaning.Value.{State, value_of}
 use Rattle.gcl_core.specs.declared.syntax.Weight.{Weight}
 use Rattle.gcl_core.specs.declared.answers.Limit.TheVariants.{Attempts}
-use Rattle.gcl_core.specs.Blocks.{End, limit}
-use Rattle.gcl_core.specs.Fractions.{Fraction}
-use Rattle.gcl_core.specs.WeightedEnds.{Weighted, scaled, class_weight, no_class_weight}
-use Rattle.gcl_core.specs.Arms.{parts_of}
-use Rattle.gcl_core.specs.Syntax.{choice_among, Expression, Statements, ArmList}
+use Rattle.gcl_core.specs.meaning.Blocks.{End, limit}
+use Rattle.gcl_core.specs.weighing.Fractions.{Fraction}
+use Rattle.gcl_core.specs.weighing.WeightedEnds.{Weighted, scaled, class_weight, no_class_weight}
+use Rattle.gcl_core.specs.meaning.Arms.{parts_of}
+use Rattle.gcl_core.specs.meaning.Syntax.{Choose, Expression, Statements, ArmList}
 use Rattle.mass_tables.specs.Tables.{Table, Flow, all_end, states, statement_flow, block_flow, loop_flow}
 use Rattle.mass_tables.specs.Scale.{Whole, Wholes, Within, amount, weight}
 use Rattle.mass_fold.specs.declared.error.MassError.{MassError}
@@ -117,7 +117,7 @@ abbrev pub turns_flow : ℕ → Option ℕ → Expression → Statements → Tab
 turns_flow n r e a = loop_flow (value_of e) (block_flow n r a) n
 
 abbrev pub ArmsFold : ℕ → Option ℕ → ArmList → Entries → Ended → Entries → Ended → Type 0
-ArmsFold n r arms es E fs F = AfterUndecided (sum (parts_of arms)) r es E (λ E. FoldsOne (statement_flow n r (choice_among arms)) es E fs F)
+ArmsFold n r arms es E fs F = AfterUndecided (sum (parts_of arms)) r es E (λ E. FoldsOne (statement_flow n r (Choose arms)) es E fs F)
 
 abbrev pub ArmsBlame : ℕ → Option ℕ → ArmList → Entries → Ended → MassError → Type 0
-ArmsBlame n r arms es E e = AfterUndecided (sum (parts_of arms)) r es E (λ E. OneBlames (statement_flow n r (choice_among arms)) es E e)
+ArmsBlame n r arms es E e = AfterUndecided (sum (parts_of arms)) r es E (λ E. OneBlames (statement_flow n r (Choose arms)) es E e)

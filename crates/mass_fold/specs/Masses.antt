@@ -1,9 +1,9 @@
 -- Rows that hold masses, at a scale.
 use Rattle.std.specs.Prelude.{◌≡◌, ℕ, ◌*◌, ◌<◌, ◌≤◌, Bool, cond, Option}
 use Rattle.gcl_core.specs.declared.answers.Outcome.{Outcome}
-use Rattle.gcl_core.specs.Fractions.{Fraction}
-use Rattle.gcl_core.specs.Mass.{round_mass, failed_mass}
-use Rattle.gcl_core.specs.Syntax.{Source}
+use Rattle.gcl_core.specs.weighing.Fractions.{Fraction}
+use Rattle.gcl_core.specs.weighing.Mass.{round_mass, failed_mass}
+use Rattle.gcl_core.specs.meaning.Syntax.{Source}
 use Rattle.frac128.specs.Fraction.{IsEqual}
 use Rattle.mass_tables.specs.Width.{round_width}
 use Rattle.mass_fold.specs.Amounts.{held, Held}
@@ -14,7 +14,7 @@ abbrev pub counted : (Outcome → Bool) → Outcome → ℕ
 counted meant x = cond (meant x) 1 0
 
 -- whatever outcomes are meant, the rows hold as much as the masses give them
-pub record Holds (N : ℕ) (mass : (Outcome → Bool) → Fraction) (rows : Rows) : Type 0 where
+pub record HoldMasses (N : ℕ) (mass : (Outcome → Bool) → Fraction) (rows : Rows) : Type 0 where
   pub positive : 0 < N
   pub kept : Held N rows
   pub fraction : (meant : Outcome → Bool) → 0 < (mass meant).1
@@ -22,7 +22,7 @@ pub record Holds (N : ℕ) (mass : (Outcome → Bool) → Fraction) (rows : Rows
 
 -- the rows of one round, with the weight of a failed one
 pub record RoundGives (p : Source) (n : ℕ) (r : Option ℕ) (rows : Rows) (f : Fraction) : Type 0 where
-  pub holds : Holds (round_width p n r) (round_mass p n r) rows
+  pub holds : HoldMasses (round_width p n r) (round_mass p n r) rows
   pub parts : TableParts (round_width p n r) rows f
   pub failed : IsEqual f (failed_mass p n r)
   pub fails : 0 < (failed_mass p n r).1

@@ -1,14 +1,14 @@
 -- What is counted of the bits of draws that are reached, at a scale.
 use Rattle.std.specs.Prelude.{◌≡◌, ℕ, zero, suc, ◌+◌, ◌*◌, ◌≤◌, ◌<◌, pos, negsuc, List, [], ◌∷◌, Option, Some, None, Ok, Err}
 use Rattle.std.specs.List.{sum}
-use Rattle.gcl_core.specs.Value.{State, Value, value_of}
-use Rattle.gcl_core.specs.Blocks.{by_value, by_bound, uniform_ends}
-use Rattle.gcl_core.specs.Draw.{last_end}
-use Rattle.gcl_core.specs.Fractions.{Fraction}
-use Rattle.gcl_core.specs.WeightedEnds.{Weighted, class_weight, no_class_weight}
-use Rattle.gcl_core.specs.Arms.{parts_of}
-use Rattle.gcl_core.specs.Parts.{partial_sums}
-use Rattle.gcl_core.specs.Syntax.{choice_among, Expression, Statements, ArmList}
+use Rattle.gcl_core.specs.meaning.Value.{State, Value, value_of}
+use Rattle.gcl_core.specs.meaning.Blocks.{by_value, by_bound}
+use Rattle.gcl_core.specs.meaning.Draw.{last_end, uniform_ends}
+use Rattle.gcl_core.specs.weighing.Fractions.{Fraction}
+use Rattle.gcl_core.specs.weighing.WeightedEnds.{Weighted, class_weight, no_class_weight}
+use Rattle.gcl_core.specs.meaning.Arms.{parts_of}
+use Rattle.gcl_core.specs.meaning.Parts.{partial_sums}
+use Rattle.gcl_core.specs.meaning.Syntax.{Choose, Expression, Statements, ArmList}
 use Rattle.cost_law.specs.ExpectedBits.{attempt_bits}
 use Rattle.mass_tables.specs.Tables.{Table, Flow, statement_flow, block_flow}
 use Rattle.mass_tables.specs.Reached.{Reached, statement_draws, block_draws, loop_draws}
@@ -108,4 +108,4 @@ turns_draws n r e a = loop_draws (value_of e) (block_draws n r a) (block_flow n 
 -- the arms of a choice among several, where their draws were counted before
 abbrev pub ArmsMeter : ℕ → Option ℕ → ArmList → Entries → Ended → Meter → Meter → Type 0
 ArmsMeter n r arms es E now m' = AfterUndecided (sum (parts_of arms)) r es E (λ E. (m : Meter) → CountsDraws r (sum (parts_of arms)) (partial_sums (parts_of arms)) es m now
-    → MetersOne r (statement_flow n r (choice_among arms)) (statement_draws n r (choice_among arms)) es E m m')
+    → MetersOne r (statement_flow n r (Choose arms)) (statement_draws n r (Choose arms)) es E m m')

@@ -2,11 +2,11 @@
 use Rattle.std.specs.Prelude.{◌≡◌, ℕ, ◌+◌, ◌*◌, ◌<◌, ◌≤◌}
 use Rattle.gcl_core.specs.declared.answers.Outcome.{Outcome}
 use Rattle.gcl_core.specs.declared.answers.Outcome.TheVariants as outcome
-use Rattle.gcl_core.specs.Blocks.{End, on, failed, fault, limit}
-use Rattle.gcl_core.specs.Runs.{outcome_of}
-use Rattle.gcl_core.specs.Syntax.{Expression}
-use Rattle.gcl_core.specs.Fractions.{Fraction}
-use Rattle.gcl_core.specs.Value.{State, value_of}
+use Rattle.gcl_core.specs.meaning.Blocks.{End, on, failed, fault, limit}
+use Rattle.gcl_core.specs.meaning.Outcomes.{outcome_of}
+use Rattle.gcl_core.specs.meaning.Syntax.{Expression}
+use Rattle.gcl_core.specs.weighing.Fractions.{Fraction}
+use Rattle.gcl_core.specs.meaning.Value.{State, value_of}
 use Rattle.mass_tables.specs.Scale.{whole, Whole, Wholes, amount}
 use Rattle.mass_fold.specs.declared.error.MassError.{MassError}
 use Rattle.mass_fold.specs.declared.ended.Ended.{Ended}
@@ -34,15 +34,15 @@ abbrev pub ResultsBlame : MassError → Entries → Rows → Type 0
 ResultsBlame e table es = (N L : ℕ) → 0 < N → Held N table → Held N es → held N (λ x. 1) es + held N (λ s. 1) table ≤ N → Blames e N L
 
 -- what an end counts by its outcome; a state and a failed observation have none
-abbrev pub by_end : (Outcome → ℕ) → End → ℕ
-by_end G (on s) = 0
-by_end G failed = 0
-by_end G (fault f) = G (outcome.Fault f)
-by_end G (limit l) = G (outcome.Limit l)
+abbrev pub count_of_end : (Outcome → ℕ) → End → ℕ
+count_of_end G (on s) = 0
+count_of_end G failed = 0
+count_of_end G (fault f) = G (outcome.Fault f)
+count_of_end G (limit l) = G (outcome.Limit l)
 
 -- after the faults and limits were added
 abbrev pub EndedGive : Ended → Rows → Rows → Type 0
-EndedGive E es fs = (N : ℕ) → 0 < N → Wholes N (rows_of E) → Held N es → Held N fs × ((G : Outcome → ℕ) → held N G fs ≡ held N G es + amount N (by_end G) (rows_of E))
+EndedGive E es fs = (N : ℕ) → 0 < N → Wholes N (rows_of E) → Held N es → Held N fs × ((G : Outcome → ℕ) → held N G fs ≡ held N G es + amount N (count_of_end G) (rows_of E))
 
 abbrev pub EndedBlame : MassError → Ended → Rows → Type 0
-EndedBlame e E es = (N L : ℕ) → 0 < N → Wholes N (rows_of E) → Held N es → held N (λ x. 1) es + amount N (by_end (λ x. 1)) (rows_of E) ≤ N → Blames e N L
+EndedBlame e E es = (N L : ℕ) → 0 < N → Wholes N (rows_of E) → Held N es → held N (λ x. 1) es + amount N (count_of_end (λ x. 1)) (rows_of E) ≤ N → Blames e N L

@@ -1,8 +1,8 @@
 -- Why masses are refused: for the width, for the peak, or where all rounds fail and none is the last. This project's own rule.
 use Rattle.std.specs.Prelude.{◌≡◌, ℕ, ◌<◌, ◌≤◌, Option, None}
-use Rattle.gcl_core.specs.Fractions.{IsOne}
-use Rattle.gcl_core.specs.Mass.{failed_mass}
-use Rattle.gcl_core.specs.Syntax.{Source}
+use Rattle.gcl_core.specs.weighing.Fractions.{IsOne}
+use Rattle.gcl_core.specs.weighing.Mass.{failed_mass}
+use Rattle.gcl_core.specs.meaning.Syntax.{Source}
 use Rattle.gcl_core.specs.declared.rules.TheConstants.{MOST_LIMIT}
 use Rattle.mass_tables.specs.Tables.{peak_of}
 use Rattle.mass_tables.specs.Width.{round_width, width_of}

@@ -3,7 +3,7 @@ use Rattle.std.specs.Prelude.{◌≡◌, ℕ, zero, suc, ◌+◌, ◌-◌, ◌*�
 use Rattle.gcl_core.specs.declared.answers.Limit.TheVariants.{Rounds}
 use Rattle.gcl_core.specs.declared.answers.Outcome.{Outcome}
 use Rattle.gcl_core.specs.declared.answers.Outcome.TheVariants as outcome
-use Rattle.gcl_core.specs.Fractions.{Fraction, power}
+use Rattle.gcl_core.specs.weighing.Fractions.{Fraction, power}
 use Rattle.mass_tables.specs.Scale.{whole, Whole}
 use Rattle.mass_fold.specs.declared.error.MassError.{MassError}
 use Rattle.mass_fold.specs.Amounts.{held, Held, Blames}
@@ -21,7 +21,7 @@ scale_of N f zero = N
 scale_of N f (suc n) = N * f.1 ^ n
 
 -- s and f are parts of one whole
-pub record AreParts (N : ℕ) (s f : Fraction) : Type 0 where
+pub record ArePartsOfOne (N : ℕ) (s f : Fraction) : Type 0 where
   pub positive : 0 < N
   pub first : Whole N s
   pub second : Whole N f

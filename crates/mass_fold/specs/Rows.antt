@@ -3,8 +3,8 @@
 use Rattle.std.specs.Prelude.{◌≡◌, ◌<◌, true, List, [], ◌∷◌, map, AllPairs, Contains}
 use Rattle.frac128.specs.Fraction.{InLowest, lowest}
 use Rattle.gcl_core.specs.declared.answers.Outcome.{Outcome}
-use Rattle.gcl_core.specs.Fractions.{Fraction}
-use Rattle.gcl_core.specs.Order.{is_before}
+use Rattle.gcl_core.specs.weighing.Fractions.{Fraction}
+use Rattle.gcl_core.specs.meaning.Order.{is_before}
 
 abbrev pub Rows : Type 0
 Rows = List (Outcome × Fraction)

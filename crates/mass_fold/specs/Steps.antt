@@ -1,9 +1,9 @@
 -- What one pass over a table makes of it.
 use Rattle.std.specs.Prelude.{◌≡◌, ℕ, ◌+◌, ◌*◌, ◌≤◌, ◌<◌, [], ◌∷◌, Option, slice_set, pos}
-use Rattle.gcl_core.specs.Value.{State, Value}
-use Rattle.gcl_core.specs.Blocks.{End}
-use Rattle.gcl_core.specs.Fractions.{Fraction, times, power}
-use Rattle.gcl_core.specs.WeightedEnds.{class_weight, no_class_weight}
+use Rattle.gcl_core.specs.meaning.Value.{State, Value}
+use Rattle.gcl_core.specs.meaning.Blocks.{End}
+use Rattle.gcl_core.specs.weighing.Fractions.{Fraction, times, power}
+use Rattle.gcl_core.specs.weighing.WeightedEnds.{class_weight, no_class_weight}
 use Rattle.frac128.specs.Fraction.{IsEqual, Overfills}
 use Rattle.mass_tables.specs.Tables.{Table, states}
 use Rattle.mass_tables.specs.Scale.{whole, Whole, Wholes, amount, weight}
@@ -55,28 +55,28 @@ EachState Fact [] = Unit {0}
 EachState Fact (e ∷ es) = Fact e.0 × EachState Fact es
 
 -- both weights of a state's draw are whole
-abbrev pub Draws : ℕ → (State → Fraction) → (State → Fraction) → State → Type 0
-Draws N p q s = Whole N (p s) × Whole N (q s)
+abbrev pub BothWhole : ℕ → (State → Fraction) → (State → Fraction) → State → Type 0
+BothWhole N p q s = Whole N (p s) × Whole N (q s)
 
 -- what each entry's draw adds, by its weights p and q; with some entries left
-pub record Drawing (N : ℕ) (p q : State → Fraction) (go : (State → ℕ) → State → ℕ) (stop : (End → ℕ) → State → ℕ) (es : Entries) (E : Ended) (fs : Entries) (F : Ended) (rest : Entries) : Type 0 where
+pub record DrawsSoFar (N : ℕ) (p q : State → Fraction) (go : (State → ℕ) → State → ℕ) (stop : (End → ℕ) → State → ℕ) (es : Entries) (E : Ended) (fs : Entries) (F : Ended) (rest : Entries) : Type 0 where
   pub kept : Held N fs
   pub ended : Wholes N (rows_of F)
   pub left : Held N rest
   pub parts : Shares N p rest
   pub rests : Shares N q rest
-  pub draws : EachState (Draws N p q) es → EachState (Draws N p q) rest
+  pub draws : EachState (BothWhole N p q) es → EachState (BothWhole N p q) rest
   pub going : (G : State → ℕ) → held N G fs + shared N p (go G) rest ≡ shared N p (go G) es
   pub stopping : (G : End → ℕ) → amount N G (rows_of F) + shared N q (stop G) rest ≡ amount N G (rows_of E) + shared N q (stop G) es
 
 abbrev pub DrawsOn : (State → Fraction) → (State → Fraction) → ((State → ℕ) → State → ℕ) → ((End → ℕ) → State → ℕ) → Entries → Ended → Entries → Ended → Entries → Type 0
-DrawsOn p q go stop es E fs F rest = (N : ℕ) → 0 < N → Held N es → Wholes N (rows_of E) → Shares N p es → Shares N q es → Drawing N p q go stop es E fs F rest
+DrawsOn p q go stop es E fs F rest = (N : ℕ) → 0 < N → Held N es → Wholes N (rows_of E) → Shares N p es → Shares N q es → DrawsSoFar N p q go stop es E fs F rest
 
 abbrev pub DrawsTo : (State → Fraction) → (State → Fraction) → ((State → ℕ) → State → ℕ) → ((End → ℕ) → State → ℕ) → Entries → Ended → Entries → Ended → Type 0
 DrawsTo p q go stop es E fs F = DrawsOn p q go stop es E fs F []
 
 abbrev pub DrawBlames : (State → Fraction) → (State → Fraction) → ((State → ℕ) → State → ℕ) → ((End → ℕ) → State → ℕ) → Entries → Ended → MassError → Type 0
-DrawBlames p q go stop es E e = (N L : ℕ) (I : Table) → 0 < N → Held N es → Wholes N (rows_of E) → Shares N p es → Shares N q es → EachState (Draws N p q) es
+DrawBlames p q go stop es E e = (N L : ℕ) (I : Table) → 0 < N → Held N es → Wholes N (rows_of E) → Shares N p es → Shares N q es → EachState (BothWhole N p q) es
     → ((G : State → ℕ) → shared N p (go G) es ≤ amount N G I) → weight N I ≤ N → states I ≤ L → amount N (λ x. 1) (rows_of E) + shared N q (stop (λ x. 1)) es ≤ N → Blames e N L
 
 -- the weights of one number of a draw with b numbers, and of none

@@ -2,8 +2,8 @@
 use Rattle.std.specs.Prelude.{◌≡◌, ℕ, ◌^◌, Bool, List, Contains}
 use Rattle.gcl_core.specs.declared.answers.Answer.{Answer}
 use Rattle.gcl_core.specs.declared.answers.Outcome.{Outcome}
-use Rattle.gcl_core.specs.Fractions.{Fraction, IsShare, IsWithinShare}
-use Rattle.gcl_core.specs.StringWeight.{outcome_weight}
+use Rattle.gcl_core.specs.weighing.Fractions.{Fraction, IsShare, IsWithinShare}
+use Rattle.gcl_core.specs.weighing.StringWeight.{outcome_weight}
 use Rattle.weighing_law.specs.Weighing.{Suffices}
 use Rattle.mass_fold.specs.Rows.{Rows}
 

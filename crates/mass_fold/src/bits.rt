@@ -2,8 +2,8 @@
 
 ghost use Rattle.std.specs.Prelude.{◌≡◌, ◌≤◌, Some, IfOk, IfErr};
 ghost use Rattle.frac128.specs.Fraction.{lowest};
-ghost use Rattle.gcl_core.specs.Mass.{failed_mass};
-ghost use Rattle.gcl_core.specs.Views.{source_of};
+ghost use Rattle.gcl_core.specs.weighing.Mass.{failed_mass};
+ghost use Rattle.gcl_core.specs.meaning.Views.{source_of};
 ghost use Rattle.gcl_core.specs.declared.rules.TheConstants.{MOST_LIMIT};
 ghost use Rattle.mass_tables.specs.Width.{round_width};
 ghost use Rattle.mass_fold.specs.Body.{RoundBits, IsMass};

@@ -1,8 +1,8 @@
 // The body of a program, begun with every variable 0.
 
 ghost use Rattle.std.specs.Prelude.{◌≡◌, ◌≤◌, length, IfOk, IfErr, IfSome};
-ghost use Rattle.gcl_core.specs.Runs.{zeros};
-ghost use Rattle.gcl_core.specs.Views.{source_of};
+ghost use Rattle.gcl_core.specs.meaning.Outcomes.{zeros};
+ghost use Rattle.gcl_core.specs.meaning.Views.{source_of};
 ghost use Rattle.mass_tables.specs.Tables.{peak_of};
 ghost use Rattle.mass_tables.specs.Width.{round_width};
 ghost use Rattle.mass_fold.specs.Amounts.{Blames};

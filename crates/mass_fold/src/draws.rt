@@ -2,12 +2,12 @@
 
 ghost use Rattle.std.specs.Prelude.{◌≡◌, ◌<◌, ◌≤◌, ◌^◌, [], length, IfOk, OnOk, IfErr, IfSome, IfNone};
 ghost use Rattle.frac128.specs.Fraction.{InLowest};
-ghost use Rattle.gcl_core.specs.Blocks.{limit};
+ghost use Rattle.gcl_core.specs.meaning.Blocks.{limit};
 ghost use Rattle.gcl_core.specs.declared.answers.Limit.TheVariants as limit_kind;
-ghost use Rattle.gcl_core.specs.Fractions.{power};
-ghost use Rattle.gcl_core.specs.WeightedEnds.{class_weight, no_class_weight};
-ghost use Rattle.gcl_core.specs.Views.{expression_of};
-ghost use Rattle.gcl_core.specs.Value.{value_of, Reads};
+ghost use Rattle.gcl_core.specs.weighing.Fractions.{power};
+ghost use Rattle.gcl_core.specs.weighing.WeightedEnds.{class_weight, no_class_weight};
+ghost use Rattle.gcl_core.specs.meaning.Views.{expression_of};
+ghost use Rattle.gcl_core.specs.meaning.Value.{value_of, ExpressionBelow};
 ghost use Rattle.mass_tables.specs.Counts.{part_at, rest_at, drawn, undrawn, all_kept, none_kept, all_stopped, none_stopped};
 ghost use Rattle.mass_fold.specs.declared.ended.Ended.{Ended};
 ghost use Rattle.mass_fold.specs.declared.error.MassError.TheVariants.{TooWide};
@@ -201,7 +201,7 @@ fn draw_entry(
 ) -> Result<(), MassError>
     requires sized { length s.now ≡ next.old.vars }
     requires place { x < length s.now }
-    requires reads { Reads (expression_of e.now) (length s.now) }
+    requires reads { ExpressionBelow (expression_of e.now) (length s.now) }
     requires some { IfSome attempts (λ r. 1 ≤ r) }
     ensures added { OnOk result (AddedBy (part_at (value_of (expression_of e.now)) attempts s.now) next.old.states.entries next.new.states.entries f.now (λ G. drawn x (value_of (expression_of e.now)) G s.now)) }
     ensures stopped { OnOk result (StoppedBy (rest_at (value_of (expression_of e.now)) attempts s.now) ended.old ended.new f.now (λ G. undrawn (value_of (expression_of e.now)) G s.now)) }
@@ -241,7 +241,7 @@ pub fn draw(
     ended: &mut Ended,
 ) -> Result<Table, MassError>
     requires place { x < table.vars }
-    requires reads { Reads (expression_of e.now) table.vars }
+    requires reads { ExpressionBelow (expression_of e.now) table.vars }
     requires some { IfSome attempts (λ r. 1 ≤ r) }
     ensures ok { IfOk result (λ t. UniformTo x (value_of (expression_of e.now)) attempts table.states.entries ended.old t.states.entries ended.new) }
     ensures vars { IfOk result (λ t. t.vars ≡ table.vars) }

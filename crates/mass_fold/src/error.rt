@@ -13,7 +13,7 @@ pub enum MassError {
     TooManyStates,
     /// Every round fails, and rounds have no limit.
     AllFailed,
-    /// Memory is wanting.
+    /// Memory ran out.
     OutOfMemory,
 }
 

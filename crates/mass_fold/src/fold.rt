@@ -3,12 +3,12 @@
 ghost use Rattle.std.specs.Prelude.{◌≡◌, ◌<◌, ◌≤◌, length, IfOk, IfErr, IfSome};
 ghost use Rattle.std.specs.List.{sum};
 ghost use Rattle.frac128.specs.Fraction.{IsEqual};
-ghost use Rattle.gcl_core.specs.Arms.{parts_of};
-ghost use Rattle.gcl_core.specs.Bounds.{StatementIsWeighed, BlockIsWeighed, ArmsAreWeighed, StatementBelow, BlockBelow, ArmsBelow};
-ghost use Rattle.gcl_core.specs.Parts.{AreParts};
-ghost use Rattle.gcl_core.specs.Views.{expression_of, statement_of, statements_of, list_of_arms};
-ghost use Rattle.gcl_core.specs.Value.{Reads};
-ghost use Rattle.gcl_core.specs.WeightedEnds.{class_weight};
+ghost use Rattle.gcl_core.specs.meaning.Arms.{parts_of};
+ghost use Rattle.gcl_core.specs.meaning.Bounds.{StatementIsWeighed, BlockIsWeighed, ArmsAreWeighed, StatementBelow, BlockBelow, ArmsBelow};
+ghost use Rattle.gcl_core.specs.meaning.Parts.{AreParts};
+ghost use Rattle.gcl_core.specs.meaning.Views.{expression_of, statement_of, statements_of, list_of_arms};
+ghost use Rattle.gcl_core.specs.meaning.Value.{ExpressionBelow};
+ghost use Rattle.gcl_core.specs.weighing.WeightedEnds.{class_weight};
 ghost use Rattle.mass_tables.specs.Tables.{statement_flow, block_flow};
 ghost use Rattle.mass_tables.specs.Reached.{statement_draws, block_draws};
 ghost use Rattle.mass_fold.specs.Fold.{FoldsTo, FoldBlames, FoldsOne, OneBlames, turns_flow, ArmsFold, ArmsBlame};
@@ -204,7 +204,7 @@ fn fold_loop(
     ended: &mut Ended,
     meter: &mut Meter,
 ) -> Result<Table, MassError>
-    requires reads { Reads (expression_of e.now) table.vars }
+    requires reads { ExpressionBelow (expression_of e.now) table.vars }
     requires below { BlockBelow table.vars (statements_of body.now) }
     requires weights { BlockIsWeighed (statements_of body.now) }
     requires some { IfSome attempts (λ r. 1 ≤ r) }

@@ -2,10 +2,10 @@
 
 ghost use Rattle.std.specs.Prelude.{◌≡◌, ◌≤◌, ℕ, Option, IfOk, IfErr, IfSome, IfNone};
 ghost use Rattle.frac128.specs.Fraction.{lowest};
-ghost use Rattle.gcl_core.specs.Fractions.{IsBelowOne};
-ghost use Rattle.gcl_core.specs.Mass.{round_mass, failed_mass, mass_of};
-ghost use Rattle.gcl_core.specs.Outcomes.{same_outcome};
-ghost use Rattle.gcl_core.specs.Views.{source_of};
+ghost use Rattle.gcl_core.specs.weighing.Fractions.{IsBelowOne};
+ghost use Rattle.gcl_core.specs.weighing.Mass.{round_mass, failed_mass, mass_of};
+ghost use Rattle.gcl_core.specs.meaning.Outcomes.{same_outcome};
+ghost use Rattle.gcl_core.specs.meaning.Views.{source_of};
 ghost use Rattle.gcl_core.specs.declared.rules.TheConstants.{MOST_LIMIT};
 ghost use Rattle.mass_tables.specs.Width.{round_width, width_of};
 ghost use Rattle.mass_fold.specs.Masses.{RoundGives, WholeWithin};
@@ -50,7 +50,7 @@ fn one_round(
 /// where there is none, a draw takes as many as it needs.
 ///
 /// `TooWide` comes only where the common denominator of the round is above 2^128 − 1, and `TooManyStates` only where some point of the
-/// program is reached with more than 65,536 states. `AllFailed` never comes, and `OutOfMemory` where memory is wanting.
+/// program is reached with more than 65,536 states. `AllFailed` never comes, and `OutOfMemory` where memory runs out.
 pub fn round(
     alloc: Global,
     p: &Checked,
@@ -78,7 +78,7 @@ pub fn round(
 ///
 /// `TooWide` comes only where the width of the program under these limits is above 2^128 − 1, and `TooManyStates` only where some point
 /// of the program is reached with more than 65,536 states. `AllFailed` comes only where rounds have no limit and each round fails; there
-/// no rows come. `OutOfMemory` comes where memory is wanting.
+/// no rows come. `OutOfMemory` comes where memory runs out.
 pub fn mass(
     alloc: Global,
     p: &Checked,

@@ -3,12 +3,12 @@
 ghost use Rattle.std.specs.Prelude.{◌≡◌, ◌≤◌, ◌<◌, ◌*◌, ◌^◌, ℕ, [], ◌∷◌, length, IfSome, IfNone};
 ghost use Rattle.std.specs.List.{sum};
 ghost use Rattle.cost_law.specs.ExpectedBits.{attempt_bits};
-ghost use Rattle.gcl_core.specs.Arms.{parts_of};
-ghost use Rattle.gcl_core.specs.Blocks.{choice_ends};
-ghost use Rattle.gcl_core.specs.Bounds.{IsWeight};
-ghost use Rattle.gcl_core.specs.Parts.{AreParts, partial_sums};
-ghost use Rattle.gcl_core.specs.Value.{value_of, Reads};
-ghost use Rattle.gcl_core.specs.Views.{expression_of, list_of_arms};
+ghost use Rattle.gcl_core.specs.meaning.Arms.{parts_of};
+ghost use Rattle.gcl_core.specs.meaning.Draw.{choice_ends};
+ghost use Rattle.gcl_core.specs.meaning.Bounds.{IsWeight};
+ghost use Rattle.gcl_core.specs.meaning.Parts.{AreParts, partial_sums};
+ghost use Rattle.gcl_core.specs.meaning.Value.{value_of, ExpressionBelow};
+ghost use Rattle.gcl_core.specs.meaning.Views.{expression_of, list_of_arms};
 ghost use Rattle.mass_tables.specs.Scale.{whole, Whole};
 ghost use Rattle.mass_fold.specs.Metering.{CountedOn, AddsBits, IsPrice, PriceBlames, bound_price, IsBoundPriced, CountsAll, CountsDraws};
 
@@ -142,7 +142,7 @@ pub fn count_arms(meter: Meter, arms: &Arms, attempts: Option<u64>, table: &Tabl
 
 // The meter, with the draw of one state of weight f, with as many numbers as an expression says.
 fn count_bound(meter: Meter, e: &Expr, attempts: Option<u64>, s: &State, f: &Frac) -> Meter
-    requires reads { Reads (expression_of e.now) (length s.now) }
+    requires reads { ExpressionBelow (expression_of e.now) (length s.now) }
     requires some { IfSome attempts (λ r. 1 ≤ r) }
     ensures { CountsAll (IsBoundPriced (value_of (expression_of e.now)) attempts) (bound_price (value_of (expression_of e.now)) attempts) ((s.now, f.now) ∷ []) meter result }
 {
@@ -166,7 +166,7 @@ fn count_bound(meter: Meter, e: &Expr, attempts: Option<u64>, s: &State, f: &Fra
 
 /// The meter, with the uniform draw of each entry.
 pub fn count_uniform(meter: Meter, e: &Expr, attempts: Option<u64>, table: &Table) -> Meter
-    requires reads { Reads (expression_of e.now) table.now.vars }
+    requires reads { ExpressionBelow (expression_of e.now) table.now.vars }
     requires some { IfSome attempts (λ r. 1 ≤ r) }
     ensures { CountsAll (IsBoundPriced (value_of (expression_of e.now)) attempts) (bound_price (value_of (expression_of e.now)) attempts) table.now.states.entries meter result }
 {

@@ -1,9 +1,9 @@
 // The outcomes of a round, each with its weight.
 
 ghost use Rattle.std.specs.Prelude.{◌≡◌, length, IfOk, OnOk, IfErr};
-ghost use Rattle.gcl_core.specs.Runs.{outcome_of};
-ghost use Rattle.gcl_core.specs.Value.{value_of, Reads};
-ghost use Rattle.gcl_core.specs.Views.{expression_of};
+ghost use Rattle.gcl_core.specs.meaning.Outcomes.{outcome_of};
+ghost use Rattle.gcl_core.specs.meaning.Value.{value_of, ExpressionBelow};
+ghost use Rattle.gcl_core.specs.meaning.Views.{expression_of};
 ghost use Rattle.mass_fold.specs.Amounts.{SumAt};
 ghost use Rattle.mass_fold.specs.Outcomes.{AddGives, AddBlames, ResultsGive, ResultsBlame, EndedGive, EndedBlame};
 
@@ -17,7 +17,7 @@ use std::collections::BTreeMap;
 
 /// What a state of the body ends the run in: the value of the program's result, or its fault.
 fn outcome(e: &Expr, s: &State) -> Outcome
-    requires { Reads (expression_of e.now) (length s.now) }
+    requires { ExpressionBelow (expression_of e.now) (length s.now) }
     ensures { result ≡ outcome_of (value_of (expression_of e.now) s.now) }
 {
     match eval(e, s.values()) {
@@ -66,7 +66,7 @@ pub fn add_results(
     table: &Table,
     rows: &mut BTreeMap<Outcome, Frac>,
 ) -> Result<(), MassError>
-    requires { Reads (expression_of e.now) table.now.vars }
+    requires { ExpressionBelow (expression_of e.now) table.now.vars }
     ensures ok { OnOk result (ResultsGive (expression_of e.now) table.now.states.entries rows.old.entries rows.new.entries) }
     ensures cause { IfErr result (λ error. ResultsBlame error table.now.states.entries rows.old.entries) }
 {

@@ -3,7 +3,7 @@
 ghost use Rattle.std.specs.Prelude.{◌≡◌, [], ◌∷◌, length, All, OnOk, IfOk, IfErr};
 ghost use Rattle.std.specs.BTreeMap.{keys};
 ghost use Rattle.std.proofs.Props.{props};
-ghost use Rattle.gcl_core.specs.Runs.{zeros};
+ghost use Rattle.gcl_core.specs.meaning.Outcomes.{zeros};
 ghost use Rattle.mass_fold.specs.declared.error.MassError.TheVariants.{OutOfMemory};
 ghost use Rattle.mass_fold.specs.Amounts.{PutGives, PutBlames, SumAt, order};
 

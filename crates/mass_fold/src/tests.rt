@@ -2,8 +2,8 @@
 
 ghost use Rattle.std.specs.Prelude.{◌≡◌, pos, IfOk};
 ghost use Rattle.gcl_core.specs.declared.syntax.BinOp.TheVariants.{Add};
-ghost use Rattle.gcl_core.specs.Syntax.{number, variable, binary, assign, choice, choice_among, done, ◌▸◌, no_arm, arm};
-ghost use Rattle.gcl_core.specs.Views.{expression_of, statement_of, statements_of};
+ghost use Rattle.gcl_core.specs.meaning.Syntax.{Num, Var, Bin, Set, Choice, Choose, done, ◌▸◌, no_arm, arm};
+ghost use Rattle.gcl_core.specs.meaning.Views.{expression_of, statement_of, statements_of};
 
 use crate::{FracRows, MassError, mass, round};
 use gcl_check::check;
@@ -42,13 +42,13 @@ fn three(alloc: Global, first: Stmt, second: Stmt, third: Stmt) -> Result<Block,
 
 #[tactic(auto, using(gcl_core::proofs::ViewLemmas::views))]
 fn set(alloc: Global, x: u32, e: Expr) -> Result<Block, AllocError>
-    ensures { IfOk result (λ b. statements_of b ≡ assign x (expression_of e) ▸ done) }
+    ensures { IfOk result (λ b. statements_of b ≡ Set x (expression_of e) ▸ done) }
 {
     one(alloc, Stmt::Set(x, e))
 }
 
 fn binary(alloc: Global, op: BinOp, left: Expr, right: Expr) -> Result<Expr, AllocError>
-    ensures { IfOk result (λ e. expression_of e ≡ binary op (expression_of left) (expression_of right)) }
+    ensures { IfOk result (λ e. expression_of e ≡ Bin op (expression_of left) (expression_of right)) }
 {
     Ok(Expr::Bin(op, Box::new(alloc, left)?, Box::new(alloc, right)?))
 }
@@ -79,7 +79,7 @@ fn choose(
     second: Block,
     third: Block,
 ) -> Result<Stmt, AllocError>
-    ensures { IfOk result (λ s. statement_of s ≡ choice_among (arm parts.0 (statements_of first) (arm parts.1 (statements_of second) (arm parts.2 (statements_of third) no_arm)))) }
+    ensures { IfOk result (λ s. statement_of s ≡ Choose (arm parts.0 (statements_of first) (arm parts.1 (statements_of second) (arm parts.2 (statements_of third) no_arm)))) }
 {
     let (a, b, c) = parts;
     let arms = vec![in alloc; (a, first), (b, second), (c, third)]?;
@@ -130,7 +130,7 @@ fn some_one(alloc: Global) -> Result<Option<Checked>, AllocError> {
 #[tactic(auto, using(gcl_core::proofs::ViewLemmas::views))]
 fn step(alloc: Global) -> Result<Block, AllocError>
     ensures { IfOk result (λ b. statements_of b
-        ≡ choice (record { num = 1; den = 2 }) (assign 1 (binary Add (variable 1) (number (pos 1))) ▸ done) (assign 0 (number (pos 0)) ▸ done) ▸ done) }
+        ≡ Choice (record { num = 1; den = 2 }) (Set 1 (Bin Add (Var 1) (Num (pos 1))) ▸ done) (Set 0 (Num (pos 0)) ▸ done) ▸ done) }
 {
     let weight = Weight { num: 1, den: 2 };
     let more = set(
@@ -289,7 +289,7 @@ const TWO_THIRDS: [Case; 3] = [
     },
 ];
 
-// Of the eight numbers of one attempt three, two and one are of a class, and two are called again.
+// Of the eight numbers of one attempt three, two and one are of a class, and two are rejected.
 const THREE_TWO_ONE: [Case; 3] = [
     Case {
         turns: 30,

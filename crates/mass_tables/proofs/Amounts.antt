@@ -1,9 +1,9 @@
 -- Amounts of tables and of what ended.
 use Rattle.std.proofs.Common.{◌≡◌, ℕ, zero, suc, ◌+◌, ◌*◌, Bool, true, false, List, [], ◌∷◌, ◌++◌, Ok, Err, refl, ap, ◌∙◌, arith}
-use Rattle.gcl_core.specs.Blocks.{End, on, failed, fault, limit}
-use Rattle.gcl_core.specs.Value.{State, Value}
-use Rattle.gcl_core.specs.Fractions.{Fraction}
-use Rattle.gcl_core.specs.WeightedEnds.{Weighted, sure, scaled, taken_on}
+use Rattle.gcl_core.specs.meaning.Blocks.{End, on, failed, fault, limit}
+use Rattle.gcl_core.specs.meaning.Value.{State, Value}
+use Rattle.gcl_core.specs.weighing.Fractions.{Fraction}
+use Rattle.gcl_core.specs.weighing.WeightedEnds.{Weighted, sure, scaled, taken_on}
 use Rattle.mass_tables.specs.Counts.{stopped, kept_if, all_stopped}
 use Rattle.mass_tables.specs.Tables.{Table, Flow, going_on, gone, only, faults, all_end, both}
 use Rattle.mass_tables.specs.Scale.{whole, amount, Wholes, AllWhole, TablesWithin, Within}

@@ -2,13 +2,13 @@
 use Rattle.std.proofs.Common.{◌≡◌, ℕ, suc, ◌+◌, ◌-◌, List, [], ◌∷◌, ◌++◌, Option, None, append_assoc, refl, sym, ap, ◌∙◌, arith}
 use Rattle.std.specs.List.{sum}
 use Rattle.gcl_core.specs.declared.answers.Limit.TheVariants.{Attempts}
-use Rattle.gcl_core.specs.Arms.{parts_of}
-use Rattle.gcl_core.specs.Parts.{sums_from, partial_sums}
-use Rattle.gcl_core.specs.Syntax.{choice_among, ArmList, no_arm, arm}
-use Rattle.gcl_core.specs.Value.{State}
-use Rattle.gcl_core.specs.Blocks.{End, limit, by_class}
-use Rattle.gcl_core.specs.Fractions.{Fraction}
-use Rattle.gcl_core.specs.WeightedEnds.{Weighted, sure, scaled, taken_on, class_weight, no_class_weight, classes_from, statement_weighted, weighted_ends, arm_weighted}
+use Rattle.gcl_core.specs.meaning.Arms.{parts_of}
+use Rattle.gcl_core.specs.meaning.Parts.{sums_from, partial_sums}
+use Rattle.gcl_core.specs.meaning.Syntax.{Choose, ArmList, no_arm, arm}
+use Rattle.gcl_core.specs.meaning.Value.{State}
+use Rattle.gcl_core.specs.meaning.Blocks.{End, limit, by_class}
+use Rattle.gcl_core.specs.weighing.Fractions.{Fraction}
+use Rattle.gcl_core.specs.weighing.WeightedEnds.{Weighted, sure, scaled, taken_on, class_weight, no_class_weight, classes_from, statement_weighted, weighted_ends, arm_weighted}
 use Rattle.gcl_core.proofs.PartialSums.{last_is}
 
 pub taken_append : {A B : Type 0} (m n : Weighted A) (k : A → Weighted B) → taken_on (m ++ n) k ≡ taken_on m k ++ taken_on n k
@@ -40,7 +40,7 @@ module _ (n : ℕ) (r : Option ℕ) where
       ∙ ap (λ m. scaled (class_weight b r p) (weighted_ends n r a s) ++ m) (rest ∙ arm_by_arm stop b (c + p) arms s)
 
   -- and of what no attempt decides
-  pub choose_weighted : (arms : ArmList) (s : State) → statement_weighted n r (choice_among arms) s ≡ arm_ends (sum (parts_of arms)) arms s ++ (scaled (no_class_weight (sum (parts_of arms)) r) (sure (limit Attempts)) ++ [])
+  pub choose_weighted : (arms : ArmList) (s : State) → statement_weighted n r (Choose arms) s ≡ arm_ends (sum (parts_of arms)) arms s ++ (scaled (no_class_weight (sum (parts_of arms)) r) (sure (limit Attempts)) ++ [])
   choose_weighted arms s =
       let stop = sure (limit Attempts) in
       let ends = partial_sums (parts_of arms) in

@@ -1,10 +1,10 @@
 -- At the common denominator of a round each fraction of its tables is whole.
 use Rattle.std.proofs.Common.{ℕ, length, Option, arith}
 use Rattle.std.proofs.lemmas.Nat.Gcd.{dvd_refl}
-use Rattle.gcl_core.specs.Syntax.{Source}
-use Rattle.gcl_core.specs.Bounds.{BlockIsWeighed}
-use Rattle.gcl_core.specs.Runs.{zeros}
-use Rattle.gcl_core.specs.WeightedEnds.{sure}
+use Rattle.gcl_core.specs.meaning.Syntax.{Source}
+use Rattle.gcl_core.specs.meaning.Bounds.{BlockIsWeighed}
+use Rattle.gcl_core.specs.meaning.Outcomes.{zeros}
+use Rattle.gcl_core.specs.weighing.WeightedEnds.{sure}
 use Rattle.mass_tables.specs.Tables.{tables_of, peak_of}
 use Rattle.mass_tables.specs.Width.{fractions, round_width}
 use Rattle.mass_tables.specs.Scale.{WholeAtWidth}

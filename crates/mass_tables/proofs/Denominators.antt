@@ -3,8 +3,8 @@ use Rattle.std.proofs.Common.{◌≡◌, ℕ, ◌*◌, ◌/◌, ◌≤◌, ◌<�
 use Prim.Native.Nat.{◌∣◌}
 use native.Mathlib.Nat.{mul-div_cancel', dvd-mul_left, dvd-mul_right}
 use Rattle.std.proofs.lemmas.Nat.Gcd.{dvd_trans}
-use Rattle.gcl_core.specs.Fractions.{Fraction}
-use Rattle.gcl_core.specs.WeightedEnds.{Weighted}
+use Rattle.gcl_core.specs.weighing.Fractions.{Fraction}
+use Rattle.gcl_core.specs.weighing.WeightedEnds.{Weighted}
 use Rattle.frac128.specs.Divisor.{gcd, lcm}
 use Rattle.frac128.specs.Fraction.{lowest}
 use Rattle.frac128.proofs.Divisors.{gcd_is, gcd_pos, along_to, lcm_is, product_pos, lowest_in_lowest, lowest_equal, crosswise}

@@ -2,10 +2,9 @@
 use Rattle.std.proofs.Common.{◌≡◌, ℕ, zero, suc, ◌+◌, ◌*◌, ◌^◌, ◌<◌, Option, Some, None, refl, ap, arith}
 use Rattle.std.proofs.lemmas.Nat.{pow-add}
 use Rattle.std.proofs.Math.Nat.{pow-suc, pow-zero}
-use Rattle.gcl_core.specs.Draw.{bits_for}
-use Rattle.gcl_core.specs.OneDraw.{called_again, strings_to_a_number}
-use Rattle.gcl_core.specs.Fractions.{Fraction, times}
-use Rattle.gcl_core.specs.WeightedEnds.{class_weight, no_class_weight}
+use Rattle.gcl_core.specs.meaning.Draw.{bits_for, rejected_numbers, strings_to_a_number}
+use Rattle.gcl_core.specs.weighing.Fractions.{Fraction, times}
+use Rattle.gcl_core.specs.weighing.WeightedEnds.{class_weight, no_class_weight}
 use Rattle.gcl_core.proofs.Classes.{bits_enough}
 use Rattle.mass_tables.specs.Scale.{whole, Whole}
 use Rattle.frac128.proofs.Divisors.{cancel}
@@ -26,11 +25,11 @@ parts_all b k q (suc r) e =
 -- the parts of a draw with b parts, as whole numbers of a total
 abbrev pub each_part : ℕ → Option ℕ → ℕ
 each_part b None = 1
-each_part b (Some r) = strings_to_a_number (bits_for b) (called_again b) r
+each_part b (Some r) = strings_to_a_number (bits_for b) (rejected_numbers b) r
 
 abbrev pub no_part : ℕ → Option ℕ → ℕ
 no_part b None = 0
-no_part b (Some r) = called_again b ^ r
+no_part b (Some r) = rejected_numbers b ^ r
 
 abbrev pub all_parts : ℕ → Option ℕ → ℕ
 all_parts b None = b
@@ -38,7 +37,7 @@ all_parts b (Some r) = 2 ^ (bits_for b * r)
 
 pub parts_add_up : (b : ℕ) (r : Option ℕ) → b * each_part b r + no_part b r ≡ all_parts b r
 parts_add_up b None = omega arith
-parts_add_up b (Some r) = let h = bits_enough b in parts_all b (bits_for b) (called_again b) r (omega arith)
+parts_add_up b (Some r) = let h = bits_enough b in parts_all b (bits_for b) (rejected_numbers b) r (omega arith)
 
 pub all_parts_pos : (b : ℕ) (r : Option ℕ) → 0 < b → 0 < all_parts b r
 all_parts_pos b None h = h

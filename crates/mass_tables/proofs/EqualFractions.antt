@@ -1,6 +1,6 @@
 -- Sums and products of fractions of one value.
 use Rattle.std.proofs.Common.{◌≡◌, ℕ, ◌+◌, ◌*◌, ap, arith}
-use Rattle.gcl_core.specs.Fractions.{Fraction, plus, times}
+use Rattle.gcl_core.specs.weighing.Fractions.{Fraction, plus, times}
 use Rattle.frac128.specs.Fraction.{IsEqual}
 
 pub equal_plus : (p q s t : Fraction) → IsEqual p q → IsEqual s t → IsEqual (plus p s) (plus q t)

@@ -3,14 +3,14 @@ use Rattle.std.proofs.Common.{◌≡◌, ℕ, zero, suc, ◌+◌, ◌*◌, ◌-�
 use Rattle.std.specs.List.{sum}
 use Rattle.std.proofs.lemmas.List.Sums.{sum_by-cons}
 use Rattle.gcl_core.specs.declared.answers.Limit.TheVariants.{Turns, Attempts}
-use Rattle.gcl_core.specs.Arms.{parts_of}
-use Rattle.gcl_core.specs.Syntax.{Statement, skip, assign, branch, loop, choice, choice_among, uniform, observe, Statements, done, ◌▸◌, ArmList, no_arm, arm}
-use Rattle.gcl_core.specs.Bounds.{StatementIsWeighed, BlockIsWeighed, ArmsAreWeighed}
-use Rattle.gcl_core.specs.Parts.{AreParts}
-use Rattle.gcl_core.specs.Value.{State, Value, value_of, is_zero}
-use Rattle.gcl_core.specs.Blocks.{End, on, failed, fault, limit, by_value, by_bound}
-use Rattle.gcl_core.specs.Fractions.{Fraction, times, one}
-use Rattle.gcl_core.specs.WeightedEnds.{Weighted, sure, scaled, taken_on, class_weight, no_class_weight, statement_weighted}
+use Rattle.gcl_core.specs.meaning.Arms.{parts_of}
+use Rattle.gcl_core.specs.meaning.Syntax.{Statement, Skip, Set, If, While, Choice, Choose, Uniform, Observe, Statements, done, ◌▸◌, ArmList, no_arm, arm}
+use Rattle.gcl_core.specs.meaning.Bounds.{StatementIsWeighed, BlockIsWeighed, ArmsAreWeighed}
+use Rattle.gcl_core.specs.meaning.Parts.{AreParts}
+use Rattle.gcl_core.specs.meaning.Value.{State, Value, value_of, is_zero}
+use Rattle.gcl_core.specs.meaning.Blocks.{End, on, failed, fault, limit, by_value, by_bound}
+use Rattle.gcl_core.specs.weighing.Fractions.{Fraction, times, one}
+use Rattle.gcl_core.specs.weighing.WeightedEnds.{Weighted, sure, scaled, taken_on, class_weight, no_class_weight, statement_weighted}
 use Rattle.mass_tables.specs.Tables.{Table, Flow, going_on, gone, holds, fails, only, faults, all_end, both, loop_flow, statement_flow, block_flow, arms_flow, draws_each, draw_weights}
 use Rattle.mass_tables.specs.Scale.{amount, weight, whole, Whole, Wholes, Within, TablesWithin}
 use Rattle.mass_tables.specs.Counts.{sum_below, part_at, rest_at, drawn, undrawn, multiplied}
@@ -178,7 +178,7 @@ module _ (n : ℕ) (r : Option ℕ) (N L : ℕ) where
   head_whole (st ▸ b) I w = w.0
 
   -- what is inside a choice among several
-  pub choose_inside : (arms : ArmList) (I : Table) → Within N L (statement_flow n r (choice_among arms) I) → Within N L (arms_flow n r (sum (parts_of arms)) arms I)
+  pub choose_inside : (arms : ArmList) (I : Table) → Within N L (statement_flow n r (Choose arms) I) → Within N L (arms_flow n r (sum (parts_of arms)) arms I)
   choose_inside arms I s =
       let b = sum (parts_of arms) in
       let f = arms_flow n r b arms I in
@@ -194,7 +194,7 @@ module _ (n : ℕ) (r : Option ℕ) (N L : ℕ) where
   arms_whole b no_arm I s = tt
   arms_whole b (arm p a arms) I s = (head_whole a (scaled (class_weight b r p) I) (first_arm b p a arms I s).tables, arms_whole b arms I (other_arms b p a arms I s))
 
-  pub arms_kept : (arms : ArmList) (I : Table) → AreParts (parts_of arms) → Wholes N I → Within N L (statement_flow n r (choice_among arms) I) →
+  pub arms_kept : (arms : ArmList) (I : Table) → AreParts (parts_of arms) → Wholes N I → Within N L (statement_flow n r (Choose arms) I) →
       weight N (all_end (limit Attempts) (scaled (no_class_weight (sum (parts_of arms)) r) I)) + arms_weight N (sum (parts_of arms)) r (parts_of arms) I ≡ weight N I
   arms_kept arms I p w s =
       let b = sum (parts_of arms) in
@@ -230,17 +230,17 @@ module _ (n : ℕ) (r : Option ℕ) (N L : ℕ) where
   mutual
     pub kept_one : (st : Statement) (I : Table) → StatementIsWeighed st → Wholes N I → Wholes N (statement_flow n r st I).next → Within N L (statement_flow n r st I) →
         weight N (statement_flow n r st I).next + weight N (statement_flow n r st I).ended ≡ weight N I
-    kept_one skip I p w x s = split_weight N (taken_on I (statement_weighted n r skip)) ∙ amount_each N (λ x. 1) (statement_weighted n r skip) (λ s. on s) I (λ s. refl)
-    kept_one (assign x e) I p w y s = split_weight N (taken_on I (statement_weighted n r (assign x e))) ∙ amount_each N (λ x. 1) (statement_weighted n r (assign x e)) (λ s. set_end x (value_of e s) s) I (λ s. set_sure x (value_of e s) s)
-    kept_one (observe e) I p w x s = split_weight N (taken_on I (statement_weighted n r (observe e))) ∙ amount_each N (λ x. 1) (statement_weighted n r (observe e)) (λ s. seen_end (value_of e s) s) I (λ s. seen_sure (value_of e s) s)
-    kept_one (uniform x e) I p w y s =
+    kept_one Skip I p w x s = split_weight N (taken_on I (statement_weighted n r Skip)) ∙ amount_each N (λ x. 1) (statement_weighted n r Skip) (λ s. on s) I (λ s. refl)
+    kept_one (Set x e) I p w y s = split_weight N (taken_on I (statement_weighted n r (Set x e))) ∙ amount_each N (λ x. 1) (statement_weighted n r (Set x e)) (λ s. set_end x (value_of e s) s) I (λ s. set_sure x (value_of e s) s)
+    kept_one (Observe e) I p w x s = split_weight N (taken_on I (statement_weighted n r (Observe e))) ∙ amount_each N (λ x. 1) (statement_weighted n r (Observe e)) (λ s. seen_end (value_of e s) s) I (λ s. seen_sure (value_of e s) s)
+    kept_one (Uniform x e) I p w y s =
         let v = value_of e in
         let k = drawn_whole x v r N I w y s.ended in
         let a = drawn_next x v r N (λ s. 1) I in
         let b = drawn_ended x v r N (λ x. 1) I in
         let c = drawn_kept N x v r I w k.0 k.1 in
         omega arith
-    kept_one (branch e a c) I p w x s =
+    kept_one (If e a c) I p w x s =
         let A = only (holds (value_of e)) I in
         let C = only (fails (value_of e)) I in
         let f = block_flow n r a A in
@@ -250,7 +250,7 @@ module _ (n : ℕ) (r : Option ℕ) (N L : ℕ) where
         let x = kept_all a p.0 A (both_first N L (faults (value_of e) I) f g s) in
         let y = kept_all c p.1 C (both_second N L (faults (value_of e) I) f g s) in
         omega arith
-    kept_one (choice q a c) I p w x s =
+    kept_one (Choice q a c) I p w x s =
         let A = scaled (class_weight q.den r q.num) I in
         let C = scaled (class_weight q.den r (q.den - q.num)) I in
         let Z = scaled (no_class_weight q.den r) I in
@@ -269,7 +269,7 @@ module _ (n : ℕ) (r : Option ℕ) (N L : ℕ) where
       where
         joined : (l l' f f' g g' W : ℕ) → l ≡ l' → f ≡ f' → g ≡ g' → l' + (f' + g') ≡ W → l + (f + g) ≡ W
         joined l l' f f' g g' W p q r e = rw (p, q, r) e
-    kept_one (choice_among arms) I p w x s =
+    kept_one (Choose arms) I p w x s =
         let b = sum (parts_of arms) in
         let f = arms_flow n r b arms I in
         let Z = all_end (limit Attempts) (scaled (no_class_weight b r) I) in
@@ -277,7 +277,7 @@ module _ (n : ℕ) (r : Option ℕ) (N L : ℕ) where
         let y = kept_arms b arms p.1 I (choose_inside arms I s) in
         let k = arms_kept arms I p.0 w s in
         omega arith
-    kept_one (loop e a) I p w x s = kept_turns (value_of e) a (kept_all a p) n I s
+    kept_one (While e a) I p w x s = kept_turns (value_of e) a (kept_all a p) n I s
 
     pub kept_all : (b : Statements) → BlockIsWeighed b → KeepsAll b
     kept_all done p I s = omega arith

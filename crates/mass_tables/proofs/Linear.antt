@@ -2,14 +2,14 @@
 use Rattle.std.proofs.Common.{◌≡◌, ℕ, zero, suc, ◌+◌, ◌*◌, ◌-◌, Bool, true, false, not, cond, List, [], ◌∷◌, ◌++◌, map, Ok, Err, Option, refl, sym, ap, ◌∙◌, arith}
 use Rattle.std.specs.List.{sum}
 use Rattle.gcl_core.specs.declared.answers.Limit.TheVariants.{Turns, Attempts}
-use Rattle.gcl_core.specs.Arms.{parts_of}
-use Rattle.gcl_core.specs.Syntax.{Statement, skip, assign, branch, loop, choice, choice_among, uniform, observe, Statements, done, ◌▸◌, ArmList, no_arm, arm}
-use Rattle.gcl_core.specs.Value.{State, Value, value_of, is_zero}
-use Rattle.gcl_core.specs.Blocks.{End, on, failed, fault, limit, by_value, by_truth, by_end}
+use Rattle.gcl_core.specs.meaning.Arms.{parts_of}
+use Rattle.gcl_core.specs.meaning.Syntax.{Statement, Skip, Set, If, While, Choice, Choose, Uniform, Observe, Statements, done, ◌▸◌, ArmList, no_arm, arm}
+use Rattle.gcl_core.specs.meaning.Value.{State, Value, value_of, is_zero}
+use Rattle.gcl_core.specs.meaning.Blocks.{End, on, failed, fault, limit, by_value, by_truth, by_end}
 use Rattle.mass_tables.specs.Scale.{Wholes, whole, amount}
-use Rattle.gcl_core.specs.Fractions.{Fraction, plus, one, times}
-use Rattle.gcl_core.specs.WeightedEnds.{Weighted, sure, scaled, taken_on, class_weight, no_class_weight, statement_weighted, weighted_ends, loop_weighted}
-use Rattle.gcl_core.specs.Mass.{sum_of}
+use Rattle.gcl_core.specs.weighing.Fractions.{Fraction, plus, one, times}
+use Rattle.gcl_core.specs.weighing.WeightedEnds.{Weighted, sure, scaled, taken_on, class_weight, no_class_weight, statement_weighted, weighted_ends, loop_weighted}
+use Rattle.gcl_core.specs.weighing.Mass.{sum_of}
 use Rattle.mass_tables.specs.Tables.{Table, Flow, going_on, gone, holds, fails, only, faults, all_end, each, both, loop_flow, statement_flow, block_flow, arms_flow}
 use Rattle.mass_tables.proofs.ArmEnds.{arm_ends, choose_weighted}
 use Rattle.mass_tables.proofs.Amounts.{whole_zero}
@@ -206,18 +206,18 @@ module _ (n : ℕ) (r : Option ℕ) where
 
   mutual
     pub no_one : (st : Statement) (I : Table) → NoOn (statement_flow n r st I).ended
-    no_one skip I = no_gone (taken_on I (statement_weighted n r skip))
-    no_one (assign x e) I = no_gone (taken_on I (statement_weighted n r (assign x e)))
-    no_one (observe e) I = no_gone (taken_on I (statement_weighted n r (observe e)))
-    no_one (uniform x e) I = no_gone (taken_on I (statement_weighted n r (uniform x e)))
-    no_one (branch e a c) I = no_append (faults (value_of e) I) _ (no_faults (value_of e) I) (no_append (block_flow n r a (only (holds (value_of e)) I)).ended _ (no_all a (only (holds (value_of e)) I)) (no_all c (only (fails (value_of e)) I)))
-    no_one (choice p a c) I =
+    no_one Skip I = no_gone (taken_on I (statement_weighted n r Skip))
+    no_one (Set x e) I = no_gone (taken_on I (statement_weighted n r (Set x e)))
+    no_one (Observe e) I = no_gone (taken_on I (statement_weighted n r (Observe e)))
+    no_one (Uniform x e) I = no_gone (taken_on I (statement_weighted n r (Uniform x e)))
+    no_one (If e a c) I = no_append (faults (value_of e) I) _ (no_faults (value_of e) I) (no_append (block_flow n r a (only (holds (value_of e)) I)).ended _ (no_all a (only (holds (value_of e)) I)) (no_all c (only (fails (value_of e)) I)))
+    no_one (Choice p a c) I =
         no_append (all_end (limit Attempts) (scaled (no_class_weight p.den r) I)) _ (no_limits Attempts (scaled (no_class_weight p.den r) I))
         (no_append (block_flow n r a (scaled (class_weight p.den r p.num) I)).ended _ (no_all a (scaled (class_weight p.den r p.num) I)) (no_all c (scaled (class_weight p.den r (p.den - p.num)) I)))
-    no_one (choice_among arms) I =
+    no_one (Choose arms) I =
         let b = sum (parts_of arms) in
         no_append (all_end (limit Attempts) (scaled (no_class_weight b r) I)) _ (no_limits Attempts (scaled (no_class_weight b r) I)) (no_arms b arms I)
-    no_one (loop e a) I = no_turns (value_of e) a (no_all a) n I
+    no_one (While e a) I = no_turns (value_of e) a (no_all a) n I
 
     pub no_all : (b : Statements) (I : Table) → NoOn (block_flow n r b I).ended
     no_all done I = tt
@@ -319,11 +319,11 @@ module _ (n : ℕ) (r : Option ℕ) where
 
   mutual
     pub flow_statement : (st : Statement) (F : Fraction → End → ℕ) (I : Table) → Zero F → flowed F (statement_flow n r st I) ≡ spread F I (statement_weighted n r st)
-    flow_statement skip F I z = flow_each F (statement_weighted n r skip) [] I z
-    flow_statement (assign x e) F I z = flow_each F (statement_weighted n r (assign x e)) [] I z
-    flow_statement (observe e) F I z = flow_each F (statement_weighted n r (observe e)) [] I z
-    flow_statement (uniform x e) F I z = flow_each F (statement_weighted n r (uniform x e)) [] I z
-    flow_statement (branch e a c) F I z =
+    flow_statement Skip F I z = flow_each F (statement_weighted n r Skip) [] I z
+    flow_statement (Set x e) F I z = flow_each F (statement_weighted n r (Set x e)) [] I z
+    flow_statement (Observe e) F I z = flow_each F (statement_weighted n r (Observe e)) [] I z
+    flow_statement (Uniform x e) F I z = flow_each F (statement_weighted n r (Uniform x e)) [] I z
+    flow_statement (If e a c) F I z =
         let A = only (holds (value_of e)) I in
         let C = only (fails (value_of e)) I in
         let g = spread_guard F (value_of e) (weighted_ends n r a) (weighted_ends n r c) I z in
@@ -331,19 +331,19 @@ module _ (n : ℕ) (r : Option ℕ) where
         let x = flow_paths a F A z in
         let y = flow_paths c F C z in
         omega arith
-    flow_statement (choice p a c) F I z =
+    flow_statement (Choice p a c) F I z =
         let u = class_weight p.den r p.num in
         let v = class_weight p.den r (p.den - p.num) in
         let l = no_class_weight p.den r in
         let q : p.num ≡ p.num - 0 = omega arith in
         let g = spread_drawn F u v l (weighted_ends n r a) (weighted_ends n r c) (limit Attempts) I z in
-        let k : spread F I (λ s. scaled u (weighted_ends n r a s) ++ (scaled v (weighted_ends n r c s) ++ (scaled l (sure (limit Attempts)) ++ []))) ≡ spread F I (statement_weighted n r (choice p a c))
+        let k : spread F I (λ s. scaled u (weighted_ends n r a s) ++ (scaled v (weighted_ends n r c s) ++ (scaled l (sure (limit Attempts)) ++ []))) ≡ spread F I (statement_weighted n r (Choice p a c))
         = ap (λ m. spread F I (λ s. scaled (class_weight p.den r m) (weighted_ends n r a s) ++ (scaled v (weighted_ends n r c s) ++ (scaled l (sure (limit Attempts)) ++ [])))) q in
         let b = flowed_both F (all_end (limit Attempts) (scaled l I)) (block_flow n r a (scaled u I)) (block_flow n r c (scaled v I)) in
         let x = flow_paths a F (scaled u I) z in
         let y = flow_paths c F (scaled v I) z in
         omega arith
-    flow_statement (choice_among arms) F I z =
+    flow_statement (Choose arms) F I z =
         let b = sum (parts_of arms) in
         let l = no_class_weight b r in
         let f = arms_flow n r b arms I in
@@ -351,9 +351,9 @@ module _ (n : ℕ) (r : Option ℕ) where
         let x = arms_paths b arms F I z in
         let o = spread_ended F l (limit Attempts) I z in
         let i = spread_beside F I (arm_ends n r b arms) (λ s. scaled l (sure (limit Attempts)) ++ []) in
-        let k = spread_ext F I (statement_weighted n r (choice_among arms)) (λ s. arm_ends n r b arms s ++ (scaled l (sure (limit Attempts)) ++ [])) (choose_weighted n r arms) in
+        let k = spread_ext F I (statement_weighted n r (Choose arms)) (λ s. arm_ends n r b arms s ++ (scaled l (sure (limit Attempts)) ++ [])) (choose_weighted n r arms) in
         omega arith
-    flow_statement (loop e a) F I z = flow_loop (value_of e) a (flow_paths a) n F I z
+    flow_statement (While e a) F I z = flow_loop (value_of e) a (flow_paths a) n F I z
 
     -- the tables of a block on I hold what MassS gives from each state of I
     pub flow_paths : (b : Statements) → Linear b

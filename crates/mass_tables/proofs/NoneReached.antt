@@ -2,13 +2,14 @@
 use Rattle.std.proofs.Common.{◌≡◌, ℕ, zero, suc, ◌*◌, ◌-◌, List, [], ◌∷◌, ◌++◌, Ok, Err, ℤ, pos, negsuc, Option, refl, ap, ◌∙◌, arith}
 use Rattle.std.specs.List.{sum}
 use Rattle.gcl_core.specs.declared.answers.Limit.TheVariants.{Attempts}
-use Rattle.gcl_core.specs.Arms.{parts_of}
-use Rattle.gcl_core.specs.Parts.{partial_sums}
-use Rattle.gcl_core.specs.Syntax.{Statement, skip, assign, branch, loop, choice, choice_among, uniform, observe, Statements, done, ◌▸◌, ArmList, no_arm, arm}
-use Rattle.gcl_core.specs.Bounds.{StatementIsWeighed, BlockIsWeighed, ArmsAreWeighed}
-use Rattle.gcl_core.specs.Value.{State, Value, value_of}
-use Rattle.gcl_core.specs.Blocks.{limit, by_value, by_bound, choice_ends, uniform_ends}
-use Rattle.gcl_core.specs.WeightedEnds.{Weighted, scaled, class_weight, no_class_weight}
+use Rattle.gcl_core.specs.meaning.Arms.{parts_of}
+use Rattle.gcl_core.specs.meaning.Parts.{partial_sums}
+use Rattle.gcl_core.specs.meaning.Syntax.{Statement, Skip, Set, If, While, Choice, Choose, Uniform, Observe, Statements, done, ◌▸◌, ArmList, no_arm, arm}
+use Rattle.gcl_core.specs.meaning.Bounds.{StatementIsWeighed, BlockIsWeighed, ArmsAreWeighed}
+use Rattle.gcl_core.specs.meaning.Value.{State, Value, value_of}
+use Rattle.gcl_core.specs.meaning.Blocks.{limit, by_value, by_bound}
+use Rattle.gcl_core.specs.meaning.Draw.{choice_ends, uniform_ends}
+use Rattle.gcl_core.specs.weighing.WeightedEnds.{Weighted, scaled, class_weight, no_class_weight}
 use Rattle.mass_tables.specs.Tables.{Table, holds, fails, only, faults, all_end, both, loop_flow, statement_flow, block_flow, arms_flow, draws_each, draw_weights}
 use Rattle.mass_tables.specs.Reached.{drawn_each, drawn_bound, loop_draws, statement_draws, block_draws, arms_draws}
 use Rattle.mass_tables.specs.Scale.{whole, amount, weight, Wholes, Within}
@@ -68,11 +69,11 @@ module _ (n : ℕ) (r : Option ℕ) (N L : ℕ) (H : List ℕ → ℕ) where
 
   mutual
     pub none_one : (st : Statement) (I : Table) → StatementIsWeighed st → Wholes N I → Within N L (statement_flow n r st I) → weight N I ≡ 0 → amount N H (statement_draws n r st I) ≡ 0
-    none_one skip I p w s z = refl
-    none_one (assign x e) I p w s z = refl
-    none_one (observe e) I p w s z = refl
-    none_one (uniform x e) I p w s z = amount_drawn_bound N H (value_of e) I ∙ none_counts N (at_bound (value_of e) H) I z
-    none_one (branch e a c) I p w s z =
+    none_one Skip I p w s z = refl
+    none_one (Set x e) I p w s z = refl
+    none_one (Observe e) I p w s z = refl
+    none_one (Uniform x e) I p w s z = amount_drawn_bound N H (value_of e) I ∙ none_counts N (at_bound (value_of e) H) I z
+    none_one (If e a c) I p w s z =
         let A = only (holds (value_of e)) I in
         let C = only (fails (value_of e)) I in
         let f = block_flow n r a A in
@@ -82,7 +83,7 @@ module _ (n : ℕ) (r : Option ℕ) (N L : ℕ) (H : List ℕ → ℕ) where
         let y = none_all c p.1 C (both_second N L (faults (value_of e) I) f g s) (omega arith) in
         let o = amount_append N H (block_draws n r a A) (block_draws n r c C) in
         omega arith
-    none_one (choice q a c) I p w s z =
+    none_one (Choice q a c) I p w s z =
         let A = scaled (class_weight q.den r q.num) I in
         let C = scaled (class_weight q.den r (q.den - q.num)) I in
         let Z = scaled (no_class_weight q.den r) I in
@@ -99,7 +100,7 @@ module _ (n : ℕ) (r : Option ℕ) (N L : ℕ) (H : List ℕ → ℕ) where
         let o = amount_append N H (drawn_each (choice_ends q) I) (block_draws n r a A ++ block_draws n r c C) in
         let u = amount_append N H (block_draws n r a A) (block_draws n r c C) in
         omega arith
-    none_one (choice_among arms) I p w s z =
+    none_one (Choose arms) I p w s z =
         let b = sum (parts_of arms) in
         let ends = partial_sums (parts_of arms) in
         let k = arms_kept n r N L arms I p.0 w s in
@@ -107,7 +108,7 @@ module _ (n : ℕ) (r : Option ℕ) (N L : ℕ) (H : List ℕ → ℕ) where
         let d = amount_drawn_each N H ends I ∙ none_counts N (λ s. H ends) I z in
         let o = amount_append N H (drawn_each ends I) (arms_draws n r b arms I) in
         omega arith
-    none_one (loop e a) I p w s z = none_turns (value_of e) a p (none_all a p) n I s z
+    none_one (While e a) I p w s z = none_turns (value_of e) a p (none_all a p) n I s z
 
     pub none_all : (b : Statements) → BlockIsWeighed b → (I : Table) → Within N L (block_flow n r b I) → weight N I ≡ 0 → amount N H (block_draws n r b I) ≡ 0
     none_all done p I s z = refl

@@ -1,16 +1,16 @@
 -- The weighted ends of a block have denominators of at least 1, and so has each sum of them.
 use Rattle.std.proofs.Common.{ℕ, zero, suc, ◌<◌, Bool, true, false, cond, [], ◌∷◌, Ok, Err, Option, None, Some, arith}
 use Rattle.gcl_core.specs.declared.answers.Limit.TheVariants.{Turns, Attempts}
-use Rattle.gcl_core.specs.Syntax.{Statement, skip, assign, branch, loop, choice, choice_among, uniform, observe, Statements, done, ◌▸◌, ArmList, no_arm, arm}
-use Rattle.gcl_core.specs.Bounds.{StatementIsWeighed, BlockIsWeighed, ArmsAreWeighed}
-use Rattle.gcl_core.specs.Arms.{parts_of}
-use Rattle.gcl_core.specs.Draw.{last_end}
-use Rattle.gcl_core.specs.Parts.{partial_sums}
-use Rattle.gcl_core.specs.Value.{State, Value, value_of, is_zero}
-use Rattle.gcl_core.specs.Blocks.{End, on, failed, fault, limit, by_value, by_truth, by_class, by_side, by_end, choice_ends}
-use Rattle.gcl_core.specs.Fractions.{plus}
-use Rattle.gcl_core.specs.Mass.{sum_of}
-use Rattle.gcl_core.specs.WeightedEnds.{Weighted, sure, weighted_classes, loop_weighted, statement_weighted, weighted_ends, arm_weighted}
+use Rattle.gcl_core.specs.meaning.Syntax.{Statement, Skip, Set, If, While, Choice, Choose, Uniform, Observe, Statements, done, ◌▸◌, ArmList, no_arm, arm}
+use Rattle.gcl_core.specs.meaning.Bounds.{StatementIsWeighed, BlockIsWeighed, ArmsAreWeighed}
+use Rattle.gcl_core.specs.meaning.Arms.{parts_of}
+use Rattle.gcl_core.specs.meaning.Draw.{last_end, choice_ends}
+use Rattle.gcl_core.specs.meaning.Parts.{partial_sums}
+use Rattle.gcl_core.specs.meaning.Value.{State, Value, value_of, is_zero}
+use Rattle.gcl_core.specs.meaning.Blocks.{End, on, failed, fault, limit, by_value, by_truth, by_class, by_side, by_end}
+use Rattle.gcl_core.specs.weighing.Fractions.{plus}
+use Rattle.gcl_core.specs.weighing.Mass.{sum_of}
+use Rattle.gcl_core.specs.weighing.WeightedEnds.{Weighted, sure, weighted_classes, loop_weighted, statement_weighted, weighted_ends, arm_weighted}
 use Rattle.frac128.proofs.Divisors.{product_pos}
 use Rattle.gcl_core.proofs.PartialSums.{last_is}
 use Rattle.mass_tables.proofs.Positive.{Positive, p_taken, p_sure, p_draw, p_set, p_seen, p_drawn, alone}
@@ -45,20 +45,20 @@ module _ (n : ℕ) (r : Option ℕ) where
 
   mutual
     pub statement_positive : (st : Statement) (s : State) → StatementIsWeighed st → Positive (statement_weighted n r st s)
-    statement_positive skip s w = p_sure (on s)
-    statement_positive (assign x e) s w = p_set n r x (value_of e s) s
-    statement_positive (observe e) s w = p_seen n r (value_of e s) s
-    statement_positive (uniform x e) s w = p_drawn n r x (value_of e s) s
-    statement_positive (branch e a c) s w = by_guard (value_of e s) _ _ (ends_positive a s w.0) (ends_positive c s w.1)
-    statement_positive (choice q a c) s w =
+    statement_positive Skip s w = p_sure (on s)
+    statement_positive (Set x e) s w = p_set n r x (value_of e s) s
+    statement_positive (Observe e) s w = p_seen n r (value_of e s) s
+    statement_positive (Uniform x e) s w = p_drawn n r x (value_of e s) s
+    statement_positive (If e a c) s w = by_guard (value_of e s) _ _ (ends_positive a s w.0) (ends_positive c s w.1)
+    statement_positive (Choice q a c) s w =
         let h : 0 < q.den = let o = w.0.positive in omega arith in
         p_taken (weighted_classes (choice_ends q) r) _ (p_draw (choice_ends q) r h)
         (λ class. by_classes class _ (λ i. by_number i (weighted_ends n r a s) (weighted_ends n r c s) (ends_positive a s w.1) (ends_positive c s w.2)))
-    statement_positive (choice_among arms) s w =
+    statement_positive (Choose arms) s w =
         let ends = partial_sums (parts_of arms) in
         let h : 0 < last_end ends = let o = w.0.positive in let e = last_is (parts_of arms) in omega arith in
         p_taken (weighted_classes ends r) _ (p_draw ends r h) (λ class. by_classes class (λ i. arm_weighted n r arms i s) (λ i. arm_positive arms i s w.1))
-    statement_positive (loop e a) s w = turns_positive (value_of e) (weighted_ends n r a) (λ s. ends_positive a s w) n s
+    statement_positive (While e a) s w = turns_positive (value_of e) (weighted_ends n r a) (λ s. ends_positive a s w) n s
 
     pub ends_positive : (b : Statements) (s : State) → BlockIsWeighed b → Positive (weighted_ends n r b s)
     ends_positive done s w = p_sure (on s)

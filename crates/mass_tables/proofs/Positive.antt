@@ -2,14 +2,14 @@
 use Rattle.std.proofs.Common.{ℕ, zero, suc, ◌+◌, ◌-◌, ◌<◌, ℤ, pos, negsuc, Bool, true, false, cond, List, [], ◌∷◌, ◌++◌, Ok, Err, Option, None, Some, sym, subst, arith, slice_set}
 use Rattle.std.specs.List.{sum}
 use Rattle.gcl_core.specs.declared.answers.Limit.TheVariants.{Turns, Attempts}
-use Rattle.gcl_core.specs.Arms.{parts_of}
-use Rattle.gcl_core.specs.Syntax.{Statement, skip, assign, branch, loop, choice, choice_among, uniform, observe, Statements, done, ◌▸◌, ArmList, no_arm, arm}
-use Rattle.gcl_core.specs.Bounds.{StatementIsWeighed, BlockIsWeighed, ArmsAreWeighed}
-use Rattle.gcl_core.specs.Value.{State, Value, value_of, is_zero}
-use Rattle.gcl_core.specs.Draw.{last_end}
-use Rattle.gcl_core.specs.Blocks.{End, on, failed, fault, limit, by_value, by_bound, by_truth, by_class, uniform_ends}
-use Rattle.gcl_core.specs.Fractions.{Fraction}
-use Rattle.gcl_core.specs.WeightedEnds.{Weighted, sure, scaled, taken_on, class_weight, no_class_weight, classes_from, weighted_classes, statement_weighted, uniform_weighted}
+use Rattle.gcl_core.specs.meaning.Arms.{parts_of}
+use Rattle.gcl_core.specs.meaning.Syntax.{Statement, Skip, Set, If, While, Choice, Choose, Uniform, Observe, Statements, done, ◌▸◌, ArmList, no_arm, arm}
+use Rattle.gcl_core.specs.meaning.Bounds.{StatementIsWeighed, BlockIsWeighed, ArmsAreWeighed}
+use Rattle.gcl_core.specs.meaning.Value.{State, Value, value_of, is_zero}
+use Rattle.gcl_core.specs.meaning.Draw.{last_end, uniform_ends}
+use Rattle.gcl_core.specs.meaning.Blocks.{End, on, failed, fault, limit, by_value, by_bound, by_truth, by_class}
+use Rattle.gcl_core.specs.weighing.Fractions.{Fraction}
+use Rattle.gcl_core.specs.weighing.WeightedEnds.{Weighted, sure, scaled, taken_on, class_weight, no_class_weight, classes_from, weighted_classes, statement_weighted, uniform_weighted}
 use Rattle.gcl_core.proofs.EqualClasses.{last_of_equal}
 use Rattle.frac128.proofs.Divisors.{product_pos}
 use Rattle.mass_tables.specs.Tables.{Table, Flow, going_on, gone, holds, fails, only, faults, all_end, each, both, loop_flow, statement_flow, block_flow, arms_flow, draws_each, draw_weights, bound_draws}
@@ -180,13 +180,13 @@ module _ (n : ℕ) (r : Option ℕ) where
 
   mutual
     pub p_one : (st : Statement) (I : Table) → StatementIsWeighed st → Positive I → FlowPositive (statement_flow n r st I)
-    p_one skip I w p = p_each (statement_weighted n r skip) [] I (λ s. p_sure (on s)) tt p
-    p_one (assign x e) I w p = p_each (statement_weighted n r (assign x e)) [] I (λ s. p_set x (value_of e s) s) tt p
-    p_one (observe e) I w p = p_each (statement_weighted n r (observe e)) [] I (λ s. p_seen (value_of e s) s) tt p
-    p_one (uniform x e) I w p = p_each (statement_weighted n r (uniform x e)) (bound_draws (value_of e) r I) I (λ s. p_drawn x (value_of e s) s) (bound_positive (value_of e) r I) p
-    p_one (branch e a c) I w p =
+    p_one Skip I w p = p_each (statement_weighted n r Skip) [] I (λ s. p_sure (on s)) tt p
+    p_one (Set x e) I w p = p_each (statement_weighted n r (Set x e)) [] I (λ s. p_set x (value_of e s) s) tt p
+    p_one (Observe e) I w p = p_each (statement_weighted n r (Observe e)) [] I (λ s. p_seen (value_of e s) s) tt p
+    p_one (Uniform x e) I w p = p_each (statement_weighted n r (Uniform x e)) (bound_draws (value_of e) r I) I (λ s. p_drawn x (value_of e s) s) (bound_positive (value_of e) r I) p
+    p_one (If e a c) I w p =
         p_both (faults (value_of e) I) _ _ (p_faults (value_of e) I p) (p_all a (only (holds (value_of e)) I) w.0 (p_only (holds (value_of e)) I p)) (p_all c (only (fails (value_of e)) I) w.1 (p_only (fails (value_of e)) I p))
-    p_one (choice q a c) I w p =
+    p_one (Choice q a c) I w p =
         let h : 0 < q.den = let o = w.0.positive in omega arith in
         let A = scaled (class_weight q.den r q.num) I in
         let C = scaled (class_weight q.den r (q.den - q.num)) I in
@@ -194,7 +194,7 @@ module _ (n : ℕ) (r : Option ℕ) where
         let b = p_both (all_end (limit Attempts) Z) _ _ (p_all_end (limit Attempts) Z (p_scaled (no_class_weight q.den r) I (no_class_pos q.den r) p))
         (p_all a A w.1 (p_scaled (class_weight q.den r q.num) I (class_pos q.den r q.num h) p)) (p_all c C w.2 (p_scaled (class_weight q.den r (q.den - q.num)) I (class_pos q.den r (q.den - q.num) h) p)) in
         record { next = b.next; ended = b.ended; tables = b.tables; draws = a_append (draws_each (draw_weights q.den r) I) _ (each_positive (draw_weights q.den r) I (draws_positive q.den r h)) b.draws }
-    p_one (choice_among arms) I w p =
+    p_one (Choose arms) I w p =
         let b = sum (parts_of arms) in
         let h : 0 < b = let o = w.0.positive in omega arith in
         let Z = scaled (no_class_weight b r) I in
@@ -206,7 +206,7 @@ module _ (n : ℕ) (r : Option ℕ) where
           tables = a.tables;
           draws = a_append (draws_each (draw_weights b r) I) f.draws (each_positive (draw_weights b r) I (draws_positive b r h)) a.draws;
         }
-    p_one (loop e a) I w p = p_turns (value_of e) (block_flow n r a) (λ I p. p_all a I w p) n I p
+    p_one (While e a) I w p = p_turns (value_of e) (block_flow n r a) (λ I p. p_all a I w p) n I p
 
     pub p_all : (b : Statements) (I : Table) → BlockIsWeighed b → Positive I → FlowPositive (block_flow n r b I)
     p_all done I w p = record { next = p; ended = tt; tables = (p, tt); draws = tt }

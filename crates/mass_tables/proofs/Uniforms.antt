@@ -3,10 +3,11 @@ use Rattle.std.proofs.Common.{◌≡◌, ℕ, zero, suc, ◌+◌, ◌-◌, ◌*�
 use Rattle.std.specs.List.{range_with_len}
 use Rattle.gcl_core.specs.declared.answers.Fault.TheVariants.{BadBound}
 use Rattle.gcl_core.specs.declared.answers.Limit.TheVariants.{Attempts}
-use Rattle.gcl_core.specs.Value.{State, Value}
-use Rattle.gcl_core.specs.Blocks.{End, on, failed, fault, limit, by_value, by_bound, by_class, uniform_ends}
-use Rattle.gcl_core.specs.Fractions.{Fraction, one, times}
-use Rattle.gcl_core.specs.WeightedEnds.{Weighted, sure, scaled, taken_on, class_weight, no_class_weight, classes_from, weighted_classes, uniform_weighted}
+use Rattle.gcl_core.specs.meaning.Value.{State, Value}
+use Rattle.gcl_core.specs.meaning.Blocks.{End, on, failed, fault, limit, by_value, by_bound, by_class}
+use Rattle.gcl_core.specs.meaning.Draw.{uniform_ends}
+use Rattle.gcl_core.specs.weighing.Fractions.{Fraction, one, times}
+use Rattle.gcl_core.specs.weighing.WeightedEnds.{Weighted, sure, scaled, taken_on, class_weight, no_class_weight, classes_from, weighted_classes, uniform_weighted}
 use Rattle.gcl_core.proofs.EqualClasses.{last_of_equal}
 use Rattle.mass_tables.specs.Tables.{Table, going_on, gone}
 use Rattle.mass_tables.specs.Scale.{whole, Whole, Wholes, amount}

@@ -1,13 +1,14 @@
 -- The draws that a table meets on its way through a block, each with the weight with which it is reached, in step with the tables.
 use Rattle.std.specs.Prelude.{ℕ, zero, suc, ◌-◌, List, [], ◌∷◌, ◌++◌, map, Option, length}
 use Rattle.std.specs.List.{sum}
-use Rattle.gcl_core.specs.Arms.{parts_of}
-use Rattle.gcl_core.specs.Parts.{partial_sums}
-use Rattle.gcl_core.specs.Syntax.{Statement, skip, assign, branch, loop, choice, choice_among, uniform, observe, Statements, done, ◌▸◌, ArmList, no_arm, arm, Source}
-use Rattle.gcl_core.specs.Value.{State, Value, value_of}
-use Rattle.gcl_core.specs.Blocks.{by_value, by_bound, choice_ends, uniform_ends}
-use Rattle.gcl_core.specs.Runs.{zeros}
-use Rattle.gcl_core.specs.WeightedEnds.{Weighted, sure, scaled, class_weight}
+use Rattle.gcl_core.specs.meaning.Arms.{parts_of}
+use Rattle.gcl_core.specs.meaning.Parts.{partial_sums}
+use Rattle.gcl_core.specs.meaning.Syntax.{Statement, Skip, Set, If, While, Choice, Choose, Uniform, Observe, Statements, done, ◌▸◌, ArmList, no_arm, arm, Source}
+use Rattle.gcl_core.specs.meaning.Value.{State, Value, value_of}
+use Rattle.gcl_core.specs.meaning.Blocks.{by_value, by_bound}
+use Rattle.gcl_core.specs.meaning.Draw.{choice_ends, uniform_ends}
+use Rattle.gcl_core.specs.meaning.Outcomes.{zeros}
+use Rattle.gcl_core.specs.weighing.WeightedEnds.{Weighted, sure, scaled, class_weight}
 use Rattle.mass_tables.specs.Tables.{Table, Flow, holds, fails, only, statement_flow, block_flow}
 
 -- draws by their ends
@@ -32,15 +33,15 @@ loop_draws guard draws body (suc t) J = draws (only (holds guard) J) ++ loop_dra
 module _ (n : ℕ) (r : Option ℕ) where
   abbrev mutual
     pub statement_draws : Statement → Table → Reached
-    statement_draws skip I = []
-    statement_draws (assign x e) I = []
-    statement_draws (observe e) I = []
-    statement_draws (uniform x e) I = drawn_bound (value_of e) I
-    statement_draws (branch e a c) I = block_draws a (only (holds (value_of e)) I) ++ block_draws c (only (fails (value_of e)) I)
-    statement_draws (choice p a c) I =
+    statement_draws Skip I = []
+    statement_draws (Set x e) I = []
+    statement_draws (Observe e) I = []
+    statement_draws (Uniform x e) I = drawn_bound (value_of e) I
+    statement_draws (If e a c) I = block_draws a (only (holds (value_of e)) I) ++ block_draws c (only (fails (value_of e)) I)
+    statement_draws (Choice p a c) I =
         drawn_each (choice_ends p) I ++ (block_draws a (scaled (class_weight p.den r p.num) I) ++ block_draws c (scaled (class_weight p.den r (p.den - p.num)) I))
-    statement_draws (choice_among arms) I = drawn_each (partial_sums (parts_of arms)) I ++ arms_draws (sum (parts_of arms)) arms I
-    statement_draws (loop e a) I = loop_draws (value_of e) (block_draws a) (block_flow n r a) n I
+    statement_draws (Choose arms) I = drawn_each (partial_sums (parts_of arms)) I ++ arms_draws (sum (parts_of arms)) arms I
+    statement_draws (While e a) I = loop_draws (value_of e) (block_draws a) (block_flow n r a) n I
 
     pub block_draws : Statements → Table → Reached
     block_draws done I = []

@@ -6,13 +6,13 @@ use Rattle.std.specs.Ordering.{int_eq}
 use Rattle.std.specs.Set.{distinct_count}
 use Rattle.std.specs.Cmp.Lexicographic.{pointwise}
 use Rattle.gcl_core.specs.declared.answers.Limit.TheVariants.{Turns, Attempts}
-use Rattle.gcl_core.specs.Arms.{parts_of}
-use Rattle.gcl_core.specs.Syntax.{Statement, skip, assign, branch, loop, choice, choice_among, uniform, observe, Statements, done, ◌▸◌, ArmList, no_arm, arm, Source}
-use Rattle.gcl_core.specs.Value.{State, Value, value_of, is_zero}
-use Rattle.gcl_core.specs.Blocks.{End, on, failed, fault, limit, by_value, by_bound}
-use Rattle.gcl_core.specs.Runs.{zeros}
-use Rattle.gcl_core.specs.Fractions.{Fraction}
-use Rattle.gcl_core.specs.WeightedEnds.{Weighted, sure, scaled, taken_on, class_weight, no_class_weight, statement_weighted}
+use Rattle.gcl_core.specs.meaning.Arms.{parts_of}
+use Rattle.gcl_core.specs.meaning.Syntax.{Statement, Skip, Set, If, While, Choice, Choose, Uniform, Observe, Statements, done, ◌▸◌, ArmList, no_arm, arm, Source}
+use Rattle.gcl_core.specs.meaning.Value.{State, Value, value_of, is_zero}
+use Rattle.gcl_core.specs.meaning.Blocks.{End, on, failed, fault, limit, by_value, by_bound}
+use Rattle.gcl_core.specs.meaning.Outcomes.{zeros}
+use Rattle.gcl_core.specs.weighing.Fractions.{Fraction}
+use Rattle.gcl_core.specs.weighing.WeightedEnds.{Weighted, sure, scaled, taken_on, class_weight, no_class_weight, statement_weighted}
 
 -- a list of states, each with its weight; a state may stand in it more than once
 abbrev pub Table : Type 0
@@ -114,19 +114,19 @@ loop_flow guard body (suc t) J =
 module _ (n : ℕ) (r : Option ℕ) where
   abbrev mutual
     pub statement_flow : Statement → Table → Flow
-    statement_flow skip I = each (statement_weighted n r skip) [] I
-    statement_flow (assign x e) I = each (statement_weighted n r (assign x e)) [] I
-    statement_flow (observe e) I = each (statement_weighted n r (observe e)) [] I
-    statement_flow (uniform x e) I = each (statement_weighted n r (uniform x e)) (bound_draws (value_of e) r I) I
-    statement_flow (branch e a c) I = both (faults (value_of e) I) (block_flow a (only (holds (value_of e)) I)) (block_flow c (only (fails (value_of e)) I))
-    statement_flow (choice p a c) I =
+    statement_flow Skip I = each (statement_weighted n r Skip) [] I
+    statement_flow (Set x e) I = each (statement_weighted n r (Set x e)) [] I
+    statement_flow (Observe e) I = each (statement_weighted n r (Observe e)) [] I
+    statement_flow (Uniform x e) I = each (statement_weighted n r (Uniform x e)) (bound_draws (value_of e) r I) I
+    statement_flow (If e a c) I = both (faults (value_of e) I) (block_flow a (only (holds (value_of e)) I)) (block_flow c (only (fails (value_of e)) I))
+    statement_flow (Choice p a c) I =
         let f = both (all_end (limit Attempts) (scaled (no_class_weight p.den r) I)) (block_flow a (scaled (class_weight p.den r p.num) I)) (block_flow c (scaled (class_weight p.den r (p.den - p.num)) I)) in
         record { next = f.next; ended = f.ended; tables = f.tables; draws = draws_each (draw_weights p.den r) I ++ f.draws }
-    statement_flow (choice_among arms) I =
+    statement_flow (Choose arms) I =
         let b = sum (parts_of arms) in
         let f = arms_flow b arms I in
         record { next = f.next; ended = all_end (limit Attempts) (scaled (no_class_weight b r) I) ++ f.ended; tables = f.tables; draws = draws_each (draw_weights b r) I ++ f.draws }
-    statement_flow (loop e a) I = loop_flow (value_of e) (block_flow a) n I
+    statement_flow (While e a) I = loop_flow (value_of e) (block_flow a) n I
 
     pub block_flow : Statements → Table → Flow
     block_flow done I = record { next = I; ended = []; tables = I ∷ []; draws = [] }

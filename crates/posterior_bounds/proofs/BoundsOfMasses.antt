@@ -6,11 +6,11 @@ use Rattle.frac128.proofs.Divisors.{lowest_in_lowest, lowest_equal}
 use Rattle.gcl_core.specs.declared.answers.Limit.TheVariants.{Turns}
 use Rattle.gcl_core.specs.declared.answers.Outcome.{Outcome}
 use Rattle.gcl_core.specs.declared.answers.Outcome.TheVariants as outcome
-use Rattle.gcl_core.specs.Fractions.{Fraction, nothing, plus, IsBelowOne}
-use Rattle.gcl_core.specs.Keeping.{IsChecked}
-use Rattle.gcl_core.specs.Mass.{mass_of}
-use Rattle.gcl_core.specs.Outcomes.{same_outcome}
-use Rattle.gcl_core.specs.Syntax.{Source}
+use Rattle.gcl_core.specs.weighing.Fractions.{Fraction, zero_share, plus, IsBelowOne}
+use Rattle.gcl_core.specs.meaning.Keeping.{IsChecked}
+use Rattle.gcl_core.specs.weighing.Mass.{mass_of}
+use Rattle.gcl_core.specs.meaning.Outcomes.{same_outcome}
+use Rattle.gcl_core.specs.meaning.Syntax.{Source}
 use Rattle.mass_fold.specs.declared.error.MassError.{MassError}
 use Rattle.mass_fold.specs.declared.error.MassError.TheVariants.{TooWide, TooManyStates, AllFailed, OutOfMemory}
 use Rattle.mass_fold.specs.Masses.{WholeWithin}
@@ -22,7 +22,7 @@ use Rattle.weighing_law.proofs.Shares.{product_pos, factor_pos}
 use Rattle.posterior_bounds.specs.PosteriorBounds.{is_settled, fails, given, lower_of, upper_of, upper_of_others}
 use Rattle.posterior_bounds.specs.Holding.{BoundsHold}
 use Rattle.posterior_bounds.specs.Rows.{Rows, AreBoundsOf, HasNone, HoldAt}
-use Rattle.posterior_bounds.specs.Rising.{mass_in, raised, RaiseRefused}
+use Rattle.posterior_bounds.specs.inner.Rising.{mass_in, raised, RaiseRefused}
 use Rattle.posterior_bounds.proofs.BoundsLaw.{bounds_hold}
 use Rattle.posterior_bounds.proofs.Chosen.{NoRow, in_or_none, beside, raised_from, raised_has, kept_order}
 use Rattle.posterior_bounds.proofs.EqualFractions.{equal_below, equal_above}
@@ -64,12 +64,12 @@ module _ (p : Source) (n : ℕ) (ok : IsChecked p) (passes : IsBelowOne (fails p
     pub others_is : mass_in turns rows ≡ lowest (upper_of_others p n)
     others_is = by (in_or_none turns rows)
       where
-        by : Contains rows (turns, mass_in turns rows) ⊎ ((mass_in turns rows ≡ lowest nothing) × NoRow turns rows) → mass_in turns rows ≡ lowest (upper_of_others p n)
+        by : Contains rows (turns, mass_in turns rows) ⊎ ((mass_in turns rows ≡ lowest zero_share) × NoRow turns rows) → mass_in turns rows ≡ lowest (upper_of_others p n)
         by (inl c) = (are.each turns (mass_in turns rows) c).1
         by (inr none) =
             let u = upper_of_others p n in
             let z : u.0 ≡ 0 = zero_from u.0 (λ h. none.1 (lowest u) (are.all turns h)) in
-            none.0 ∙ lowest_same nothing u (omega arith) others_pos (let e : 0 * u.1 ≡ u.0 * 1 = rw z (omega arith) in e)
+            none.0 ∙ lowest_same zero_share u (omega arith) others_pos (let e : 0 * u.1 ≡ u.0 * 1 = rw z (omega arith) in e)
 
     module _ (other : Fraction) (is : other ≡ lowest (upper_of_others p n)) where
       upper_is : (x : Outcome) → is_settled x ≡ true → (low : Fraction) → low ≡ lowest (lower_of p n x) → lowest (plus low other) ≡ lowest (upper_of p n x)

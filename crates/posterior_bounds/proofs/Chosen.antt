@@ -5,9 +5,9 @@ use Rattle.std.proofs.lemmas.List.Elements.{All-nil, All-cons, All-head, All-tai
 use Rattle.std.proofs.lemmas.List.Kept.{AllPairs-cons}
 use Rattle.frac128.specs.Fraction.{lowest}
 use Rattle.gcl_core.specs.declared.answers.Outcome.{Outcome}
-use Rattle.gcl_core.specs.Fractions.{Fraction, nothing, plus}
-use Rattle.gcl_core.specs.Order.{is_before}
-use Rattle.gcl_core.specs.Outcomes.{same_outcome}
+use Rattle.gcl_core.specs.weighing.Fractions.{Fraction, zero_share, plus}
+use Rattle.gcl_core.specs.meaning.Order.{is_before}
+use Rattle.gcl_core.specs.meaning.Outcomes.{same_outcome}
 use Rattle.gcl_core.proofs.SameOutcomes.{same_outcomes, outcome_itself}
 use Rattle.mass_fold.specs.Amounts.{held, Held}
 use Rattle.mass_fold.specs.Rows as masses
@@ -16,7 +16,7 @@ use Rattle.mass_tables.specs.Scale.{whole, Whole}
 use Rattle.mass_tables.proofs.Wholes.{whole_from, whole_lowest}
 use Rattle.posterior_bounds.specs.PosteriorBounds.{is_settled}
 use Rattle.posterior_bounds.specs.Rows.{outcomes_of}
-use Rattle.posterior_bounds.specs.Rising.{mass_in, raised}
+use Rattle.posterior_bounds.specs.inner.Rising.{mass_in, raised}
 
 -- ---- lists
 first_in : {A : Type 0} (x : A) (xs : List A) (y : A) → x ≡ y → Contains (x ∷ xs) y
@@ -33,12 +33,12 @@ in_cons x xs y (suc k, l, e) = inr (k, omega arith, e)
 abbrev pub NoRow : Outcome → masses.Rows → Type 0
 NoRow x rows = (f : Fraction) → Contains rows (x, f) → ⊥
 
-pub in_or_none : (x : Outcome) (rows : masses.Rows) → Contains rows (x, mass_in x rows) ⊎ ((mass_in x rows ≡ lowest nothing) × NoRow x rows)
+pub in_or_none : (x : Outcome) (rows : masses.Rows) → Contains rows (x, mass_in x rows) ⊎ ((mass_in x rows ≡ lowest zero_share) × NoRow x rows)
 in_or_none x [] = inr (refl, λ f c. absurd (omega (arith, c.1)))
 in_or_none x (row ∷ rows) = by (same_outcome x row.0) refl (in_or_none x rows)
   where
-    by : (b : Bool) → same_outcome x row.0 ≡ b → Contains rows (x, mass_in x rows) ⊎ ((mass_in x rows ≡ lowest nothing) × NoRow x rows) →
-        Contains (row ∷ rows) (x, if b then row.1 else mass_in x rows) ⊎ (((if b then row.1 else mass_in x rows) ≡ lowest nothing) × NoRow x (row ∷ rows))
+    by : (b : Bool) → same_outcome x row.0 ≡ b → Contains rows (x, mass_in x rows) ⊎ ((mass_in x rows ≡ lowest zero_share) × NoRow x rows) →
+        Contains (row ∷ rows) (x, if b then row.1 else mass_in x rows) ⊎ (((if b then row.1 else mass_in x rows) ≡ lowest zero_share) × NoRow x (row ∷ rows))
     by true p i = inl (first_in row rows (x, row.1) (ap (λ y. (y, row.1)) (sym (same_outcomes x row.0 p))))
     by false p (inl c) = inl (later_in row rows (x, mass_in x rows) c)
     by false p (inr n) = inr (n.0, λ f c. apart f (in_cons row rows (x, f) c))
@@ -48,9 +48,9 @@ in_or_none x (row ∷ rows) = by (same_outcome x row.0) refl (in_or_none x rows)
         apart f (inr c) = n.1 f c
 
 -- ---- what weights are at a scale
-whole_nothing : (N : ℕ) → (whole N (lowest nothing) ≡ 0) × Whole N (lowest nothing)
+whole_nothing : (N : ℕ) → (whole N (lowest zero_share) ≡ 0) × Whole N (lowest zero_share)
 whole_nothing N =
-    let a = whole_from N nothing 0 (omega arith) (omega arith) in
+    let a = whole_from N zero_share 0 (omega arith) (omega arith) in
     let b = whole_lowest N 0 1 a.1 in
     (b.0 ∙ a.0, b.1)
 
@@ -69,7 +69,7 @@ row_part N x f (row ∷ rows) h c = by (in_cons row rows (x, f) c) (row_part N x
 pub mass_part : (N : ℕ) (x : Outcome) (rows : masses.Rows) → Held N rows → Part N (mass_in x rows) (held N (λ x. 1) rows)
 mass_part N x rows h = by (in_or_none x rows)
   where
-    by : Contains rows (x, mass_in x rows) ⊎ ((mass_in x rows ≡ lowest nothing) × NoRow x rows) → Part N (mass_in x rows) (held N (λ x. 1) rows)
+    by : Contains rows (x, mass_in x rows) ⊎ ((mass_in x rows ≡ lowest zero_share) × NoRow x rows) → Part N (mass_in x rows) (held N (λ x. 1) rows)
     by (inl c) = row_part N x (mass_in x rows) rows h c
     by (inr n) = let w = whole_nothing N in subst (λ f. Part N f (held N (λ x. 1) rows)) (sym n.0) (record { exact = w.1; within = let z = w.0 in omega arith })
 

@@ -3,14 +3,13 @@ use Rattle.std.proofs.Common.{◌≡◌, ℕ, ◌+◌, ◌≤◌, ◌<◌, ◌-�
 use Rattle.gcl_core.specs.declared.answers.Limit.TheVariants.{Turns, Attempts, Rounds}
 use Rattle.gcl_core.specs.declared.answers.Outcome.{Outcome}
 use Rattle.gcl_core.specs.declared.answers.Outcome.TheVariants as outcome
-use Rattle.gcl_core.specs.Blocks.{End, on, failed, fault, limit}
-use Rattle.gcl_core.specs.Keeping.{IsChecked}
-use Rattle.gcl_core.specs.Mass.{ends_in, is_failed}
-use Rattle.gcl_core.specs.Outcomes.{same_outcome}
-use Rattle.gcl_core.specs.Runs.{zeros, outcome_of}
-use Rattle.gcl_core.specs.Syntax.{Expression, Source}
-use Rattle.gcl_core.specs.Value.{value_of}
-use Rattle.gcl_core.specs.WeightedEnds.{weighted_ends}
+use Rattle.gcl_core.specs.meaning.Blocks.{End, on, failed, fault, limit}
+use Rattle.gcl_core.specs.meaning.Keeping.{IsChecked}
+use Rattle.gcl_core.specs.weighing.Mass.{ends_in, is_failed}
+use Rattle.gcl_core.specs.meaning.Outcomes.{same_outcome, zeros, outcome_of}
+use Rattle.gcl_core.specs.meaning.Syntax.{Expression, Source}
+use Rattle.gcl_core.specs.meaning.Value.{value_of}
+use Rattle.gcl_core.specs.weighing.WeightedEnds.{weighted_ends}
 use Rattle.gcl_core.proofs.Accepted.{checked_weights}
 use Rattle.gcl_core.proofs.FittingValues.{zeros_fit}
 use Rattle.gcl_core.proofs.TreeWeights.{chi}

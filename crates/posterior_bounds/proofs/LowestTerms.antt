@@ -2,7 +2,7 @@
 use Rattle.std.proofs.Common.{◌≡◌, ◌<◌, arith}
 use Rattle.frac128.specs.Fraction.{lowest, IsEqual}
 use Rattle.frac128.proofs.Divisors.{lowest_in_lowest, lowest_equal, equal_trans}
-use Rattle.gcl_core.specs.Fractions.{Fraction, plus}
+use Rattle.gcl_core.specs.weighing.Fractions.{Fraction, plus}
 use Rattle.mass_fold.proofs.OutcomeRows.{lowest_is}
 use Rattle.weighing_law.proofs.Shares.{product_pos}
 use Rattle.mass_tables.proofs.EqualFractions.{equal_plus}

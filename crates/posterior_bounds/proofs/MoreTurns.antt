@@ -2,14 +2,14 @@
 use Rattle.std.proofs.Common.{◌≡◌, ℕ, ◌^◌, ◌≤◌, true, None, List, length}
 use Rattle.gcl_core.specs.declared.answers.Limit.{Limit}
 use Rattle.gcl_core.specs.declared.answers.Limit.TheVariants.{Turns, Attempts, Rounds}
-use Rattle.gcl_core.specs.Bounds.{BlockIsWeighed, BlockFits}
-use Rattle.gcl_core.specs.Blocks.{End}
-use Rattle.gcl_core.specs.Draw.{last_end}
-use Rattle.gcl_core.specs.OneDraw.{Ascends}
-use Rattle.gcl_core.specs.Syntax.{Statements}
-use Rattle.gcl_core.specs.Fitting.{state_fits}
-use Rattle.gcl_core.specs.Value.{State}
-use Rattle.gcl_core.specs.WeightedEnds.{Weighted, weighted_classes, weighted_ends}
+use Rattle.gcl_core.specs.meaning.Bounds.{BlockIsWeighed, BlockFits}
+use Rattle.gcl_core.specs.meaning.Blocks.{End}
+use Rattle.gcl_core.specs.meaning.Draw.{last_end}
+use Rattle.gcl_core.specs.weighing.OneDraw.{Ascends}
+use Rattle.gcl_core.specs.meaning.Syntax.{Statements}
+use Rattle.gcl_core.specs.meaning.Fitting.{state_fits}
+use Rattle.gcl_core.specs.meaning.Value.{State}
+use Rattle.gcl_core.specs.weighing.WeightedEnds.{Weighted, weighted_classes, weighted_ends}
 use Rattle.weighing_law.proofs.ComparedBlocks.{BadEnd, BadClass, Pair, compare_block}
 use Rattle.weighing_law.proofs.Comparing.{Compared, cmp_same_draw}
 use Rattle.weighing_law.proofs.DrawMatching.{class_below}

@@ -3,13 +3,12 @@ use Rattle.std.proofs.Common.{◌≡◌, ℕ, ◌+◌, ◌*◌, ◌<◌, ◌-◌
 use Rattle.gcl_core.specs.declared.answers.Limit.TheVariants.{Turns}
 use Rattle.gcl_core.specs.declared.answers.Outcome.{Outcome}
 use Rattle.gcl_core.specs.declared.answers.Outcome.TheVariants as outcome
-use Rattle.gcl_core.specs.Fractions.{IsBelowOne}
-use Rattle.gcl_core.specs.Blocks.{End}
-use Rattle.gcl_core.specs.Mass.{ends_in, is_failed}
-use Rattle.gcl_core.specs.Outcomes.{same_outcome}
-use Rattle.gcl_core.specs.Runs.{zeros}
-use Rattle.gcl_core.specs.Syntax.{Source}
-use Rattle.gcl_core.specs.WeightedEnds.{weighted_ends}
+use Rattle.gcl_core.specs.weighing.Fractions.{IsBelowOne}
+use Rattle.gcl_core.specs.meaning.Blocks.{End}
+use Rattle.gcl_core.specs.weighing.Mass.{ends_in, is_failed}
+use Rattle.gcl_core.specs.meaning.Outcomes.{same_outcome, zeros}
+use Rattle.gcl_core.specs.meaning.Syntax.{Source}
+use Rattle.gcl_core.specs.weighing.WeightedEnds.{weighted_ends}
 use Rattle.gcl_core.proofs.TreeWeights.{chi}
 use Rattle.weighing_law.proofs.Shares.{Share, share-plus, counts_sum, sum_pos, product_pos}
 use Rattle.weighing_law.proofs.StatedMasses.{rest_share}

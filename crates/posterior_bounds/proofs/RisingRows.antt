@@ -5,8 +5,8 @@ use Rattle.std.specs.Prelude.{if◌then◌else◌}
 use Rattle.std.proofs.lemmas.List.{append-nil, at_drop_all}
 use Rattle.frac128.specs.Fraction.{lowest, InLowest, sum_of}
 use Rattle.gcl_core.specs.declared.answers.Outcome.{Outcome}
-use Rattle.gcl_core.specs.Fractions.{Fraction, nothing, plus}
-use Rattle.gcl_core.specs.Outcomes.{same_outcome}
+use Rattle.gcl_core.specs.weighing.Fractions.{Fraction, zero_share, plus}
+use Rattle.gcl_core.specs.meaning.Outcomes.{same_outcome}
 use Rattle.mass_fold.specs.Rows as masses
 use Rattle.mass_fold.proofs.OutcomeRows.{lowest_is}
 use Rattle.mass_tables.specs.Scale.{whole}
@@ -14,7 +14,7 @@ use Rattle.mass_tables.proofs.Wholes.{whole_from, sum_whole}
 use Rattle.weighing_law.proofs.Shares.{product_pos}
 use Rattle.posterior_bounds.specs.PosteriorBounds.{is_settled}
 use Rattle.posterior_bounds.specs.Rows.{Rows}
-use Rattle.posterior_bounds.specs.Rising.{mass_in, raised}
+use Rattle.posterior_bounds.specs.inner.Rising.{mass_in, raised}
 
 -- ---- the row at a place
 next_row : {A : Type 0} (rows : List A) (i : ℕ) (row : A) → slice_get rows i ≡ Some row → drop i rows ≡ row ∷ drop (suc i) rows
@@ -61,7 +61,7 @@ module _ (rows : masses.Rows) (i : ℕ) (row : Outcome × Fraction) (at : slice_
     raised_none e = sym (behind (λ l. bounds ++ raised other l) rows i) ∙ joined false e
 
 -- ---- behind the last row
-pub mass_end : (x : Outcome) (rows : masses.Rows) (i : ℕ) (m : Fraction) → length rows ≤ i → mass_in x (drop i rows) ≡ m → lowest nothing ≡ m
+pub mass_end : (x : Outcome) (rows : masses.Rows) (i : ℕ) (m : Fraction) → length rows ≤ i → mass_in x (drop i rows) ≡ m → lowest zero_share ≡ m
 mass_end x rows i m le so = sym (at_drop_all (mass_in x) rows i le) ∙ so
 
 pub raised_end : (other : Fraction) (rows : masses.Rows) (i : ℕ) (bounds whole : Rows) → length rows ≤ i → bounds ++ raised other (drop i rows) ≡ whole → bounds ≡ whole

@@ -3,8 +3,8 @@ use Rattle.std.proofs.Common.{◌≡◌, ℕ, ◌*◌, pos, [], ◌∷◌, refl}
 use Rattle.gcl_core.specs.declared.answers.Outcome.{Outcome}
 use Rattle.gcl_core.specs.declared.answers.Outcome.TheVariants as outcome
 use Rattle.gcl_core.specs.declared.syntax.BinOp.TheVariants as op
-use Rattle.gcl_core.specs.Fractions.{Fraction, IsOne}
-use Rattle.gcl_core.specs.Syntax.{number, variable, binary, assign, loop, choice, uniform, observe, done, ◌▸◌, Source}
+use Rattle.gcl_core.specs.weighing.Fractions.{Fraction, IsOne}
+use Rattle.gcl_core.specs.meaning.Syntax.{Num, Var, Bin, Set, While, Choice, Uniform, Observe, done, ◌▸◌, Source}
 use Rattle.weighing_law.proofs.WorkedPrograms.{one_of_two_coins, geometric, weight}
 use Rattle.posterior_bounds.specs.PosteriorBounds.{fails, lower_of, upper_of, upper_of_others}
 
@@ -42,13 +42,13 @@ coins_others = refl
 abbrev dice : Source
 dice = record {
   names = [] ∷ [] ∷ [] ∷ [];
-  body = uniform 0 (number (pos 6))
-      ▸ uniform 1 (number (pos 6))
-      ▸ observe (binary op.Eq (binary op.Add (variable 0) (variable 1)) (number (pos 8)))
-      ▸ assign 2 (number (pos 0))
-      ▸ loop (binary op.Eq (variable 2) (number (pos 0))) (uniform 2 (number (pos 2)) ▸ done)
+  body = Uniform 0 (Num (pos 6))
+      ▸ Uniform 1 (Num (pos 6))
+      ▸ Observe (Bin op.Eq (Bin op.Add (Var 0) (Var 1)) (Num (pos 8)))
+      ▸ Set 2 (Num (pos 0))
+      ▸ While (Bin op.Eq (Var 2) (Num (pos 0))) (Uniform 2 (Num (pos 2)) ▸ done)
       ▸ done;
-  result = variable 0;
+  result = Var 0;
 }
 
 dice_3 : IsFrom dice 1 (outcome.Value (pos 3)) 1 6 2 3
@@ -70,11 +70,11 @@ dice_none = refl
 abbrev observed : Source
 observed = record {
   names = [] ∷ [] ∷ [];
-  body = assign 0 (number (pos 1))
-      ▸ loop (binary op.Eq (variable 0) (number (pos 1))) (choice (weight 1 2) (assign 1 (binary op.Add (variable 1) (number (pos 1))) ▸ done) (assign 0 (number (pos 0)) ▸ done) ▸ done)
-      ▸ observe (binary op.Lt (variable 1) (number (pos 2)))
+  body = Set 0 (Num (pos 1))
+      ▸ While (Bin op.Eq (Var 0) (Num (pos 1))) (Choice (weight 1 2) (Set 1 (Bin op.Add (Var 1) (Num (pos 1))) ▸ done) (Set 0 (Num (pos 0)) ▸ done) ▸ done)
+      ▸ Observe (Bin op.Lt (Var 1) (Num (pos 2)))
       ▸ done;
-  result = variable 1;
+  result = Var 1;
 }
 
 observed_before : IsFrom observed 2 (outcome.Value (pos 0)) 1 2 3 4
@@ -91,7 +91,7 @@ observed_others = refl
 
 -- ---- observe 1 = 2; return 0;
 abbrev impossible : Source
-impossible = record { names = []; body = observe (binary op.Eq (number (pos 1)) (number (pos 2))) ▸ done; result = number (pos 0) }
+impossible = record { names = []; body = Observe (Bin op.Eq (Num (pos 1)) (Num (pos 2))) ▸ done; result = Num (pos 0) }
 
 impossible_fails : IsOne (fails impossible 30)
 impossible_fails = refl

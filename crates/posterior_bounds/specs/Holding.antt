@@ -4,10 +4,10 @@ use Rattle.frac128.specs.Fraction.{IsEqual}
 use Rattle.gcl_core.specs.declared.answers.Limit.TheVariants.{Turns}
 use Rattle.gcl_core.specs.declared.answers.Outcome.{Outcome}
 use Rattle.gcl_core.specs.declared.answers.Outcome.TheVariants as outcome
-use Rattle.gcl_core.specs.Fractions.{plus, AtMost, IsBelowOne}
-use Rattle.gcl_core.specs.Mass.{mass_of_those}
-use Rattle.gcl_core.specs.Outcomes.{same_outcome}
-use Rattle.gcl_core.specs.Syntax.{Source}
+use Rattle.gcl_core.specs.weighing.Fractions.{plus, AtMost, IsBelowOne}
+use Rattle.gcl_core.specs.weighing.Mass.{mass_of_those}
+use Rattle.gcl_core.specs.meaning.Outcomes.{same_outcome}
+use Rattle.gcl_core.specs.meaning.Syntax.{Source}
 use Rattle.posterior_bounds.specs.PosteriorBounds.{is_settled, fails, given, lower_of_those, upper_of_those, upper_of_others}
 
 -- The bounds at n turns are fractions, and they are as far apart as for whatever else is meant: by the bound of all others.

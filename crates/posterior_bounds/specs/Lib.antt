@@ -1,4 +1,4 @@
 pub mod PosteriorBounds
 pub mod Holding
 pub mod Rows
-pub mod Rising
+pub mod inner

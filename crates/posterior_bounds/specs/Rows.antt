@@ -3,11 +3,11 @@
 use Rattle.std.specs.Prelude.{◌≡◌, ℕ, ◌≤◌, ◌<◌, true, None, List, map, AllPairs, Contains}
 use Rattle.frac128.specs.Fraction.{lowest}
 use Rattle.gcl_core.specs.declared.answers.Outcome.{Outcome}
-use Rattle.gcl_core.specs.Fractions.{Fraction, AtMost}
-use Rattle.gcl_core.specs.Mass.{mass_of}
-use Rattle.gcl_core.specs.Order.{is_before}
-use Rattle.gcl_core.specs.Outcomes.{same_outcome}
-use Rattle.gcl_core.specs.Syntax.{Source}
+use Rattle.gcl_core.specs.weighing.Fractions.{Fraction, AtMost}
+use Rattle.gcl_core.specs.weighing.Mass.{mass_of}
+use Rattle.gcl_core.specs.meaning.Order.{is_before}
+use Rattle.gcl_core.specs.meaning.Outcomes.{same_outcome}
+use Rattle.gcl_core.specs.meaning.Syntax.{Source}
 use Rattle.posterior_bounds.specs.PosteriorBounds.{is_settled, given, lower_of, upper_of, upper_of_others}
 
 -- an outcome, its lower bound and its upper bound

@@ -2,8 +2,8 @@
 
 ghost use Rattle.std.specs.Prelude.{◌≡◌, ◌≤◌, ℕ, None, IfOk, IfErr};
 ghost use Rattle.frac128.specs.Fraction.{lowest};
-ghost use Rattle.gcl_core.specs.Fractions.{IsBelowOne};
-ghost use Rattle.gcl_core.specs.Views.{source_of};
+ghost use Rattle.gcl_core.specs.weighing.Fractions.{IsBelowOne};
+ghost use Rattle.gcl_core.specs.meaning.Views.{source_of};
 ghost use Rattle.gcl_core.specs.declared.rules.TheConstants.{MOST_LIMIT};
 ghost use Rattle.mass_fold.specs.Refused.{MassRefused};
 ghost use Rattle.posterior_bounds.specs.PosteriorBounds.{fails, upper_of_others};
@@ -23,7 +23,7 @@ use std::alloc::Global;
 ///
 /// `TooWide` comes only where the common denominator of the round is above 2^128 − 1, and `TooManyStates` only where some point of the
 /// program is reached with more than 65,536 states. `AllFailed` comes only where f is 1; there no bounds come. `OutOfMemory` comes where
-/// memory is wanting.
+/// memory runs out.
 pub fn bounds(alloc: Global, p: &Checked, turns: u64) -> Result<Bounds, MassError>
     requires { turns ≤ MOST_LIMIT }
     ensures rows { IfOk result (λ b. AreBoundsOf (source_of p.now) turns b.rows) }

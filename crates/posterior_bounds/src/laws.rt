@@ -1,9 +1,9 @@
 // What more turns may bring.
 
 ghost use Rattle.std.specs.Prelude.{◌≤◌, ℕ};
-ghost use Rattle.gcl_core.specs.Fractions.{IsBelowOne};
-ghost use Rattle.gcl_core.specs.Keeping.{IsChecked};
-ghost use Rattle.gcl_core.specs.Syntax.{Source};
+ghost use Rattle.gcl_core.specs.weighing.Fractions.{IsBelowOne};
+ghost use Rattle.gcl_core.specs.meaning.Keeping.{IsChecked};
+ghost use Rattle.gcl_core.specs.meaning.Syntax.{Source};
 ghost use Rattle.posterior_bounds.specs.PosteriorBounds.{fails};
 ghost use Rattle.posterior_bounds.specs.Holding.{BoundsHold};
 

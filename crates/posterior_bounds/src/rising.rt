@@ -4,10 +4,10 @@ ghost use Rattle.std.specs.Prelude.{◌≡◌, None, IfOk, IfErr, IfSome, IfNone
 ghost use Rattle.frac128.specs.Fraction.{lowest, sum_of};
 ghost use Rattle.gcl_core.specs.declared.answers.Limit.TheVariants.{Turns};
 ghost use Rattle.gcl_core.specs.declared.answers.Outcome.TheVariants as outcome;
-ghost use Rattle.gcl_core.specs.Fractions.{plus};
-ghost use Rattle.gcl_core.specs.Outcomes.{same_outcome};
+ghost use Rattle.gcl_core.specs.weighing.Fractions.{plus};
+ghost use Rattle.gcl_core.specs.meaning.Outcomes.{same_outcome};
 ghost use Rattle.posterior_bounds.specs.PosteriorBounds.{is_settled};
-ghost use Rattle.posterior_bounds.specs.Rising.{mass_in, raised, RaiseRefused};
+ghost use Rattle.posterior_bounds.specs.inner.Rising.{mass_in, raised, RaiseRefused};
 
 use crate::rows::BoundRows;
 use frac128::Frac;

@@ -1,6 +1,5 @@
 pub mod Instruction
 pub mod Depths
-pub mod Stored
 pub mod Views
 pub mod Code
 pub mod Machine
@@ -9,6 +8,6 @@ pub mod Fits
 pub mod Sound
 pub mod Assembled
 pub mod Models
-pub mod Assemble
 pub mod Listing
 pub mod inner
+pub mod Follows

@@ -1,16 +1,17 @@
 // From a tree to its code. Jumps whose targets are not known yet are written with the target 0, and again once these are known.
 
 ghost use Rattle.std.specs.Prelude.{◌≡◌, ℕ, ◌+◌, ◌≤◌, List, [], ◌∷◌, ◌++◌, length, drop, IfOk, OnOk};
-ghost use Rattle.gcl_core.specs.Views.{expression_of};
+ghost use Rattle.gcl_core.specs.meaning.Views.{expression_of};
 ghost use Rattle.draw_tree.specs.Flips.{ClassesBelow};
 ghost use Rattle.draw_tree.specs.Views.{flips_of};
-ghost use Rattle.bit_tree.specs.Tree.{BitTrees, pick, count};
+ghost use Rattle.bit_tree.specs.Tree.{BitTrees, Pick, count};
 ghost use Rattle.bit_tree.specs.Views.{bit_tree_of, bit_trees_of, tied_tree_of};
 ghost use Rattle.bit_tree.specs.Sampleable.{LabelsHaveArms, RowHasArms, TiedIsSampleable};
 ghost use Rattle.sampler_code.specs.Instruction.{Instruction};
 ghost use Rattle.sampler_code.specs.Code.{tree_code, row_code, arms_code, arms_size, loops, row_loops};
-ghost use Rattle.sampler_code.specs.Assemble.{between, starts_of};
-ghost use Rattle.sampler_code.specs.Assembled.{assembled, Follows};
+ghost use Rattle.sampler_code.specs.inner.Jumps.{jump_before, starts_of};
+ghost use Rattle.sampler_code.specs.Assembled.{assembled};
+ghost use Rattle.sampler_code.specs.Follows.{Follows};
 ghost use Rattle.sampler_code.specs.Fits.{TreeFits, RowFits};
 
 use crate::code::Code;
@@ -23,7 +24,7 @@ use std::alloc::{AllocError, Global};
 
 // Room for a jump, before all arms but the first.
 fn put_between(code: &mut Instructions, i: usize) -> Result<(), AllocError>
-    ensures { OnOk result (code.new ≡ code.old ++ between i) }
+    ensures { OnOk result (code.new ≡ code.old ++ jump_before i) }
 {
     if i > 0 {
         code.put(Instr::Goto(0))?;
@@ -108,7 +109,7 @@ fn emit_pick(
     requires labels { ClassesBelow (count (bit_trees_of arms.now)) (flips_of draw.now) }
     requires arms { RowHasArms (bit_trees_of arms.now) }
     requires low { next.old ≤ length code.old }
-    ensures code { OnOk result (code.new ≡ code.old ++ tree_code (pick (flips_of draw.now) (bit_trees_of arms.now)) (length code.old) next.old) }
+    ensures code { OnOk result (code.new ≡ code.old ++ tree_code (Pick (flips_of draw.now) (bit_trees_of arms.now)) (length code.old) next.old) }
     ensures loops { OnOk result (next.new ≡ next.old + row_loops (bit_trees_of arms.now)) }
     ensures low { OnOk result (next.new ≤ length code.new) }
     ensures fits { OnOk result (RowFits (bit_trees_of arms.now)) }
@@ -189,7 +190,7 @@ fn close(code: &mut Instructions, starts: &[usize], i: usize, end: usize)
 /// The code of a tied tree, which does what the tree does.
 ///
 /// Each draw of the tree is coalesced, each label has its arm, and variables are below their number. An error comes only where
-/// memory is wanting.
+/// memory runs out.
 pub fn assemble(alloc: Global, t: &Tied) -> Result<Code, AllocError>
     requires sampleable { TiedIsSampleable (tied_tree_of t.now) }
     ensures code { IfOk result (λ c. c ≡ assembled (tied_tree_of t.now)) }

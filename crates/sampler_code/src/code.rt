@@ -1,7 +1,7 @@
 // Code that is assembled.
 
 ghost use Rattle.std.specs.Prelude.{◌≡◌};
-ghost use Rattle.sampler_code.specs.Assembled.{IsCode};
+ghost use Rattle.sampler_code.specs.Follows.{IsCode};
 
 use crate::instructions::{Instr, Instructions};
 use gcl_core::Limits;
@@ -18,8 +18,9 @@ pub struct Code {
 
 impl Model for Code {
     ghost use Rattle.std.specs.Coded.{codes};
-    ghost use Rattle.sampler_code.specs.Stored.{expression_code};
-    ghost use Rattle.sampler_code.specs.Assembled.{Assembled, IsCode};
+    ghost use Rattle.sampler_code.specs.inner.Stored.{expression_code};
+    ghost use Rattle.sampler_code.specs.Assembled.{Assembled};
+    ghost use Rattle.sampler_code.specs.Follows.{IsCode};
     ghost use Rattle.sampler_code.specs.Models.{assembled_of};
 
     ghost Value = { Assembled };
@@ -33,10 +34,11 @@ impl Model for Code {
 
 impl Code {
     ghost use Rattle.std.specs.Prelude.{◌≡◌, ◌<◌, ◌+◌, ◌^◌, Bool, List, Some, length, slice_get};
-    ghost use Rattle.gcl_core.specs.Runs.{InRange};
+    ghost use Rattle.gcl_core.specs.meaning.LimitRange.{InRange};
     ghost use Rattle.sampler_code.specs.Running.{Reached};
     ghost use Rattle.sampler_code.specs.Sound.{Sound};
-    ghost use Rattle.sampler_code.specs.Assembled.{CodeReaches, Follows, IsCode};
+    ghost use Rattle.sampler_code.specs.Assembled.{CodeReaches};
+    ghost use Rattle.sampler_code.specs.Follows.{Follows, IsCode};
     ghost use Rattle.sampler_code.specs.Views.{instruction_of};
     ghost use Rattle.sampler_code.specs.Depths.{greatest_depth};
 

@@ -21,7 +21,7 @@ pub enum Instr {
     Goto(usize),
     /// Sets this counter of turns to its limit.
     Arm(usize),
-    /// Where the value is not 0, takes one from this counter of turns and goes back to the target; where it is 0 already, ends.
+    /// Goes on where the value is 0. Else takes one from this counter of turns and goes back to the target; where none is left, ends.
     Loop(usize, usize, Formula),
     /// Sets the counter of attempts to its limit.
     Tries,
@@ -77,7 +77,7 @@ impl Model for Instructions {
     ghost use Rattle.sampler_code.specs.Instruction.{Instruction};
     ghost use Rattle.sampler_code.specs.Views.{instructions_of};
     ghost use Rattle.std.specs.Coded.{codes};
-    ghost use Rattle.sampler_code.specs.Stored.{expression_code};
+    ghost use Rattle.sampler_code.specs.inner.Stored.{expression_code};
 
     ghost Value = { List Instruction };
 
@@ -129,7 +129,7 @@ impl Instructions {
         i + 1
     }
 
-    /// One more at the end. An error comes only where memory is wanting.
+    /// One more at the end. An error comes only where memory runs out.
     pub fn put(&mut self, instr: Instr) -> Result<(), AllocError>
         ensures { OnOk result (self.new ≡ self.old ++ instruction_of instr ∷ []) }
     {

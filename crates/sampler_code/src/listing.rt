@@ -1,9 +1,9 @@
 // The listing of code.
 
 ghost use Rattle.std.specs.Prelude.{◌≡◌, ℕ, ◌<◌, ◌≤◌, ◌++◌, [], length, codes, decimal, slice_index_or, OnOk, IfOk};
-ghost use Rattle.gcl_core.specs.Canonical.{expression_text};
-ghost use Rattle.gcl_core.specs.Value.{Reads};
-ghost use Rattle.gcl_core.specs.Views.{expression_of};
+ghost use Rattle.gcl_core.specs.text.Canonical.{expression_text};
+ghost use Rattle.gcl_core.specs.meaning.Value.{ExpressionBelow};
+ghost use Rattle.gcl_core.specs.meaning.Views.{expression_of};
 ghost use Rattle.sampler_code.specs.Listing.{instruction_text, line_of, listing};
 ghost use Rattle.sampler_code.specs.Sound.{Knows};
 ghost use Rattle.sampler_code.specs.Views.{instruction_of};
@@ -25,7 +25,7 @@ fn numbered(text: &mut Text, word: &[u8], n: usize) -> Result<(), AllocError>
 // A word, a variable and an expression.
 fn stored(text: &mut Text, names: &Names, word: &[u8], x: u32, e: &Expr) -> Result<(), AllocError>
     requires place { x < length names.now }
-    requires reads { Reads (expression_of e.now) (length names.now) }
+    requires reads { ExpressionBelow (expression_of e.now) (length names.now) }
     ensures { OnOk result (text.new ≡ text.old ++ (word.now ++ (slice_index_or names.now x [] ++ (codes " " ++ expression_text names.now (expression_of e.now))))) }
 {
     text.push(word)?;
@@ -35,7 +35,7 @@ fn stored(text: &mut Text, names: &Names, word: &[u8], x: u32, e: &Expr) -> Resu
 }
 
 fn unless(text: &mut Text, names: &Names, e: &Expr, target: usize) -> Result<(), AllocError>
-    requires { Reads (expression_of e.now) (length names.now) }
+    requires { ExpressionBelow (expression_of e.now) (length names.now) }
     ensures { OnOk result (text.new ≡ text.old ++ (codes "unless " ++ (expression_text names.now (expression_of e.now) ++ (codes " goto " ++ decimal target)))) }
 {
     text.push(b"unless ")?;
@@ -50,7 +50,7 @@ fn repeated(
     target: usize,
     e: &Expr,
 ) -> Result<(), AllocError>
-    requires { Reads (expression_of e.now) (length names.now) }
+    requires { ExpressionBelow (expression_of e.now) (length names.now) }
     ensures { OnOk result (text.new ≡ text.old
         ++ (codes "loop " ++ (decimal counter ++ (codes " " ++ (decimal target ++ (codes " " ++ expression_text names.now (expression_of e.now))))))) }
 {
@@ -61,7 +61,7 @@ fn repeated(
 }
 
 fn returned(text: &mut Text, names: &Names, e: &Expr) -> Result<(), AllocError>
-    requires { Reads (expression_of e.now) (length names.now) }
+    requires { ExpressionBelow (expression_of e.now) (length names.now) }
     ensures { OnOk result (text.new ≡ text.old ++ (codes "return " ++ expression_text names.now (expression_of e.now))) }
 {
     text.push(b"return ")?;
@@ -107,7 +107,7 @@ fn line(
 
 /// The listing of code: a line for each instruction with its index and its text, where variables have these names.
 ///
-/// The names are at least as many as the variables. An error comes only where memory is wanting.
+/// The names are at least as many as the variables. An error comes only where memory runs out.
 pub fn list(alloc: Global, c: &Code, names: &Names) -> Result<Vec<u8>, AllocError>
     requires { c.now.vars ≤ length names.now }
     ensures { IfOk result (λ text. text.items ≡ listing names.now c.now.instrs) }

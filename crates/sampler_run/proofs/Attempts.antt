@@ -5,12 +5,12 @@ use Rattle.std.proofs.lemmas.Nat.{mul-le, pow_pos}
 use Rattle.std.proofs.Math.Arith.{mod-mul}
 use Rattle.std.proofs.Math.Nat.{div-div-eq-div-mul}
 use Rattle.gcl_core.specs.declared.answers.Limits.{Limits}
-use Rattle.gcl_core.specs.Syntax.{Expression}
-use Rattle.gcl_core.specs.Draw.{bit}
-use Rattle.gcl_core.specs.Runs.{capped}
+use Rattle.gcl_core.specs.meaning.Syntax.{Expression}
+use Rattle.gcl_core.specs.meaning.Draw.{bit}
+use Rattle.gcl_core.specs.meaning.Runs.{capped}
 use Rattle.zar_io.specs.FileBits.{low_bits}
 use Rattle.sampler_code.specs.Instruction.{Instruction, Range}
-use Rattle.sampler_code.specs.Machine.{Machine, below, Next, goes, asks, act, step, stored, narrowed, retry, draws, ranges}
+use Rattle.sampler_code.specs.Machine.{Machine, below, Next, goes, asks, act, step, stored, narrowed, retry, draws_on, ranges}
 use Rattle.sampler_code.specs.Running.{Reached}
 use Rattle.sampler_code.specs.inner.Bounded.{most_steps, rest_of, Answered}
 use Rattle.sampler_run.specs.inner.Resting.{Asks, side}
@@ -70,13 +70,13 @@ module _ (code : List Instruction) (l : Limits) (x : ℕ) (e : Expression) (b : 
   abbrev pub drawn : Machine → ℕ → ℕ → Machine
   drawn m k v = stored (record m { used = used_after k m.used }) x (pos v)
 
-  pub step_draws : (m : Machine) (k low : ℕ) → slice_get code m.index ≡ Some (Range x e) → m.drawing ≡ below b k low → step code l m ≡ draws m x b k low
+  pub step_draws : (m : Machine) (k low : ℕ) → slice_get code m.index ≡ Some (Range x e) → m.drawing ≡ below b k low → step code l m ≡ draws_on m x b k low
   step_draws m k low at is = ap (λ o. act l o m) at ∙ ap (λ d. ranges l x e m d) is
 
-  pub stores : (m : Machine) (low : ℕ) → low < b → draws m x b zero low ≡ goes (stored m x (pos low))
+  pub stores : (m : Machine) (low : ℕ) → low < b → draws_on m x b zero low ≡ goes (stored m x (pos low))
   stores m low lt = ap (λ (c : Bool). if c then goes (stored m x (pos low)) else retry m b m.tries) (lt-ltb low b lt)
 
-  pub asks_more : (m : Machine) (k low : ℕ) → low * 2 ^ suc k < b → draws m x b (suc k) low ≡ asks (narrowed m b k (2 * low)) (narrowed m b k (2 * low + 1))
+  pub asks_more : (m : Machine) (k low : ℕ) → low * 2 ^ suc k < b → draws_on m x b (suc k) low ≡ asks (narrowed m b k (2 * low)) (narrowed m b k (2 * low + 1))
   asks_more m k low lt =
       ap (λ (c : Bool). if c then asks (narrowed m b k (2 * low)) (narrowed m b k (2 * low + 1)) else retry m b m.tries) (lt-ltb (low * 2 ^ suc k) b lt)
 

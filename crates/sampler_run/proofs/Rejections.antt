@@ -7,12 +7,12 @@ use Rattle.std.proofs.Math.Nat.{div-div-eq-div-mul}
 use Rattle.gcl_core.specs.declared.answers.Limit.TheVariants.{Attempts}
 use Rattle.gcl_core.specs.declared.answers.Limits.{Limits}
 use Rattle.gcl_core.specs.declared.answers.Outcome.TheVariants as outcome
-use Rattle.gcl_core.specs.Syntax.{Expression}
-use Rattle.gcl_core.specs.Draw.{bit, bits_for}
-use Rattle.gcl_core.specs.Runs.{capped}
+use Rattle.gcl_core.specs.meaning.Syntax.{Expression}
+use Rattle.gcl_core.specs.meaning.Draw.{bit, bits_for}
+use Rattle.gcl_core.specs.meaning.Runs.{capped}
 use Rattle.zar_io.specs.FileBits.{low_bits}
 use Rattle.sampler_code.specs.Instruction.{Instruction, Range}
-use Rattle.sampler_code.specs.Machine.{Machine, below, goes, asks, ends, step, stored, narrowed, retry, draws}
+use Rattle.sampler_code.specs.Machine.{Machine, below, goes, asks, ends, step, stored, narrowed, retry, draws_on}
 use Rattle.sampler_code.specs.inner.Bounded.{rest_of, Answered}
 use Rattle.sampler_run.specs.declared.stepping.Move.TheVariants as move
 use Rattle.sampler_run.specs.declared.trials.Trial.{Trial}
@@ -46,7 +46,7 @@ module _ (code : List Instruction) (l : Limits) where
 -- ---- the attempt
 
 module _ (code : List Instruction) (l : Limits) (x : ℕ) (e : Expression) (b : ℕ) where
-  draws_over : (m : Machine) (k low : ℕ) → b ≤ low * 2 ^ k → draws m x b k low ≡ retry m b m.tries
+  draws_over : (m : Machine) (k low : ℕ) → b ≤ low * 2 ^ k → draws_on m x b k low ≡ retry m b m.tries
   draws_over m zero low ge = ap (λ (c : Bool). if c then goes (stored m x (pos low)) else retry m b m.tries) (le-ltb low b (omega (arith, ge)))
   draws_over m (suc k) low ge =
       ap (λ (c : Bool). if c then asks (narrowed m b k (2 * low)) (narrowed m b k (2 * low + 1)) else retry m b m.tries) (le-ltb (low * 2 ^ suc k) b ge)

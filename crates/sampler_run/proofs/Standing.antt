@@ -8,8 +8,10 @@ use Rattle.gcl_core.specs.declared.answers.Outcome.{Outcome}
 use Rattle.gcl_core.specs.declared.answers.Answer.TheVariants.{Ended, MoreBits}
 use Rattle.sampler_code.specs.Instruction.{Instruction}
 use Rattle.sampler_code.specs.Machine.{Machine, idle, Next, goes, asks, ends, stuck, step}
-use Rattle.gcl_core.specs.Runs.{zeros, InRange}
-use Rattle.sampler_code.specs.Assembled.{Assembled, IsCode}
+use Rattle.gcl_core.specs.meaning.LimitRange.{InRange}
+use Rattle.gcl_core.specs.meaning.Outcomes.{zeros}
+use Rattle.sampler_code.specs.Assembled.{Assembled}
+use Rattle.sampler_code.specs.Follows.{IsCode}
 use Rattle.sampler_code.specs.Running.{Reached, reached_at, follow, within_steps, Reaches, start}
 use Rattle.sampler_code.specs.inner.Bounded.{most_steps, rest_of, Answered}
 use Rattle.sampler_code.proofs.SoundCode.{answered_of}
@@ -19,7 +21,7 @@ use Rattle.sampler_run.specs.declared.machine.Progress.TheVariants as progress
 use Rattle.sampler_run.specs.Held.{Held, Ahead, StandsAfter}
 use Rattle.sampler_run.specs.Telling.{progress_in, used_in, Tells, UsedIs, PlaceIs}
 use Rattle.sampler_run.specs.inner.Resting.{Asks, Rests}
-use Rattle.sampler_run.specs.inner.Kept.{Kept}
+use Rattle.sampler_run.specs.inner.Kept.{KeptState}
 
 -- ---- a machine at rest
 
@@ -117,7 +119,7 @@ start_same l vars count turns loops e f = ap (λ n. start n turns l) e ∙ ap (�
 
 -- ---- a state that is kept
 
-module _ (s : Held) (L V : ℕ) (p : Progress) (k : Kept s L V p) where
+module _ (s : Held) (L V : ℕ) (p : Progress) (k : KeptState s L V p) where
   told : (a : Reached) → Ahead s [] a → ToldBy a p s.machine.used s.machine.index
   told a r = at_rest s.code s.limits r.0 p s.machine a k.rests r.1
 

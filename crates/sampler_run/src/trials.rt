@@ -1,9 +1,9 @@
 // Attempts of a draw below a bound, on the bits at hand and over plain values.
 
 ghost use Rattle.std.specs.Prelude.{◌≡◌, ℕ, ◌+◌, ◌-◌, ◌*◌, ◌/◌, ◌%◌, ◌^◌, ◌<◌, ◌≤◌, List, slice_get, Some};
-ghost use Rattle.gcl_core.specs.Draw.{bits_for, bit as bit_of};
-ghost use Rattle.gcl_core.specs.Runs.{capped};
-ghost use Rattle.gcl_core.specs.Syntax.{Expression};
+ghost use Rattle.gcl_core.specs.meaning.Draw.{bits_for, bit as bit_of};
+ghost use Rattle.gcl_core.specs.meaning.Runs.{capped};
+ghost use Rattle.gcl_core.specs.meaning.Syntax.{Expression};
 ghost use Rattle.sampler_code.specs.Instruction.{Instruction, Range};
 ghost use Rattle.sampler_code.specs.Machine.{Machine};
 ghost use Rattle.sampler_code.specs.inner.Bounded.{Answered};

@@ -10,9 +10,9 @@ use Rattle.tally_range.specs.declared.range.SeedRange.{SeedRange}
 use Rattle.tally_range.specs.Rows.{counted_at}
 
 -- the key of a run by its answer: the outcome, or that it needed more bits
-abbrev pub key_of : Answer → TallyKey
-key_of (Ended x used) = Outcome x
-key_of (answer.MoreBits used) = MoreBits
+abbrev pub key_of_answer : Answer → TallyKey
+key_of_answer (Ended x used) = Outcome x
+key_of_answer (answer.MoreBits used) = MoreBits
 
 -- f of each of the n numbers from a on, added up
 abbrev pub total_from : (ℕ → ℕ) → ℕ → ℕ → ℕ
@@ -22,7 +22,7 @@ total_from f a (suc n) = f (a + n) + total_from f a n
 module _ (run : List Bool → Answer) (seed budget : ℕ) where
   -- the key of the run on the first bits of a stream
   abbrev pub key_on : ℕ → TallyKey
-  key_on stream = key_of (run (stream_bits seed stream budget))
+  key_on stream = key_of_answer (run (stream_bits seed stream budget))
 
   -- 1 where this is the key of the run on a stream, and else 0
   abbrev pub has_key : TallyKey → ℕ → ℕ

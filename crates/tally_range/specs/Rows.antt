@@ -1,8 +1,8 @@
 -- Rows of a key and a count, keys ascending and counts above 0.
 use Rattle.std.specs.Prelude.{◌≡◌, ◌<◌, ◌&&◌, ℕ, Bool, true, nat_lt, List, [], ◌∷◌, if◌then◌else◌, ◌↔◌, Contains}
 use Rattle.gcl_core.specs.declared.answers.TallyKey.{TallyKey}
-use Rattle.gcl_core.specs.Order.{is_key_before}
-use Rattle.gcl_core.specs.Outcomes.{same_key}
+use Rattle.gcl_core.specs.meaning.Order.{is_key_before}
+use Rattle.gcl_core.specs.meaning.Outcomes.{same_key}
 
 abbrev pub Rows : Type 0
 Rows = List (TallyKey × ℕ)

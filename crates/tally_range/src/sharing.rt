@@ -40,7 +40,7 @@ impl Share {
     }
 }
 
-// A share for each pass, in the opposite order. An error comes only where memory is wanting.
+// A share for each pass, in the opposite order. An error comes only where memory runs out.
 pub(crate) fn share_out(alloc: Global, mut passes: Vec<Pass>) -> Result<Vec<Entry>, AllocError>
     ensures passes { IfOk result (λ entries. map entry_pass entries.items ≡ reverse passes.items) }
     ensures empty { IfOk result (λ entries. All (λ e. entry_table e ≡ []) entries.items) }
@@ -55,7 +55,7 @@ pub(crate) fn share_out(alloc: Global, mut passes: Vec<Pass>) -> Result<Vec<Entr
     Ok(entries)
 }
 
-// The passes and the tables, in the opposite order. An error comes where memory is wanting, or where a worker found none.
+// The passes and the tables, in the opposite order. An error comes where memory runs out, or where a worker found none.
 pub(crate) fn gather(
     alloc: Global,
     mut entries: Vec<Entry>,
@@ -78,7 +78,7 @@ pub(crate) fn gather(
     Ok((passes, tables))
 }
 
-// The counts of all tables. An error comes only where memory is wanting.
+// The counts of all tables. An error comes only where memory runs out.
 pub(crate) fn add_up(alloc: Global, tables: &[Tally]) -> Result<Tally, AllocError>
     requires fits { (key : TallyKey) → total (λ t. count_in t key) tables.now < 2 ^ 64 }
     ensures counted { IfOk result (λ all. (key : TallyKey) → count_in all key ≡ total (λ t. count_in t key) tables.now) }

@@ -83,7 +83,7 @@ impl SmallCounts {
         }
     }
 
-    // Adds the counts to a table. An error comes only where memory is wanting.
+    // Adds the counts to a table. An error comes only where memory runs out.
     pub(crate) fn add_to(&self, table: &mut Tally) -> Result<(), AllocError>
         requires fits { (key : TallyKey) → count_in table.old key + count_in self.now key < 2 ^ 64 }
         ensures counted { IfOk result (λ _. (key : TallyKey) → count_in table.new key ≡ count_in table.old key + count_in self.now key) }

@@ -6,7 +6,7 @@ ghost use Rattle.gcl_core.specs.declared.answers.TallyKey.{TallyKey};
 ghost use Rattle.sampler_run.specs.Held.{IsRestOf, set_back};
 ghost use Rattle.zar_io.specs.declared.stream_bits.TheConstants.{MOST_BUDGET};
 ghost use Rattle.tally_range.specs.Blocks.{blocks_over, count_block};
-ghost use Rattle.tally_range.specs.Counts.{key_of, key_on, count_over};
+ghost use Rattle.tally_range.specs.Counts.{key_of_answer, key_on, count_over};
 ghost use Rattle.tally_range.specs.Ranges.{IsRange};
 ghost use Rattle.tally_range.specs.Rows.{counted_at};
 ghost use Rattle.tally_range.specs.Sums.{count_in};
@@ -20,7 +20,7 @@ use std::alloc::AllocError;
 use zar_io::StreamBits;
 
 fn key_of_answer(answer: Answer) -> TallyKey
-    ensures { result ≡ key_of answer }
+    ensures { result ≡ key_of_answer answer }
 {
     match answer {
         Answer::Ended(outcome, _used) => TallyKey::Outcome(outcome),
@@ -42,7 +42,7 @@ pub fn run_on_stream(state: &mut State<'_>, seed: u64, stream: u64, budget: u64)
     }
 }
 
-// Counts one more for the key, in the table only where it is no small value. An error comes only where memory is wanting.
+// Counts one more for the key, in the table only where it is no small value. An error comes only where memory runs out.
 #[inline]
 fn count_key(small: &mut SmallCounts, table: &mut Tally, key: TallyKey) -> Result<(), AllocError>
     requires { count_in table.old key + count_in small.old key + 1 < 2 ^ 64 }
@@ -55,7 +55,7 @@ fn count_key(small: &mut SmallCounts, table: &mut Tally, key: TallyKey) -> Resul
     table.add(key, 1)
 }
 
-// Runs on some streams that follow one another, and counts the keys of the runs. An error comes only where memory is wanting.
+// Runs on some streams that follow one another, and counts the keys of the runs. An error comes only where memory runs out.
 pub(crate) fn count_streams(
     state: &mut State<'_>,
     table: &mut Tally,
@@ -89,7 +89,7 @@ fn end_of_block(first: u64, to: u64) -> u64
     first + (to - first).min(STREAMS_OF_A_BLOCK)
 }
 
-// Runs on the streams of a block, and counts the keys of the runs. An error comes only where memory is wanting.
+// Runs on the streams of a block, and counts the keys of the runs. An error comes only where memory runs out.
 pub(crate) fn count_block(
     state: &mut State<'_>,
     table: &mut Tally,

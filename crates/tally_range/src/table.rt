@@ -56,7 +56,7 @@ impl Tally {
         self.rows.iter()
     }
 
-    // Counts so many more for a key. An error comes only where memory is wanting.
+    // Counts so many more for a key. An error comes only where memory runs out.
     pub(crate) fn add(&mut self, key: TallyKey, n: u64) -> Result<(), AllocError>
         requires some { 0 < n }
         requires fits { count_in self.old key + n < 2 ^ 64 }
@@ -79,7 +79,7 @@ impl Tally {
     ghost use Rattle.gcl_core.specs.declared.answers.TallyKey.{TallyKey};
     ghost use Rattle.tally_range.specs.Sums.{count_in};
 
-    // Adds the counts of another table. An error comes only where memory is wanting.
+    // Adds the counts of another table. An error comes only where memory runs out.
     pub(crate) fn add_all(&mut self, other: &Tally) -> Result<(), AllocError>
         requires fits { (key : TallyKey) → count_in self.old key + count_in other.now key < 2 ^ 64 }
         ensures counted { IfOk result (λ _. (key : TallyKey) → count_in self.new key ≡ count_in self.old key + count_in other.now key) }

@@ -4,7 +4,7 @@ ghost use Rattle.std.specs.Prelude.{◌≡◌, Bool, List, true, All, IfOk};
 ghost use Rattle.gcl_core.specs.declared.answers.Answer.{Answer};
 ghost use Rattle.gcl_core.specs.declared.answers.Limits.{Limits};
 ghost use Rattle.gcl_core.specs.declared.answers.TallyKey.{TallyKey};
-ghost use Rattle.gcl_core.specs.Runs.{InRange};
+ghost use Rattle.gcl_core.specs.meaning.LimitRange.{InRange};
 ghost use Rattle.sampler_code.specs.Assembled.{CodeReaches, IsRunOf};
 ghost use Rattle.sampler_code.specs.Running.{Reached};
 ghost use Rattle.number_lists.specs.Total.{total};
@@ -34,7 +34,7 @@ fn runs_answer(s: &Sampler)
 }
 
 // Runs a worker for each pass, in a thread of its own, and gives back the passes and the tables of the workers. An error comes only
-// where memory is wanting.
+// where memory runs out.
 fn count_in_threads<R: Threads + Sync, G: Gate>(
     rt: &R,
     alloc: Global,
@@ -63,7 +63,7 @@ fn count_in_threads<R: Threads + Sync, G: Gate>(
 
 /// How many of the streams of the range have runs of the sampler that end in each way: the outcomes, and the runs that need more bits
 /// than the budget. The rows are the same for any number of threads and any gate. Streams go in blocks of
-/// [`STREAMS_OF_A_BLOCK`], the last of which may be shorter, and the gate is told of each block before its first stream. An error comes only where memory is wanting.
+/// [`STREAMS_OF_A_BLOCK`], the last of which may be shorter, and the gate is told of each block before its first stream. An error comes only where memory runs out.
 pub fn tally<R: Threads + Sync, G: Gate>(
     rt: &R,
     alloc: Global,

@@ -3,7 +3,7 @@
 ghost use Rattle.std.specs.Prelude.{All, OnOk};
 ghost use Rattle.std.specs.List.{AllZip};
 ghost use Rattle.std.specs.Thread.{IsSync};
-ghost use Rattle.gcl_core.specs.Runs.{InRange};
+ghost use Rattle.gcl_core.specs.meaning.LimitRange.{InRange};
 ghost use Rattle.claim_board.specs.Board.{IsPassOf, IsSamePass};
 ghost use Rattle.tally_range.specs.Ranges.{IsRange};
 ghost use Rattle.tally_range.specs.Shares.{IsReady, IsCounted, pass_of};
@@ -21,7 +21,7 @@ use zar_io::Gate;
 
 /// Claims blocks of streams, the last of which may be shorter, until there is none left, runs the sampler on the streams of each,
 /// and counts how the runs end. The gate is told of each block before its first stream. Whatever the answer, the share holds the same
-/// pass of the same board. An error comes only where memory is wanting, and nothing is promised of the table then.
+/// pass of the same board. An error comes only where memory runs out, and nothing is promised of the table then.
 pub fn work<G: Gate>(
     board: &Board,
     share: &mut Share,

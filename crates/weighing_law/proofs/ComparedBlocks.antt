@@ -6,16 +6,16 @@ use Rattle.std.proofs.lemmas.Bool.{ltb-true, lt-ltb}
 use Rattle.gcl_core.specs.declared.answers.Fault.TheVariants.{BadBound}
 use Rattle.gcl_core.specs.declared.answers.Limit.{Limit}
 use Rattle.gcl_core.specs.declared.answers.Limit.TheVariants.{Turns, Attempts}
-use Rattle.gcl_core.specs.Bounds.{StatementIsWeighed, BlockIsWeighed, ArmsAreWeighed, StatementFits, BlockFits, ArmsFit}
-use Rattle.gcl_core.specs.Arms.{parts_of}
-use Rattle.gcl_core.specs.Parts.{partial_sums}
-use Rattle.gcl_core.specs.Syntax.{Statement, skip, assign, branch, loop, choice, choice_among, uniform, observe, Statements, done, ◌▸◌, ArmList, no_arm, arm}
-use Rattle.gcl_core.specs.Value.{State, Value, value_of, is_zero, fits_64}
-use Rattle.gcl_core.specs.Draw.{last_end}
-use Rattle.gcl_core.specs.OneDraw.{Ascends}
-use Rattle.gcl_core.specs.Blocks.{End, on, failed, fault, limit, by_value, by_truth, by_class, by_side, by_end, choice_ends, uniform_ends}
-use Rattle.gcl_core.specs.WeightedEnds.{Weighted, sure, taken_on, weighted_classes, uniform_weighted, loop_weighted, statement_weighted, weighted_ends, arm_weighted}
-use Rattle.gcl_core.specs.Fitting.{state_fits}
+use Rattle.gcl_core.specs.meaning.Bounds.{StatementIsWeighed, BlockIsWeighed, ArmsAreWeighed, StatementFits, BlockFits, ArmsFit}
+use Rattle.gcl_core.specs.meaning.Arms.{parts_of}
+use Rattle.gcl_core.specs.meaning.Parts.{partial_sums}
+use Rattle.gcl_core.specs.meaning.Syntax.{Statement, Skip, Set, If, While, Choice, Choose, Uniform, Observe, Statements, done, ◌▸◌, ArmList, no_arm, arm}
+use Rattle.gcl_core.specs.meaning.Value.{State, Value, value_of, is_zero, fits_64}
+use Rattle.gcl_core.specs.meaning.Draw.{last_end, choice_ends, uniform_ends}
+use Rattle.gcl_core.specs.weighing.OneDraw.{Ascends}
+use Rattle.gcl_core.specs.meaning.Blocks.{End, on, failed, fault, limit, by_value, by_truth, by_class, by_side, by_end}
+use Rattle.gcl_core.specs.weighing.WeightedEnds.{Weighted, sure, taken_on, weighted_classes, uniform_weighted, loop_weighted, statement_weighted, weighted_ends, arm_weighted}
+use Rattle.gcl_core.specs.meaning.Fitting.{state_fits}
 use Rattle.gcl_core.proofs.FittingValues.{end_fits, value_fits, set_fits}
 use Rattle.gcl_core.proofs.PartialSums.{last_is, sums_ascend}
 use Rattle.gcl_core.proofs.EqualClasses.{last_of_equal}
@@ -137,17 +137,17 @@ module _ (bad : Limit → Type 0) where
     mutual
       pub compare_statement : (st : Statement) → StatementIsWeighed st → StatementFits st → (s : State) → state_fits s ≡ true →
           Pair (statement_scale n' K st) (statement_weighted n r st s) (statement_weighted n' r' st s)
-      compare_statement skip ok f s p = pair_sure 1 (on s) p
-      compare_statement (assign x e) ok f s p = pair_value 1 (value_of e s) _ _ (λ z q. pair_sure 1 (on (slice_set s x z)) (set_fits s x z p (value_fits e s z f p q)))
-      compare_statement (observe e) ok f s p = pair_value 1 (value_of e s) _ _ (λ z q. pair_truth 1 z _ _ _ _ (pair_sure 1 (on s) p) (pair_sure 1 failed refl))
-      compare_statement (branch e a c) ok f s p =
+      compare_statement Skip ok f s p = pair_sure 1 (on s) p
+      compare_statement (Set x e) ok f s p = pair_value 1 (value_of e s) _ _ (λ z q. pair_sure 1 (on (slice_set s x z)) (set_fits s x z p (value_fits e s z f p q)))
+      compare_statement (Observe e) ok f s p = pair_value 1 (value_of e s) _ _ (λ z q. pair_truth 1 z _ _ _ _ (pair_sure 1 (on s) p) (pair_sure 1 failed refl))
+      compare_statement (If e a c) ok f s p =
           let A = block_scale n' K a in
           let C = block_scale n' K c in
           pair_value (A * C) (value_of e s) _ _
           (λ z q. pair_truth (A * C) z _ _ _ _
           (cmp_more end_fits A C BadEnd _ _ (compare_block a ok.0 f.1 s p))
           (pair_at (C * A) (A * C) _ _ (omega arith) (cmp_more end_fits C A BadEnd _ _ (compare_block c ok.1 f.2 s p))))
-      compare_statement (choice w a c) ok f s p =
+      compare_statement (Choice w a c) ok f s p =
           let A = block_scale n' K a in
           let C = block_scale n' K c in
           let side = λ (i : ℕ) (lt : i < 2). pair_side (A * C) i _ _ _ _
@@ -158,7 +158,7 @@ module _ (bad : Limit → Type 0) where
           cmp_then (class_below 2) end_fits K (A * C) BadClass BadEnd (weighted_classes (choice_ends w) r) (weighted_classes (choice_ends w) r') _ _
           (draws (choice_ends w) (omega arith, (ok.0.at_most_one, tt)) positive (omega arith))
           (λ o q. pair_class (A * C) 2 o _ _ side q) (λ o q b. dead_class (A * C) 2 o _ _ side q b)
-      compare_statement (choice_among arms) ok f s p =
+      compare_statement (Choose arms) ok f s p =
           let ps = parts_of arms in
           let ends = partial_sums ps in
           let l = length ends in
@@ -170,8 +170,8 @@ module _ (bad : Limit → Type 0) where
           cmp_then (class_below l) end_fits K A BadClass BadEnd (weighted_classes ends r) (weighted_classes ends r') _ _
           (draws ends (sums_ascend 0 ps) (omega (arith, last, positive)) (omega (arith, last, coarse)))
           (λ o q. pair_class A l o _ _ one q) (λ o q b. dead_class A l o _ _ one q b)
-      compare_statement (uniform x e) ok f s p = pair_value (K * 1) (value_of e s) _ _ (λ z q. pair_uniform x z s (value_fits e s z f p q) p)
-      compare_statement (loop e a) ok f s p = pair_loop (block_scale n' K a) (value_of e) (weighted_ends n r a) (weighted_ends n' r' a) (compare_block a ok f.1) n' n more lost s p
+      compare_statement (Uniform x e) ok f s p = pair_value (K * 1) (value_of e s) _ _ (λ z q. pair_uniform x z s (value_fits e s z f p q) p)
+      compare_statement (While e a) ok f s p = pair_loop (block_scale n' K a) (value_of e) (weighted_ends n r a) (weighted_ends n' r' a) (compare_block a ok f.1) n' n more lost s p
 
       pub compare_block : (b : Statements) → BlockIsWeighed b → BlockFits b → (s : State) → state_fits s ≡ true → Pair (block_scale n' K b) (weighted_ends n r b s) (weighted_ends n' r' b s)
       compare_block done ok f s p = pair_sure 1 (on s) p

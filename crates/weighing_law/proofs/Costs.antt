@@ -6,14 +6,14 @@ use Rattle.gcl_core.specs.declared.answers.Limit.TheVariants.{Turns, Attempts, R
 use Rattle.gcl_core.specs.declared.answers.Limits.{Limits}
 use Rattle.gcl_core.specs.declared.answers.Outcome.{Outcome}
 use Rattle.gcl_core.specs.declared.answers.Outcome.TheVariants as outcome
-use Rattle.gcl_core.specs.Blocks.{End, on, failed, fault, limit}
-use Rattle.gcl_core.specs.Fractions.{Fraction, nothing, plus, times, power, power_sum, AtMost}
-use Rattle.gcl_core.specs.Keeping.{IsChecked}
-use Rattle.gcl_core.specs.Mass.{sum_of, ends_in, is_failed, round_mass, failed_mass, mass_of_those}
-use Rattle.gcl_core.specs.Runs.{zeros, outcome_of}
-use Rattle.gcl_core.specs.Syntax.{Expression, Source}
-use Rattle.gcl_core.specs.Value.{value_of}
-use Rattle.gcl_core.specs.WeightedEnds.{weighted_ends}
+use Rattle.gcl_core.specs.meaning.Blocks.{End, on, failed, fault, limit}
+use Rattle.gcl_core.specs.weighing.Fractions.{Fraction, zero_share, plus, times, power, power_sum, AtMost}
+use Rattle.gcl_core.specs.meaning.Keeping.{IsChecked}
+use Rattle.gcl_core.specs.weighing.Mass.{sum_of, ends_in, is_failed, round_mass, failed_mass, mass_of_those}
+use Rattle.gcl_core.specs.meaning.Outcomes.{zeros, outcome_of}
+use Rattle.gcl_core.specs.meaning.Syntax.{Expression, Source}
+use Rattle.gcl_core.specs.meaning.Value.{value_of}
+use Rattle.gcl_core.specs.weighing.WeightedEnds.{weighted_ends}
 use Rattle.gcl_core.proofs.Accepted.{checked_weights}
 use Rattle.gcl_core.proofs.Trees.{worth, spread-add, spread-ext}
 use Rattle.gcl_core.proofs.TreeWeights.{chi}
@@ -87,8 +87,8 @@ module _ (p : Source) (ok : IsChecked p) (n r : ℕ) where
       round_below is_failed (elim [ on s ↦ λ b. refl | failed ↦ λ b. absurd b | fault g ↦ λ b. refl | limit l ↦ λ b. refl ])
 
 -- ---- all rounds
-spared_rounds : (b : Bool) → b ≡ false → (p q : Fraction) (u0 u1 : ℕ) → p.0 * u1 ≤ u0 * p.1 → (plus p (cond b q nothing)).0 * u1 ≤ u0 * (plus p (cond b q nothing)).1
-spared_rounds b e p q u0 u1 h = subst (λ b. (plus p (cond b q nothing)).0 * u1 ≤ u0 * (plus p (cond b q nothing)).1) (sym e) (omega arith)
+spared_rounds : (b : Bool) → b ≡ false → (p q : Fraction) (u0 u1 : ℕ) → p.0 * u1 ≤ u0 * p.1 → (plus p (cond b q zero_share)).0 * u1 ≤ u0 * (plus p (cond b q zero_share)).1
+spared_rounds b e p q u0 u1 h = subst (λ b. (plus p (cond b q zero_share)).0 * u1 ≤ u0 * (plus p (cond b q zero_share)).1) (sym e) (omega arith)
 
 joined_rounds : (s0 s1 t0 t1 g0 g1 u d : ℕ) → s0 * t1 ≤ t0 * s1 → g0 * d ≤ u * g1 → s0 * g0 * (t1 * d) ≤ t0 * u * (s1 * g1)
 joined_rounds s0 s1 t0 t1 g0 g1 u d a b = let x = mul-le-mul_right (g0 * d) a in let y = mul-le-mul_left (t0 * s1) b in omega arith

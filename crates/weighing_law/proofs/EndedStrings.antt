@@ -4,8 +4,8 @@ use Rattle.std.specs.Prelude.{if◌then◌else◌}
 use Rattle.gcl_core.specs.declared.answers.Answer.{Answer}
 use Rattle.gcl_core.specs.declared.answers.Answer.TheVariants.{Ended, MoreBits}
 use Rattle.gcl_core.specs.declared.answers.Outcome.{Outcome}
-use Rattle.gcl_core.specs.Outcomes.{same_outcome}
-use Rattle.gcl_core.specs.StringWeight.{string_weight_from, answer_in}
+use Rattle.gcl_core.specs.meaning.Outcomes.{same_outcome}
+use Rattle.gcl_core.specs.weighing.StringWeight.{string_weight_from, answer_in}
 use Rattle.gcl_core.proofs.Sums.{two_more}
 use Rattle.weighing_law.specs.Prefixes.{has_ended_in, ReadsInOrder}
 use Rattle.weighing_law.specs.Counting.{strings_that}

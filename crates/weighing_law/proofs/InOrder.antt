@@ -5,9 +5,9 @@ use Rattle.gcl_core.specs.declared.answers.Answer.{Answer}
 use Rattle.gcl_core.specs.declared.answers.Answer.TheVariants.{Ended, MoreBits}
 use Rattle.gcl_core.specs.declared.answers.Limits.{Limits}
 use Rattle.gcl_core.specs.declared.answers.Outcome.{Outcome}
-use Rattle.gcl_core.specs.Reading.{Reading, gives, more_bits}
-use Rattle.gcl_core.specs.Runs.{capped, answer_of, run_on}
-use Rattle.gcl_core.specs.Syntax.{Source}
+use Rattle.gcl_core.specs.meaning.Reading.{Reading, gives, more_bits}
+use Rattle.gcl_core.specs.meaning.Runs.{capped, answer_of, run_on}
+use Rattle.gcl_core.specs.meaning.Syntax.{Source}
 use Rattle.gcl_core.proofs.SameOutcomes.{outcome_itself}
 use Rattle.gcl_core.proofs.Trees.{Tree, leaf, flip, run}
 use Rattle.weighing_law.specs.Prefixes.{has_ended_in, needs_more, each_shorter_front, is_just_read, IsReadTo, ReadsInOrder}

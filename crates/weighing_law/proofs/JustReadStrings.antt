@@ -6,8 +6,8 @@ use Rattle.std.proofs.lemmas.List.Sums.{sum_by-cons}
 use Rattle.gcl_core.specs.declared.answers.Answer.{Answer}
 use Rattle.gcl_core.specs.declared.answers.Answer.TheVariants.{Ended, MoreBits}
 use Rattle.gcl_core.specs.declared.answers.Outcome.{Outcome}
-use Rattle.gcl_core.specs.Outcomes.{same_outcome}
-use Rattle.gcl_core.specs.StringWeight.{string_weight_from, answer_in}
+use Rattle.gcl_core.specs.meaning.Outcomes.{same_outcome}
+use Rattle.gcl_core.specs.weighing.StringWeight.{string_weight_from, answer_in}
 use Rattle.weighing_law.specs.Prefixes.{has_ended_in, needs_more, each_shorter_front, is_just_read}
 use Rattle.weighing_law.specs.Counting.{strings_that, just_read_weight}
 use Rattle.weighing_law.proofs.EndedStrings.{all_alike}

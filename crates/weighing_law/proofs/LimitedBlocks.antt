@@ -2,14 +2,14 @@
 use Rattle.std.proofs.Common.{◌≡◌, ℕ, ◌^◌, ◌≤◌, ◌<◌, true, Some, None, List, length, arith}
 use Rattle.gcl_core.specs.declared.answers.Limit.{Limit}
 use Rattle.gcl_core.specs.declared.answers.Limit.TheVariants.{Turns, Attempts, Rounds}
-use Rattle.gcl_core.specs.Bounds.{StatementIsWeighed, BlockIsWeighed, StatementFits, BlockFits}
-use Rattle.gcl_core.specs.Blocks.{End}
-use Rattle.gcl_core.specs.Draw.{last_end}
-use Rattle.gcl_core.specs.OneDraw.{Ascends}
-use Rattle.gcl_core.specs.Syntax.{Statement, Statements}
-use Rattle.gcl_core.specs.Value.{State}
-use Rattle.gcl_core.specs.Fitting.{state_fits}
-use Rattle.gcl_core.specs.WeightedEnds.{weighted_classes, statement_weighted, weighted_ends}
+use Rattle.gcl_core.specs.meaning.Bounds.{StatementIsWeighed, BlockIsWeighed, StatementFits, BlockFits}
+use Rattle.gcl_core.specs.meaning.Blocks.{End}
+use Rattle.gcl_core.specs.meaning.Draw.{last_end}
+use Rattle.gcl_core.specs.weighing.OneDraw.{Ascends}
+use Rattle.gcl_core.specs.meaning.Syntax.{Statement, Statements}
+use Rattle.gcl_core.specs.meaning.Value.{State}
+use Rattle.gcl_core.specs.meaning.Fitting.{state_fits}
+use Rattle.gcl_core.specs.weighing.WeightedEnds.{weighted_classes, statement_weighted, weighted_ends}
 use Rattle.weighing_law.proofs.Comparing.{Compared, cmp_draw}
 use Rattle.weighing_law.proofs.ComparedBlocks.{BadEnd, BadClass, Pair, compare_statement, compare_block}
 use Rattle.weighing_law.proofs.DrawMatching.{class_below}

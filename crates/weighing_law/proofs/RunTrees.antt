@@ -4,14 +4,15 @@ use Rattle.std.specs.Prelude.{if◌then◌else◌, slice_set}
 use Rattle.gcl_core.specs.declared.answers.Fault.TheVariants.{BadBound}
 use Rattle.gcl_core.specs.declared.answers.Limit.TheVariants.{Turns, Attempts, Rounds}
 use Rattle.gcl_core.specs.declared.answers.Outcome.TheVariants as outcome
-use Rattle.gcl_core.specs.Arms.{parts_of}
-use Rattle.gcl_core.specs.Parts.{partial_sums}
-use Rattle.gcl_core.specs.Syntax.{Statement, skip, assign, branch, loop, choice, choice_among, uniform, observe, Statements, done, ◌▸◌, ArmList, no_arm, arm, Source}
-use Rattle.gcl_core.specs.Value.{State, Value, value_of, is_zero}
-use Rattle.gcl_core.specs.Reading.{Reading, gives, after}
-use Rattle.gcl_core.specs.Draw.{draw_on}
-use Rattle.gcl_core.specs.Blocks.{End, on, failed, fault, limit, by_value, by_truth, by_class, by_side, by_end, choice_ends, uniform_ends, uniform_on, loop_on, statement_on, block_on, arm_on}
-use Rattle.gcl_core.specs.Runs.{zeros, outcome_of, by_round, rounds_on}
+use Rattle.gcl_core.specs.meaning.Arms.{parts_of}
+use Rattle.gcl_core.specs.meaning.Parts.{partial_sums}
+use Rattle.gcl_core.specs.meaning.Syntax.{Statement, Skip, Set, If, While, Choice, Choose, Uniform, Observe, Statements, done, ◌▸◌, ArmList, no_arm, arm, Source}
+use Rattle.gcl_core.specs.meaning.Value.{State, Value, value_of, is_zero}
+use Rattle.gcl_core.specs.meaning.Reading.{Reading, gives, after}
+use Rattle.gcl_core.specs.meaning.Draw.{draw_on, choice_ends, uniform_ends}
+use Rattle.gcl_core.specs.meaning.Blocks.{End, on, failed, fault, limit, by_value, by_truth, by_class, by_side, by_end, uniform_on, loop_on, statement_on, block_on, arm_on}
+use Rattle.gcl_core.specs.meaning.Runs.{by_round, rounds_on}
+use Rattle.gcl_core.specs.meaning.Outcomes.{zeros, outcome_of}
 use Rattle.gcl_core.proofs.DrawTrees.{draw_tree, draw_runs}
 use Rattle.gcl_core.proofs.Trees.{Tree, leaf, run, grow, run-grow, after-ext}
 
@@ -79,16 +80,16 @@ loop_tree guard body h (suc t) s =
 module _ (n r : ℕ) where
   mutual
     statement_tree : (st : Statement) (s : State) → HasTree (statement_on n r st s)
-    statement_tree skip s = answer_tree (on s)
-    statement_tree (assign x e) s = value_tree (value_of e s) _ (λ z. answer_tree (on (slice_set s x z)))
-    statement_tree (observe e) s = value_tree (value_of e s) _ (λ z. truth_tree z _ _ (answer_tree (on s)) (answer_tree failed))
-    statement_tree (branch e a c) s = value_tree (value_of e s) _ (λ z. truth_tree z _ _ (block_tree a s) (block_tree c s))
-    statement_tree (choice p a c) s =
+    statement_tree Skip s = answer_tree (on s)
+    statement_tree (Set x e) s = value_tree (value_of e s) _ (λ z. answer_tree (on (slice_set s x z)))
+    statement_tree (Observe e) s = value_tree (value_of e s) _ (λ z. truth_tree z _ _ (answer_tree (on s)) (answer_tree failed))
+    statement_tree (If e a c) s = value_tree (value_of e s) _ (λ z. truth_tree z _ _ (block_tree a s) (block_tree c s))
+    statement_tree (Choice p a c) s =
         class_tree (choice_ends p) r (λ i rest. by_side i (block_on n r a s rest) (block_on n r c s rest))
         (λ i. side_tree i _ _ (block_tree a s) (block_tree c s))
-    statement_tree (choice_among arms) s = class_tree (partial_sums (parts_of arms)) r (λ i rest. arm_on n r arms i s rest) (λ i. arm_tree arms i s)
-    statement_tree (uniform x e) s = value_tree (value_of e s) _ (λ z. uniform_tree r x z s)
-    statement_tree (loop e a) s = loop_tree (value_of e) (block_on n r a) (block_tree a) n s
+    statement_tree (Choose arms) s = class_tree (partial_sums (parts_of arms)) r (λ i rest. arm_on n r arms i s rest) (λ i. arm_tree arms i s)
+    statement_tree (Uniform x e) s = value_tree (value_of e s) _ (λ z. uniform_tree r x z s)
+    statement_tree (While e a) s = loop_tree (value_of e) (block_on n r a) (block_tree a) n s
 
     block_tree : (b : Statements) (s : State) → HasTree (block_on n r b s)
     block_tree done s = answer_tree (on s)

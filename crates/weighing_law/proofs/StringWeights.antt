@@ -1,6 +1,6 @@
 -- The weight of the strings behind a front, by what is read on the front.
 use Rattle.std.proofs.Common.{◌≡◌, ℕ, zero, suc, ◌+◌, ◌^◌, Bool, true, false, cond, Option, Some, None, List, [], ◌∷◌, ◌++◌, refl, ap, ◌∙◌}
-use Rattle.gcl_core.specs.StringWeight.{weight_at, string_weight_from}
+use Rattle.gcl_core.specs.weighing.StringWeight.{weight_at, string_weight_from}
 
 module _ (read : List Bool → Option Bool) where
   abbrev below : ℕ → List Bool → ℕ

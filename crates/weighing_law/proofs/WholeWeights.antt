@@ -5,16 +5,16 @@ use Rattle.std.proofs.lemmas.Bool.{ltb-true}
 use Rattle.std.proofs.Math.Nat.{mul-le-mul_left}
 use Rattle.gcl_core.specs.declared.answers.Fault.TheVariants.{BadBound}
 use Rattle.gcl_core.specs.declared.answers.Limit.TheVariants.{Turns, Attempts}
-use Rattle.gcl_core.specs.Bounds.{StatementIsWeighed, BlockIsWeighed, ArmsAreWeighed, StatementFits, BlockFits, ArmsFit}
-use Rattle.gcl_core.specs.Arms.{parts_of}
-use Rattle.gcl_core.specs.Parts.{partial_sums}
-use Rattle.gcl_core.specs.Syntax.{Statement, skip, assign, branch, loop, choice, choice_among, uniform, observe, Statements, done, ◌▸◌, ArmList, no_arm, arm}
-use Rattle.gcl_core.specs.Value.{State, Value, value_of, is_zero, fits_64}
-use Rattle.gcl_core.specs.Draw.{last_from, last_end}
-use Rattle.gcl_core.specs.Blocks.{End, on, failed, fault, limit, by_value, by_truth, by_class, by_side, by_end, choice_ends, uniform_ends}
-use Rattle.gcl_core.specs.OneDraw.{Ascends}
-use Rattle.gcl_core.specs.WeightedEnds.{Weighted, sure, taken_on, weighted_classes, uniform_weighted, loop_weighted, statement_weighted, weighted_ends, arm_weighted}
-use Rattle.gcl_core.specs.Fitting.{state_fits}
+use Rattle.gcl_core.specs.meaning.Bounds.{StatementIsWeighed, BlockIsWeighed, ArmsAreWeighed, StatementFits, BlockFits, ArmsFit}
+use Rattle.gcl_core.specs.meaning.Arms.{parts_of}
+use Rattle.gcl_core.specs.meaning.Parts.{partial_sums}
+use Rattle.gcl_core.specs.meaning.Syntax.{Statement, Skip, Set, If, While, Choice, Choose, Uniform, Observe, Statements, done, ◌▸◌, ArmList, no_arm, arm}
+use Rattle.gcl_core.specs.meaning.Value.{State, Value, value_of, is_zero, fits_64}
+use Rattle.gcl_core.specs.meaning.Draw.{last_from, last_end, choice_ends, uniform_ends}
+use Rattle.gcl_core.specs.meaning.Blocks.{End, on, failed, fault, limit, by_value, by_truth, by_class, by_side, by_end}
+use Rattle.gcl_core.specs.weighing.OneDraw.{Ascends}
+use Rattle.gcl_core.specs.weighing.WeightedEnds.{Weighted, sure, taken_on, weighted_classes, uniform_weighted, loop_weighted, statement_weighted, weighted_ends, arm_weighted}
+use Rattle.gcl_core.specs.meaning.Fitting.{state_fits}
 use Rattle.gcl_core.proofs.DrawTrees.{class_sum}
 use Rattle.gcl_core.proofs.TreeWeights.{chi}
 use Rattle.gcl_core.proofs.FittingValues.{end_fits, value_fits}
@@ -107,16 +107,16 @@ module _ (n r K : ℕ) (scale : Scale r K) where
 
   mutual
     whole_statement : (st : Statement) → StatementIsWeighed st → StatementFits st → (s : State) → state_fits s ≡ true → Whole (statement_scale n K st) (statement_weighted n None st s)
-    whole_statement skip ok f s p = whole_sure 1 (on s)
-    whole_statement (assign x e) ok f s p = whole_value 1 (value_of e s) _ (λ z q. whole_sure 1 (on (slice_set s x z)))
-    whole_statement (observe e) ok f s p = whole_value 1 (value_of e s) _ (λ z q. whole_truth 1 z _ _ (whole_sure 1 (on s)) (whole_sure 1 failed))
-    whole_statement (branch e a c) ok f s p =
+    whole_statement Skip ok f s p = whole_sure 1 (on s)
+    whole_statement (Set x e) ok f s p = whole_value 1 (value_of e s) _ (λ z q. whole_sure 1 (on (slice_set s x z)))
+    whole_statement (Observe e) ok f s p = whole_value 1 (value_of e s) _ (λ z q. whole_truth 1 z _ _ (whole_sure 1 (on s)) (whole_sure 1 failed))
+    whole_statement (If e a c) ok f s p =
         let A = block_scale n K a in
         let C = block_scale n K c in
         let turned : C * A ≡ A * C = omega arith in
         whole_value (A * C) (value_of e s) _
         (λ z q. whole_truth (A * C) z _ _ (whole_more A C _ (whole_block a ok.0 f.1 s p)) (subst (λ x. Whole x (weighted_ends n None c s)) turned (whole_more C A _ (whole_block c ok.1 f.2 s p))))
-    whole_statement (choice w a c) ok f s p =
+    whole_statement (Choice w a c) ok f s p =
         let A = block_scale n K a in
         let C = block_scale n K c in
         let turned : C * A ≡ A * C = omega arith in
@@ -126,7 +126,7 @@ module _ (n r K : ℕ) (scale : Scale r K) where
         whole_then (class_below 2) K (A * C) (weighted_classes (choice_ends w) None) _ (draw_entries (choice_ends w) None)
         (whole_draw (choice_ends w) K d.1 (omega arith, (ok.0.at_most_one, tt)) d.3)
         (λ o q. whole_class (A * C) o _ (λ i. whole_side (A * C) i _ _ (whole_more A C _ (whole_block a ok.1 f.0 s p)) (subst (λ x. Whole x (weighted_ends n None c s)) turned (whole_more C A _ (whole_block c ok.2 f.1 s p)))))
-    whole_statement (choice_among arms) ok f s p =
+    whole_statement (Choose arms) ok f s p =
         let ps = parts_of arms in
         let ends = partial_sums ps in
         let A = arms_scale n K arms in
@@ -136,8 +136,8 @@ module _ (n r K : ℕ) (scale : Scale r K) where
         let d = scale (last_end ends) (omega (arith, last, positive)) (omega (arith, last, coarse)) in
         whole_then (class_below (length ends)) K A (weighted_classes ends None) _ (draw_entries ends None) (whole_draw ends K d.1 (sums_ascend 0 ps) d.3)
         (λ o q. whole_class A o _ (λ i. whole_arm arms ok.1 f i s p))
-    whole_statement (uniform x e) ok f s p = whole_value (K * 1) (value_of e s) _ (λ z q. whole_uniform x z s (value_fits e s z f p q))
-    whole_statement (loop e a) ok f s p =
+    whole_statement (Uniform x e) ok f s p = whole_value (K * 1) (value_of e s) _ (λ z q. whole_uniform x z s (value_fits e s z f p q))
+    whole_statement (While e a) ok f s p =
         whole_loop (block_scale n K a) (value_of e) (weighted_ends n None a) (λ s' p'. (limited_block n r K scale a ok f.1 s' p').high_entries) (whole_block a ok f.1) n s p
 
     pub whole_block : (b : Statements) → BlockIsWeighed b → BlockFits b → (s : State) → state_fits s ≡ true → Whole (block_scale n K b) (weighted_ends n None b s)

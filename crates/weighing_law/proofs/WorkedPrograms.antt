@@ -6,11 +6,11 @@ use Rattle.gcl_core.specs.declared.answers.Outcome.{Outcome}
 use Rattle.gcl_core.specs.declared.answers.Outcome.TheVariants as outcome
 use Rattle.gcl_core.specs.declared.syntax.BinOp.TheVariants as op
 use Rattle.gcl_core.specs.declared.syntax.Weight.{Weight}
-use Rattle.gcl_core.specs.Fractions.{IsShare}
-use Rattle.gcl_core.specs.Longest.{longest}
-use Rattle.gcl_core.specs.Runs.{run_on}
-use Rattle.gcl_core.specs.StringWeight.{outcome_weight}
-use Rattle.gcl_core.specs.Syntax.{number, variable, binary, assign, loop, choice, choice_among, uniform, observe, done, ◌▸◌, no_arm, arm, Source}
+use Rattle.gcl_core.specs.weighing.Fractions.{IsShare}
+use Rattle.gcl_core.specs.weighing.LongestReading.{longest}
+use Rattle.gcl_core.specs.meaning.Runs.{run_on}
+use Rattle.gcl_core.specs.weighing.StringWeight.{outcome_weight}
+use Rattle.gcl_core.specs.meaning.Syntax.{Num, Var, Bin, Set, While, Choice, Choose, Uniform, Observe, done, ◌▸◌, no_arm, arm, Source}
 use Rattle.weighing_law.specs.Weighing.{limited_mass}
 use Rattle.weighing_law.specs.LimitsCost.{stated_mass, cut_off}
 use Rattle.weighing_law.specs.Prefixes.{is_just_read}
@@ -28,7 +28,7 @@ Weighs p l L x many = (outcome_weight (run_on p l) x L ≡ many) × IsShare many
 
 -- ---- choice 2/3 { x := 1; } or { x := 2; } return x;
 abbrev pub two_thirds : Source
-two_thirds = record { names = [] ∷ []; body = choice (weight 2 3) (assign 0 (number (pos 1)) ▸ done) (assign 0 (number (pos 2)) ▸ done) ▸ done; result = variable 0 }
+two_thirds = record { names = [] ∷ []; body = Choice (weight 2 3) (Set 0 (Num (pos 1)) ▸ done) (Set 0 (Num (pos 2)) ▸ done) ▸ done; result = Var 0 }
 
 two_thirds_1 : Weighs two_thirds (limits 0 1 1) 2 (outcome.Value (pos 1)) 2
 two_thirds_1 = (refl, refl)
@@ -75,11 +75,11 @@ two_thirds_cut = refl
 abbrev pub two_none_three : Source
 two_none_three = record {
   names = [] ∷ [];
-  body = choice_among (arm 2 (assign 0 (number (pos 1)) ▸ done) (arm 0 (assign 0 (number (pos 2)) ▸ done) (arm 3 (assign 0 (number (pos 3)) ▸ done) no_arm))) ▸ done;
-  result = variable 0;
+  body = Choose (arm 2 (Set 0 (Num (pos 1)) ▸ done) (arm 0 (Set 0 (Num (pos 2)) ▸ done) (arm 3 (Set 0 (Num (pos 3)) ▸ done) no_arm))) ▸ done;
+  result = Var 0;
 }
 
--- of the eight numbers 0 and 1 go to the first arm, 2 to 4 to the third, and 5 to 7 are called again
+-- of the eight numbers 0 and 1 go to the first arm, 2 to 4 to the third, and 5 to 7 are rejected
 two_none_three_1 : Weighs two_none_three (limits 0 1 1) 3 (outcome.Value (pos 1)) 2
 two_none_three_1 = (refl, refl)
 
@@ -111,8 +111,8 @@ three_fifths_stated = refl
 abbrev pub one_of_two_coins : Source
 one_of_two_coins = record {
   names = [] ∷ [] ∷ [];
-  body = uniform 0 (number (pos 2)) ▸ uniform 1 (number (pos 2)) ▸ observe (binary op.Or (binary op.Eq (variable 0) (number (pos 1))) (binary op.Eq (variable 1) (number (pos 1)))) ▸ done;
-  result = binary op.Add (variable 0) (variable 1);
+  body = Uniform 0 (Num (pos 2)) ▸ Uniform 1 (Num (pos 2)) ▸ Observe (Bin op.Or (Bin op.Eq (Var 0) (Num (pos 1))) (Bin op.Eq (Var 1) (Num (pos 1)))) ▸ done;
+  result = Bin op.Add (Var 0) (Var 1);
 }
 
 two_rounds_1 : Weighs one_of_two_coins (limits 0 1 2) 4 (outcome.Value (pos 1)) 10
@@ -128,10 +128,10 @@ two_rounds_limit = (refl, refl)
 abbrev pub geometric : Source
 geometric = record {
   names = [] ∷ [] ∷ [];
-  body = assign 0 (number (pos 1))
-      ▸ loop (binary op.Eq (variable 0) (number (pos 1))) (choice (weight 1 2) (assign 1 (binary op.Add (variable 1) (number (pos 1))) ▸ done) (assign 0 (number (pos 0)) ▸ done) ▸ done)
+  body = Set 0 (Num (pos 1))
+      ▸ While (Bin op.Eq (Var 0) (Num (pos 1))) (Choice (weight 1 2) (Set 1 (Bin op.Add (Var 1) (Num (pos 1))) ▸ done) (Set 0 (Num (pos 0)) ▸ done) ▸ done)
       ▸ done;
-  result = variable 1;
+  result = Var 1;
 }
 
 two_turns_0 : Weighs geometric (limits 2 1 1) 2 (outcome.Value (pos 0)) 2
@@ -145,7 +145,7 @@ two_turns_limit = (refl, refl)
 
 -- ---- return 7;
 abbrev pub seven : Source
-seven = record { names = []; body = done; result = number (pos 7) }
+seven = record { names = []; body = done; result = Num (pos 7) }
 
 seven_7 : Weighs seven (limits 0 1 1) 0 (outcome.Value (pos 7)) 1
 seven_7 = (refl, refl)

@@ -4,9 +4,9 @@ use Rattle.std.specs.List.{range_with_len}
 use Rattle.gcl_core.specs.declared.answers.Answer.{Answer}
 use Rattle.gcl_core.specs.declared.answers.Limits.{Limits}
 use Rattle.gcl_core.specs.declared.answers.Outcome.{Outcome}
-use Rattle.gcl_core.specs.Fractions.{IsShare, IsWithinShare}
-use Rattle.gcl_core.specs.StringWeight.{outcome_weight}
-use Rattle.gcl_core.specs.Syntax.{Source}
+use Rattle.gcl_core.specs.weighing.Fractions.{IsShare, IsWithinShare}
+use Rattle.gcl_core.specs.weighing.StringWeight.{outcome_weight}
+use Rattle.gcl_core.specs.meaning.Syntax.{Source}
 use Rattle.weighing_law.specs.Prefixes.{has_ended_in, is_just_read}
 use Rattle.weighing_law.specs.Weighing.{Suffices, limited_mass}
 

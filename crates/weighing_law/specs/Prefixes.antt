@@ -4,8 +4,8 @@ use Rattle.std.specs.Prelude.{◌≡◌, ℕ, ◌≤◌, Bool, true, false, ◌&
 use Rattle.gcl_core.specs.declared.answers.Answer.{Answer}
 use Rattle.gcl_core.specs.declared.answers.Answer.TheVariants.{Ended, MoreBits}
 use Rattle.gcl_core.specs.declared.answers.Outcome.{Outcome}
-use Rattle.gcl_core.specs.Outcomes.{same_outcome}
-use Rattle.gcl_core.specs.Runs.{capped}
+use Rattle.gcl_core.specs.meaning.Outcomes.{same_outcome}
+use Rattle.gcl_core.specs.meaning.Runs.{capped}
 
 abbrev pub has_ended_in : Outcome → Answer → Bool
 has_ended_in x (Ended y read) = same_outcome x y
@@ -23,7 +23,7 @@ each_shorter_front test (b ∷ w) = test [] && each_shorter_front (λ u. test (b
 abbrev pub is_just_read : (List Bool → Answer) → Outcome → List Bool → Bool
 is_just_read run x w = each_shorter_front (λ u. needs_more (run u)) w && has_ended_in x (run w)
 
--- some number of first bits of the string, which is the count, is just read to the outcome; the count stands still at 2 ^ 64 - 1
+-- some number of first bits of the string, which is the count, is just read to the outcome; the count saturates at 2 ^ 64 - 1
 abbrev pub IsReadTo : (List Bool → Answer) → Outcome → ℕ → List Bool → Type 0
 IsReadTo run x read w = (k : ℕ) × (k ≤ length w) × (read ≡ capped k) × IsTrue (is_just_read run x (take k w))
 

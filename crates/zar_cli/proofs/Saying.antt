@@ -4,9 +4,9 @@ use Rattle.std.specs.List.{list_any}
 use Rattle.gcl_core.specs.declared.answers.Answer.{Answer}
 use Rattle.gcl_core.specs.declared.answers.Limits.{Limits}
 use Rattle.gcl_core.specs.declared.refusals.TheConstants.{TOO_FINE}
-use Rattle.gcl_core.specs.Runs.{run_on}
-use Rattle.gcl_core.specs.Syntax.{Source}
-use Rattle.gcl_core.specs.Texts.{IsWrittenIn, IsRefusedText, Spells, SpellsNone}
+use Rattle.gcl_core.specs.meaning.Runs.{run_on}
+use Rattle.gcl_core.specs.meaning.Syntax.{Source}
+use Rattle.gcl_core.specs.text.Texts.{IsWrittenIn, IsRefusedText, Spells, SpellsNone}
 use Rattle.gcl_parse.specs.OneReading.{HasOneReadingAsWritten, HasOneReading}
 use Rattle.report_text.specs.declared.refusals.Refusal.{Refusal}
 use Rattle.report_text.specs.declared.refusals.Refusal.TheVariants.{Coded, Read, Write, Memory, NoFile}
@@ -18,7 +18,7 @@ use Rattle.zar_cli.specs.declared.said.Said.{Said}
 use Rattle.zar_cli.specs.declared.said.Said.TheVariants.{Answered}
 use Rattle.zar_cli.specs.Answer.{IsSaid}
 use Rattle.zar_cli.specs.Fits.{names_in, greatest_code, FitsSaid, FitsRefusal}
-use Rattle.zar_cli.specs.Output.{Output, says, reading, on_bits, written, spelled, IsOutput, Tells}
+use Rattle.zar_cli.specs.Output.{Output, says, reading, on_bits, if_written, if_spelled, IsOutput, SaysOrRunsOut}
 use Rattle.zar_cli.specs.Readings.{InFile, NoneInFile, GivesOnBits, Gives}
 use Rattle.zar_cli.specs.Seen.{FilesSeen, IsQuiet}
 use Rattle.zar_cli.specs.Stages.{CountsRead, MissesOneOf, IsStage}
@@ -40,14 +40,14 @@ said_as command files output other same said = subst (IsSaid (Ok command) files)
 -- ---- texts
 
 module _ (text : List ℕ) (go : Source → Output → Type 0) (output : Output) where
-  spelled_ok : (p : Source) → HasOneReading text → Spells text p → go p output → spelled go text output
+  spelled_ok : (p : Source) → HasOneReading text → Spells text p → go p output → if_spelled go text output
   spelled_ok p one is gone = record {
     right = inl (p, is, gone);
     program = λ q other. subst (λ s. go s output) (one.one_program p q is other) gone;
     refusal = λ code at none. absurd (one.apart p code at is none);
   }
 
-  spelled_none : (code : ℕ) (at : Option ℕ) → HasOneReading text → SpellsNone text code at → output ≡ Err (Coded code at) → spelled go text output
+  spelled_none : (code : ℕ) (at : Option ℕ) → HasOneReading text → SpellsNone text code at → output ≡ Err (Coded code at) → if_spelled go text output
   spelled_none code at one none e = record {
     right = inr (code, at, none, e);
     program = λ q is. absurd (one.apart q code at is none);
@@ -56,14 +56,14 @@ module _ (text : List ℕ) (go : Source → Output → Type 0) (output : Output)
         e ∙ ap (λ c. Err (Coded c at)) same.0 ∙ ap (λ a. Err (Coded other a)) same.1;
   }
 
-  written_ok : (p : Source) (places : List ℕ) → HasOneReadingAsWritten text → IsWrittenIn text p places → go p output → written go text output
+  written_ok : (p : Source) (places : List ℕ) → HasOneReadingAsWritten text → IsWrittenIn text p places → go p output → if_written go text output
   written_ok p places one is gone = record {
     right = inl (p, (places, is), gone);
     program = λ q other. subst (λ s. go s output) (one.one_program p q places other.0 is other.1).0 gone;
     refusal = λ code at none. absurd (one.apart p places code at is none);
   }
 
-  written_none : (code : ℕ) (at : Option ℕ) → HasOneReadingAsWritten text → IsRefusedText text code at → output ≡ Err (Coded code at) → written go text output
+  written_none : (code : ℕ) (at : Option ℕ) → HasOneReadingAsWritten text → IsRefusedText text code at → output ≡ Err (Coded code at) → if_written go text output
   written_none code at one none e = record {
     right = inr (code, at, none, e);
     program = λ q is. absurd (one.apart q is.0 code at is.1 none);
@@ -88,29 +88,29 @@ module _ (file : Option (List ℕ)) where
 
   module _ (go : Source → Output → Type 0) where
     -- its text spells this program
-    pub checked_ok : (output : Output) (p : Source) → InFile file HasOneReading (λ text. Spells text p) → go p output → reading file (spelled go) output
-    checked_ok output p h gone = reading_bytes (spelled go) output h.text h.there (spelled_ok h.text go output p h.one h.is gone)
+    pub checked_ok : (output : Output) (p : Source) → InFile file HasOneReading (λ text. Spells text p) → go p output → reading file (if_spelled go) output
+    checked_ok output p h gone = reading_bytes (if_spelled go) output h.text h.there (spelled_ok h.text go output p h.one h.is gone)
 
     pub checked_refused : (greatest : ℕ) (e : Refusal) → NoneInFile HasOneReading SpellsNone file e → FitsRefusal greatest e → (e ≡ Read → ⊥)
-        → OrMemory (reading file (spelled go)) (Err e)
-    checked_refused greatest (Coded code at) none fits ne = inr (reading_bytes (spelled go) _ none.text none.there (spelled_none none.text go _ code at none.one none.is refl))
+        → OrMemory (reading file (if_spelled go)) (Err e)
+    checked_refused greatest (Coded code at) none fits ne = inr (reading_bytes (if_spelled go) _ none.text none.there (spelled_none none.text go _ code at none.one none.is refl))
     checked_refused greatest Read none fits ne = absurd (ne refl)
     checked_refused greatest Write none fits ne = absurd fits
     checked_refused greatest Memory none fits ne = inl refl
-    checked_refused greatest NoFile none fits ne = inr (reading_none (spelled go) none)
+    checked_refused greatest NoFile none fits ne = inr (reading_none (if_spelled go) none)
 
     -- its text has this program
     pub written_there : (output : Output) (p : Source) (places : List ℕ) → InFile file HasOneReadingAsWritten (λ text. IsWrittenIn text p places) → go p output
-        → reading file (written go) output
-    written_there output p places h gone = reading_bytes (written go) output h.text h.there (written_ok h.text go output p places h.one h.is gone)
+        → reading file (if_written go) output
+    written_there output p places h gone = reading_bytes (if_written go) output h.text h.there (written_ok h.text go output p places h.one h.is gone)
 
     pub written_refused : (greatest : ℕ) (e : Refusal) → NoneInFile HasOneReadingAsWritten IsRefusedText file e → FitsRefusal greatest e → (e ≡ Read → ⊥)
-        → OrMemory (reading file (written go)) (Err e)
-    written_refused greatest (Coded code at) none fits ne = inr (reading_bytes (written go) _ none.text none.there (written_none none.text go _ code at none.one none.is refl))
+        → OrMemory (reading file (if_written go)) (Err e)
+    written_refused greatest (Coded code at) none fits ne = inr (reading_bytes (if_written go) _ none.text none.there (written_none none.text go _ code at none.one none.is refl))
     written_refused greatest Read none fits ne = absurd (ne refl)
     written_refused greatest Write none fits ne = absurd fits
     written_refused greatest Memory none fits ne = inl refl
-    written_refused greatest NoFile none fits ne = inr (reading_none (written go) none)
+    written_refused greatest NoFile none fits ne = inr (reading_none (if_written go) none)
 
 -- ---- bits of files
 
@@ -145,7 +145,7 @@ stage_more names few more files (Some e) le stage = record { counts = stage.coun
 -- what a stage refuses is said
 pub said_refused : (command : Command) (files : FilesSeen) (names : List Word) (e : Refusal) → IsStage names (greatest_code command) files (Some e)
     → (list_any files.may_be_missing names ≡ true → list_any files.may_be_missing (names_in command) ≡ true)
-    → (IsTrue files.told → IsQuiet files.faults files.faults_now → Tells files.file command (Err e)) → IsSaid (Ok command) files (Err e)
+    → (IsTrue files.told → IsQuiet files.faults files.faults_now → SaysOrRunsOut files.file command (Err e)) → IsSaid (Ok command) files (Err e)
 said_refused command files names e stage more tells = record {
   fits = stage.fits;
   counts = stage.counts;
@@ -156,17 +156,17 @@ said_refused command files names e stage more tells = record {
 
 -- what is said where no stage gave up
 pub said_all : (command : Command) (files : FilesSeen) (said : Said) → FitsSaid command said → files.faults_now ≡ files.faults
-    → (IsTrue files.told → Tells files.file command (Ok said)) → IsSaid (Ok command) files (Ok said)
+    → (IsTrue files.told → SaysOrRunsOut files.file command (Ok said)) → IsSaid (Ok command) files (Ok said)
 said_all command files said fits counts tells = record { fits = fits; counts = counts; closes = tt; misses = tt; tells = λ told quiet. tells told }
 
--- a call that was refused for want of memory
+-- a call that was refused where memory runs out
 pub said_memory : (command : Command) (files : FilesSeen) → files.faults_now ≡ files.faults → IsSaid (Ok command) files (Err Memory)
 said_memory command files counts = record { fits = tt; counts = counts; closes = tt; misses = tt; tells = λ told quiet. inl refl }
 
 -- ---- a command that takes an accepted program
 
 or_output : (file : Word → Option (List ℕ)) (command : Command) (Is : Output → Type 0) (output : Output) → (Is output → IsOutput file command output)
-    → OrMemory Is output → Tells file command output
+    → OrMemory Is output → SaysOrRunsOut file command output
 or_output file command Is output is (inl memory) = inl memory
 or_output file command Is output is (inr h) = inr (is h)
 
@@ -174,17 +174,17 @@ module _ (command : Command) (files : FilesSeen) (name program : Word) (go : Sou
   pub refused_checked : (e : Refusal) → IsStage (name ∷ []) (greatest_code command) files (Some e)
       → (IsTrue files.told → NoneInFile HasOneReading SpellsNone (files.file name) e)
       → (list_any files.may_be_missing (program ∷ []) ≡ true → list_any files.may_be_missing (names_in command) ≡ true)
-      → (reading (files.file program) (spelled go) (Err e) → IsOutput files.file command (Err e)) → IsSaid (Ok command) files (Err e)
+      → (reading (files.file program) (if_spelled go) (Err e) → IsOutput files.file command (Err e)) → IsSaid (Ok command) files (Err e)
   refused_checked e stage none more is =
       said_refused command files (name ∷ []) e stage
       (subst (λ n. list_any files.may_be_missing (n ∷ []) ≡ true → list_any files.may_be_missing (names_in command) ≡ true) (sym same) more)
-      (λ told quiet. or_output files.file command (reading (files.file program) (spelled go)) (Err e) is
+      (λ told quiet. or_output files.file command (reading (files.file program) (if_spelled go)) (Err e) is
       (checked_refused (files.file program) go (greatest_code command) e (subst (λ n. NoneInFile HasOneReading SpellsNone (files.file n) e) same (none told)) stage.fits
       (no_read files.faults files.faults_now e stage.counts quiet)))
 
   pub said_checked : (p : Source) (said : Said) → FitsSaid command said → files.faults_now ≡ files.faults
       → (IsTrue files.told → InFile (files.file name) HasOneReading (λ text. Spells text p)) → go p (Ok said)
-      → (reading (files.file program) (spelled go) (Ok said) → IsOutput files.file command (Ok said)) → IsSaid (Ok command) files (Ok said)
+      → (reading (files.file program) (if_spelled go) (Ok said) → IsOutput files.file command (Ok said)) → IsSaid (Ok command) files (Ok said)
   said_checked p said fits counts there gone is =
       said_all command files said fits counts
       (λ told. inr (is (checked_ok (files.file program) go (Ok said) p (subst (λ n. InFile (files.file n) HasOneReading (λ text. Spells text p)) same (there told)) gone)))
@@ -193,7 +193,7 @@ module _ (command : Command) (files : FilesSeen) (name program : Word) (go : Sou
   pub work_refused : {A : Type 0} (say : A → Said) (p : Source) (e : Refusal) → files.faults_now ≡ files.faults
       → (IsTrue files.told → InFile (files.file name) HasOneReading (λ text. Spells text p))
       → ((code : ℕ) (at : Option ℕ) → go p (Err (Coded code at)) → FitsRefusal (greatest_code command) (Coded code at)) → Gives say (go p) (Err e)
-      → ((output : Output) → reading (files.file program) (spelled go) output → IsOutput files.file command output) → IsSaid (Ok command) files (Err e)
+      → ((output : Output) → reading (files.file program) (if_spelled go) output → IsOutput files.file command output) → IsSaid (Ok command) files (Err e)
   work_refused say p (Coded code at) counts there fits gives is = record {
     fits = fits code at gives;
     counts = counts;
@@ -213,17 +213,17 @@ module _ (command : Command) (files : FilesSeen) (name program : Word) (go : Sou
   pub refused_written : (e : Refusal) → IsStage (name ∷ []) (greatest_code command) files (Some e)
       → (IsTrue files.told → NoneInFile HasOneReadingAsWritten IsRefusedText (files.file name) e)
       → (list_any files.may_be_missing (program ∷ []) ≡ true → list_any files.may_be_missing (names_in command) ≡ true)
-      → (reading (files.file program) (written go) (Err e) → IsOutput files.file command (Err e)) → IsSaid (Ok command) files (Err e)
+      → (reading (files.file program) (if_written go) (Err e) → IsOutput files.file command (Err e)) → IsSaid (Ok command) files (Err e)
   refused_written e stage none more is =
       said_refused command files (name ∷ []) e stage
       (subst (λ n. list_any files.may_be_missing (n ∷ []) ≡ true → list_any files.may_be_missing (names_in command) ≡ true) (sym same) more)
-      (λ told quiet. or_output files.file command (reading (files.file program) (written go)) (Err e) is
+      (λ told quiet. or_output files.file command (reading (files.file program) (if_written go)) (Err e) is
       (written_refused (files.file program) go (greatest_code command) e (subst (λ n. NoneInFile HasOneReadingAsWritten IsRefusedText (files.file n) e) same (none told)) stage.fits
       (no_read files.faults files.faults_now e stage.counts quiet)))
 
   pub said_written : (p : Source) (places : List ℕ) (said : Said) → FitsSaid command said → files.faults_now ≡ files.faults
       → (IsTrue files.told → InFile (files.file name) HasOneReadingAsWritten (λ text. IsWrittenIn text p places)) → go p (Ok said)
-      → (reading (files.file program) (written go) (Ok said) → IsOutput files.file command (Ok said)) → IsSaid (Ok command) files (Ok said)
+      → (reading (files.file program) (if_written go) (Ok said) → IsOutput files.file command (Ok said)) → IsSaid (Ok command) files (Ok said)
   said_written p places said fits counts there gone is =
       said_all command files said fits counts
       (λ told. inr (is (written_there (files.file program) go (Ok said) p places
@@ -259,7 +259,7 @@ module _ (files : FilesSeen) (program bits : Word) (limits : Limits) (p : Source
   abbrev run_said : Source → Output → Type 0
   run_said q = on_bits (files.file bits) (λ w. Answered (run_on q limits w))
 
-  run_refused : (told : IsTrue files.told) (e : Refusal) → OrMemory (run_said p) (Err e) → Tells files.file (Sample program (File bits) limits) (Err e)
+  run_refused : (told : IsTrue files.told) (e : Refusal) → OrMemory (run_said p) (Err e) → SaysOrRunsOut files.file (Sample program (File bits) limits) (Err e)
   run_refused told e (inl memory) = inl memory
   run_refused told e (inr none) = inr (checked_ok (files.file program) run_said (Err e) p (there told) none)
 

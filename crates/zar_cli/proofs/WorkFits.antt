@@ -2,7 +2,7 @@
 use Rattle.std.proofs.Common.{ℕ, Option, Err, arith}
 use Rattle.gcl_core.specs.declared.answers.Limits.{Limits}
 use Rattle.gcl_core.specs.declared.refusals.TheConstants.{TOO_MANY_STATES, ALL_FAILED}
-use Rattle.gcl_core.specs.Syntax.{Source}
+use Rattle.gcl_core.specs.meaning.Syntax.{Source}
 use Rattle.report_text.specs.declared.refusals.Refusal.TheVariants.{Coded}
 use Rattle.zar_cli.specs.Costs as costs
 use Rattle.zar_cli.specs.Costs.{SaysCost}

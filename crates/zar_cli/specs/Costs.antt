@@ -3,7 +3,7 @@ use Rattle.std.specs.Prelude.{◌≡◌, ℕ, None, Result, Ok, Err}
 use Rattle.frac128.specs.Fraction.{lowest}
 use Rattle.gcl_core.specs.declared.answers.Limits.{Limits}
 use Rattle.gcl_core.specs.declared.refusals.TheConstants.{TOO_WIDE, TOO_MANY_STATES}
-use Rattle.gcl_core.specs.Syntax.{Source}
+use Rattle.gcl_core.specs.meaning.Syntax.{Source}
 use Rattle.cost_fold.specs.declared.error.CostError.TheVariants.{TooWide, TooManyStates}
 use Rattle.cost_fold.specs.Refused.{CostRefused}
 use Rattle.cost_law.specs.ExpectedBits.{expected_bits}

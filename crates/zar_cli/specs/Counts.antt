@@ -1,10 +1,10 @@
 -- What is said of all strings of one length, and of the streams of a range: exactly the rows of the definitions, by the runs of the program.
 use Rattle.std.specs.Prelude.{◌≡◌, ℕ, ◌++◌, List, length, Result, Ok}
 use Rattle.gcl_core.specs.declared.answers.Limits.{Limits}
-use Rattle.gcl_core.specs.Canonical.{canonical_text}
-use Rattle.gcl_core.specs.Listing.{count_all}
-use Rattle.gcl_core.specs.Runs.{run_on}
-use Rattle.gcl_core.specs.Syntax.{Source}
+use Rattle.gcl_core.specs.text.Canonical.{canonical_text}
+use Rattle.gcl_core.specs.text.ReadingOrder.{count_all}
+use Rattle.gcl_core.specs.meaning.Runs.{run_on}
+use Rattle.gcl_core.specs.meaning.Syntax.{Source}
 use Rattle.audit_walk.specs.Audited.{IsAuditOf}
 use Rattle.audit_walk.specs.Rows as audited
 use Rattle.generated_program.specs.Generated.{generated}
@@ -22,8 +22,8 @@ use Rattle.zar_cli.specs.Tables.{audit_text, tally_rows_text}
 use Rattle.zar_cli.specs.OptionWords.{limits_of, no_options}
 
 -- a text of this kind is shown
-abbrev pub Shows : (List ℕ → Type 0) → Result Said Refusal → Type 0
-Shows Is output = (text : List ℕ) × Is text × (output ≡ Ok (Shown text))
+abbrev pub ShowsText : (List ℕ → Type 0) → Result Said Refusal → Type 0
+ShowsText Is output = (text : List ℕ) × Is text × (output ≡ Ok (Shown text))
 
 -- the lines of an audit
 pub record IsAuditText (p : Source) (depth : ℕ) (limits : Limits) (text : List ℕ) : Type 0 where

@@ -3,7 +3,7 @@ use Rattle.std.specs.Prelude.{ℕ, ◌-◌, ◌^◌, nat_le, Bool, true, false, 
 use Rattle.std.specs.List.{list_all}
 use Rattle.std.specs.Str.{bytes_eq}
 use Rattle.std.specs.Str.Parse.{digits_value}
-use Rattle.gcl_core.specs.Pieces.{is_digit}
+use Rattle.gcl_core.specs.text.Pieces.{is_digit}
 use Rattle.gcl_core.specs.declared.answers.Fault.TheVariants as fault
 use Rattle.gcl_core.specs.declared.answers.Limit.TheVariants as limit
 use Rattle.gcl_core.specs.declared.answers.Outcome.TheVariants as outcome

@@ -2,8 +2,8 @@
 use Rattle.std.specs.Prelude.{◌≡◌, ℕ, Option, Result, Ok}
 use Rattle.gcl_core.specs.declared.answers.Limits.{Limits}
 use Rattle.gcl_core.specs.declared.answers.TallyKey.{TallyKey}
-use Rattle.gcl_core.specs.Runs.{run_on}
-use Rattle.gcl_core.specs.Syntax.{Source}
+use Rattle.gcl_core.specs.meaning.Runs.{run_on}
+use Rattle.gcl_core.specs.meaning.Syntax.{Source}
 use Rattle.hunt_range.specs.Sought.{LeastWanted, sought_of}
 use Rattle.report_text.specs.declared.refusals.Refusal.{Refusal}
 use Rattle.tally_range.specs.declared.range.SeedRange.{SeedRange}

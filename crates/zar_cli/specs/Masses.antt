@@ -1,9 +1,9 @@
 -- What is said of the masses of a program: each that is above 0, in lowest terms, outcomes ascending; or why they are refused.
 use Rattle.std.specs.Prelude.{ℕ, Option, None, IfNone, Result, Ok, Err}
 use Rattle.gcl_core.specs.declared.refusals.TheConstants.{TOO_WIDE, TOO_MANY_STATES, ALL_FAILED}
-use Rattle.gcl_core.specs.Fractions.{IsBelowOne}
-use Rattle.gcl_core.specs.Mass.{failed_mass, mass_of}
-use Rattle.gcl_core.specs.Syntax.{Source}
+use Rattle.gcl_core.specs.weighing.Fractions.{IsBelowOne}
+use Rattle.gcl_core.specs.weighing.Mass.{failed_mass, mass_of}
+use Rattle.gcl_core.specs.meaning.Syntax.{Source}
 use Rattle.mass_fold.specs.declared.error.MassError.TheVariants.{TooWide, TooManyStates, AllFailed}
 use Rattle.mass_fold.specs.Refused.{MassRefused}
 use Rattle.mass_fold.specs.Rows.{Rows, AreMasses}

@@ -12,7 +12,10 @@ use Rattle.zar_cli.specs.declared.settings.Purpose.{Purpose}
 use Rattle.zar_cli.specs.declared.settings.Purpose.TheVariants as purpose
 use Rattle.zar_cli.specs.declared.settings.Setting.{Setting}
 use Rattle.zar_cli.specs.declared.settings.Setting.TheVariants.{Bits, Seed, Stream, Budget, From, To, Workers, Depth, Flips, Turns, Attempts, Rounds, Want}
-use Rattle.zar_cli.specs.declared.settings.TheConstants.{USUAL_LIMIT, MOST_BUDGET, USUAL_BUDGET, MOST_STREAMS, MOST_WORKERS, USUAL_WORKERS, MOST_DEPTH}
+use Rattle.zar_io.specs.declared.stream_bits.TheConstants.{MOST_BUDGET}
+use Rattle.audit_walk.specs.declared.auditing.TheConstants.{MOST_DEPTH}
+use Rattle.tally_range.specs.declared.range.TheConstants.{MOST_STREAMS, MOST_WORKERS}
+use Rattle.zar_cli.specs.declared.settings.TheConstants.{USUAL_LIMIT, USUAL_BUDGET, USUAL_WORKERS}
 use Rattle.zar_cli.specs.declared.settings.Verb.{Verb}
 use Rattle.zar_cli.specs.declared.settings.Verb.TheVariants as verb
 use Rattle.zar_cli.specs.Forms.{Word, is_name, number_in, key_named}

@@ -3,8 +3,8 @@
 use Rattle.std.specs.Prelude.{◌≡◌, ℕ, ◌≤◌, None, Result, Ok, Err}
 use Rattle.frac128.specs.Fraction.{lowest}
 use Rattle.gcl_core.specs.declared.refusals.TheConstants.{TOO_WIDE, TOO_MANY_STATES, ALL_FAILED}
-use Rattle.gcl_core.specs.Fractions.{Fraction, IsBelowOne}
-use Rattle.gcl_core.specs.Syntax.{Source}
+use Rattle.gcl_core.specs.weighing.Fractions.{Fraction, IsBelowOne}
+use Rattle.gcl_core.specs.meaning.Syntax.{Source}
 use Rattle.mass_fold.specs.declared.error.MassError.TheVariants.{TooWide, TooManyStates, AllFailed}
 use Rattle.mass_fold.specs.Refused.{MassRefused}
 use Rattle.posterior_bounds.specs.PosteriorBounds.{fails, upper_of_others}

@@ -1,7 +1,7 @@
 -- The numbers of a command are in range.
 use Rattle.std.specs.Prelude.{◌≤◌, IfSome}
 use Rattle.dice_roll.specs.declared.rules.TheConstants.{LEAST_LABELS, MOST_LABELS, MOST_FLIPS}
-use Rattle.gcl_core.specs.Runs.{InRange}
+use Rattle.gcl_core.specs.meaning.LimitRange.{InRange}
 use Rattle.gcl_core.specs.declared.rules.TheConstants.{MOST_LIMIT}
 use Rattle.generated_program.specs.declared.generating.TheConstants.{GREATEST_NUMBER}
 use Rattle.mass_fold.specs.Refused.{IsLimit}
@@ -10,7 +10,8 @@ use Rattle.zar_cli.specs.declared.command.Command.{Command}
 use Rattle.zar_cli.specs.declared.command.Command.TheVariants.{Sample, Mass, Cost, Posterior, Audit, Tally, Hunt, Check, Show, Code, Gen, Fast, Help}
 use Rattle.zar_cli.specs.declared.command.Source.{Source}
 use Rattle.zar_cli.specs.declared.command.Source.TheVariants.{File, Stream}
-use Rattle.zar_cli.specs.declared.settings.TheConstants.{MOST_BUDGET, MOST_DEPTH}
+use Rattle.zar_io.specs.declared.stream_bits.TheConstants.{MOST_BUDGET}
+use Rattle.audit_walk.specs.declared.auditing.TheConstants.{MOST_DEPTH}
 
 abbrev pub SourceHasRange : Source → Type 0
 SourceHasRange (File name) = Unit {0}

@@ -1,8 +1,8 @@
 -- The headline, as one record: what `sample` says of the program that a text spells, over all bits, and what these weigh.
 use Rattle.std.specs.Prelude.{◌≡◌, ℕ, List, Option, Some, Ok}
 use Rattle.gcl_core.specs.declared.answers.Limits.{Limits}
-use Rattle.gcl_core.specs.Runs.{run_on}
-use Rattle.gcl_core.specs.Syntax.{Source}
+use Rattle.gcl_core.specs.meaning.Runs.{run_on}
+use Rattle.gcl_core.specs.meaning.Syntax.{Source}
 use Rattle.weighing_law.specs.Counting.{CountsMasses}
 use Rattle.weighing_law.specs.LimitsCost.{LimitsCost, MayPass}
 use Rattle.weighing_law.specs.Weighing.{WeighsExactly}

@@ -2,7 +2,7 @@
 use Rattle.std.specs.Prelude.{ℕ, ◌==◌, ◌^◌, List, [], ◌∷◌, ◌++◌, if◌then◌else◌}
 use Rattle.gcl_core.specs.declared.answers.Outcome.{Outcome}
 use Rattle.gcl_core.specs.declared.answers.TallyKey.{TallyKey}
-use Rattle.gcl_core.specs.Fractions.{Fraction}
+use Rattle.gcl_core.specs.weighing.Fractions.{Fraction}
 use Rattle.frac128.specs.Fraction.{lowest}
 use Rattle.report_text.specs.Lines.{mass_text, bound_text, other_text, undecided_text, tally_text}
 

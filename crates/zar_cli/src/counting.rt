@@ -1,10 +1,10 @@
 // Programs that are audited and tallied.
 
 ghost use Rattle.std.specs.Prelude.{◌≤◌, IfOk};
-ghost use Rattle.gcl_core.specs.Runs.{InRange};
-ghost use Rattle.gcl_core.specs.Views.{source_of};
+ghost use Rattle.gcl_core.specs.meaning.LimitRange.{InRange};
+ghost use Rattle.gcl_core.specs.meaning.Views.{source_of};
 ghost use Rattle.tally_range.specs.Ranges.{IsRange, IsWorkers};
-ghost use Rattle.zar_cli.specs.declared.settings.TheConstants.{MOST_DEPTH};
+ghost use Rattle.audit_walk.specs.declared.auditing.TheConstants.{MOST_DEPTH};
 ghost use Rattle.zar_cli.specs.Counts.{IsAuditText, IsTallyText};
 
 use crate::tables::{audit_text, tally_rows_text};

@@ -1,8 +1,8 @@
 // Programs whose runs are hunted for a key.
 
 ghost use Rattle.std.specs.Prelude.{◌≡◌, IfOk, Ok};
-ghost use Rattle.gcl_core.specs.Runs.{InRange};
-ghost use Rattle.gcl_core.specs.Views.{source_of};
+ghost use Rattle.gcl_core.specs.meaning.LimitRange.{InRange};
+ghost use Rattle.gcl_core.specs.meaning.Views.{source_of};
 ghost use Rattle.tally_range.specs.Ranges.{IsRange, IsWorkers};
 ghost use Rattle.zar_cli.specs.declared.command.Command.TheVariants.{Hunt};
 ghost use Rattle.zar_cli.specs.Answer.{IsSaid};

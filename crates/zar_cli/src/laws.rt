@@ -2,8 +2,8 @@
 
 ghost use Rattle.std.specs.Prelude.{ℕ, List};
 ghost use Rattle.gcl_core.specs.declared.answers.Limits.{Limits};
-ghost use Rattle.gcl_core.specs.Syntax.{Source};
-ghost use Rattle.gcl_core.specs.Texts.{Spells};
+ghost use Rattle.gcl_core.specs.meaning.Syntax.{Source};
+ghost use Rattle.gcl_core.specs.text.Texts.{Spells};
 ghost use Rattle.zar_cli.specs.Samples.{SamplesExactly};
 
 use gcl_parse::spelled_programs_are_checked;

@@ -4,16 +4,19 @@ ghost use Rattle.std.specs.Prelude.{◌≡◌, ◌≤◌};
 ghost use Rattle.std.specs.Option.{ForSome};
 ghost use Rattle.dice_roll.specs.declared.rules.TheConstants.{MOST_FLIPS};
 ghost use Rattle.gcl_core.specs.declared.rules.TheConstants.{MOST_LIMIT};
-ghost use Rattle.zar_cli.specs.declared.settings.TheConstants.{MOST_BUDGET, MOST_WORKERS, MOST_DEPTH};
+ghost use Rattle.zar_io.specs.declared.stream_bits.TheConstants.{MOST_BUDGET};
+ghost use Rattle.audit_walk.specs.declared.auditing.TheConstants.{MOST_DEPTH};
+ghost use Rattle.tally_range.specs.declared.range.TheConstants.{MOST_WORKERS};
 
 use crate::keys::key_named;
 use crate::settings::{
-    MOST_BUDGET, MOST_DEPTH, MOST_STREAMS, MOST_WORKERS, Setting, USUAL_BUDGET, USUAL_LIMIT,
-    USUAL_WORKERS, Verb, number_in, setting_named,
+    Setting, USUAL_BUDGET, USUAL_LIMIT, USUAL_WORKERS, Verb, number_in, setting_named,
 };
+use audit_walk::MOST_DEPTH;
 use dice_roll::MOST_FLIPS;
 use gcl_core::{Limits, MOST_LIMIT, TallyKey};
-use tally_range::SeedRange;
+use tally_range::{MOST_STREAMS, MOST_WORKERS, SeedRange};
+use zar_io::MOST_BUDGET;
 
 // What the options said so far.
 #[derive(Clone, Copy)]
@@ -58,7 +61,7 @@ pub const NO_OPTIONS: Options<'static> = Options {
 
 impl<'a> Options<'a> {
     ghost use Rattle.std.specs.Prelude.{option_map, IfSome};
-    ghost use Rattle.gcl_core.specs.Runs.{InRange};
+    ghost use Rattle.gcl_core.specs.meaning.LimitRange.{InRange};
     ghost use Rattle.zar_cli.specs.OptionWords.{setting_named, is_given, excludes, if_taken, with_value, limits_of, range_of};
     ghost use Rattle.tally_range.specs.Ranges.{IsRange, IsWorkers};
     ghost use Rattle.zar_cli.specs.OptionsView.{options_of};
@@ -115,8 +118,12 @@ impl<'a> Options<'a> {
             Setting::Budget => options.budget = Some(number_in(0, MOST_BUDGET, value)?),
             Setting::From => options.from = Some(number_in(0, u64::MAX, value)?),
             Setting::To => options.to = Some(number_in(0, u64::MAX, value)?),
-            Setting::Workers => options.workers = Some(number_in(1, MOST_WORKERS, value)?),
-            Setting::Depth => options.depth = Some(number_in(0, MOST_DEPTH, value)?),
+            Setting::Workers => options.workers = Some(number_in(
+                1,
+                u64::from(MOST_WORKERS),
+                value,
+            )?),
+            Setting::Depth => options.depth = Some(number_in(0, u64::from(MOST_DEPTH), value)?),
             Setting::Flips => options.flips = Some(number_in(0, MOST_FLIPS, value)?),
             Setting::Turns => options.turns = Some(number_in(0, MOST_LIMIT, value)?),
             Setting::Attempts => options.attempts = Some(number_in(1, MOST_LIMIT, value)?),

@@ -1,7 +1,7 @@
 // Bounds of the outcomes of a program.
 
 ghost use Rattle.std.specs.Prelude.{◌≡◌, ◌≤◌, Ok};
-ghost use Rattle.gcl_core.specs.Views.{source_of};
+ghost use Rattle.gcl_core.specs.meaning.Views.{source_of};
 ghost use Rattle.zar_cli.specs.declared.command.Command.TheVariants.{Posterior};
 ghost use Rattle.gcl_core.specs.declared.rules.TheConstants.{MOST_LIMIT};
 ghost use Rattle.zar_cli.specs.Answer.{IsSaid};

@@ -7,7 +7,7 @@ ghost use Rattle.zar_cli.specs.Readings.{GivesOnBits};
 ghost use Rattle.zar_cli.specs.Rolls.{shares_text, weights_text};
 ghost use Rattle.zar_cli.specs.Seen.{files_seen};
 ghost use Rattle.zar_cli.specs.Stages.{IsStage, refusal_in};
-ghost use Rattle.zar_cli.specs.declared.settings.TheConstants.{MOST_BUDGET};
+ghost use Rattle.zar_io.specs.declared.stream_bits.TheConstants.{MOST_BUDGET};
 ghost use Rattle.zar_io.specs.StreamBits.{stream_bits};
 
 use dice_roll::{Roll, roll, share};

@@ -3,7 +3,7 @@
 ghost use Rattle.std.specs.Prelude.{◌≡◌, ◌≤◌, true, length, IfSome};
 ghost use Rattle.std.specs.List.{list_all};
 ghost use Rattle.std.specs.Str.Parse.{digits_value};
-ghost use Rattle.gcl_core.specs.Pieces.{is_digit};
+ghost use Rattle.gcl_core.specs.text.Pieces.{is_digit};
 ghost use Rattle.zar_cli.specs.declared.settings.TheConstants.{MOST_DIGITS};
 ghost use Rattle.zar_cli.specs.Forms.{number_in};
 ghost use Rattle.zar_cli.specs.OptionWords.{setting_named, purpose_of, allows};
@@ -74,18 +74,10 @@ pub const MOST_DIGITS: usize = 20;
 pub const USUAL_LIMIT: u64 = 1000;
 /// The limit of turns under which masses, expected bits and bounds are worked out where none is given.
 pub const USUAL_MASS_TURNS: u64 = 30;
-/// The greatest budget of bits of a stream.
-pub const MOST_BUDGET: u64 = 1_000_000_000;
 /// The budget of bits of a stream where none is given.
 pub const USUAL_BUDGET: u64 = 65_536;
-/// The most streams of a range.
-pub const MOST_STREAMS: u64 = 1 << 40;
-/// The most workers of a tally or a hunt.
-pub const MOST_WORKERS: u64 = 64;
 /// The workers of a tally or a hunt where no number is given.
 pub const USUAL_WORKERS: u64 = 4;
-/// The greatest depth of an audit, in bits.
-pub const MOST_DEPTH: u64 = 20;
 /// The least number of a generated program.
 pub const LEAST_GENERATED: u64 = 1;
 /// How many streams a generated program is tallied over.

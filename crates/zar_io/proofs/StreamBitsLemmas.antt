@@ -1,7 +1,7 @@
 -- What is left of a stream, a bit at a time, and in parts of words.
 use Rattle.std.proofs.Common.{◌≡◌, ℕ, zero, suc, ◌+◌, ◌*◌, ◌-◌, ◌/◌, ◌%◌, ◌^◌, ◌==◌, ◌<◌, ◌≤◌, ◌≢◌, ◌++◌, [], ◌∷◌, drop, refl, sym, ap, ◌∙◌, arith, pow-add}
 use Rattle.std.proofs.Math.Nat.{div-div-eq-div-mul}
-use Rattle.zar_io.specs.Bits.{Begins}
+use Rattle.zar_io.specs.Bits.{BeginsWith}
 use Rattle.zar_io.specs.FileBits.{low_bits}
 use Rattle.zar_io.specs.StreamBits.{word_bit, word_bits}
 
@@ -52,7 +52,7 @@ bits_ahead word w n (suc k) (suc left) m p place within le held =
 
 -- the bits that lie ready are the first that are left
 pub begins_ahead : (word : ℕ → ℕ) (w n left waiting count p : ℕ) → n + waiting ≡ 32 * p → waiting ≤ 32 → w ≡ word (n / 32) → count ≤ waiting → count ≤ left
-    → Begins (low_bits count (w / 2 ^ (waiting - count))) (word_bits word n left)
+    → BeginsWith (low_bits count (w / 2 ^ (waiting - count))) (word_bits word n left)
 begins_ahead word w n left waiting count p place within held le few =
     (word_bits word (n + count) (left - count), bits_ahead word w n count left (waiting - count) p (omega arith) (omega arith) few (λ some. held))
 

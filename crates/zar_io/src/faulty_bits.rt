@@ -1,6 +1,6 @@
 //! Bits of a list, with a plan of their faults.
 ghost use Rattle.std.specs.Prelude.{◌≡◌, ◌≤◌, ◌↔◌, true, false, None, Ok, IfOk, OnErr, IsErr, IsTrue};
-ghost use Rattle.zar_io.specs.Bits.{Took, Begins, ended_after, broken_after};
+ghost use Rattle.zar_io.specs.Bits.{Took, BeginsWith, ended_after, broken_after};
 ghost use Rattle.zar_io.specs.Calls.{next_number};
 ghost use Rattle.zar_io.specs.Faults.{Counts, one_more};
 ghost use Rattle.zar_io.specs.FileBits.{low_bits};
@@ -86,7 +86,7 @@ impl Bits for FaultyBits {
         // Those of all bits.
         ensures within { result.count ≤ 64 }
         ensures ready { result.count ≤ 0 }
-        ensures bits { Begins (low_bits result.count result.word) (bits_to_come self.new) }
+        ensures bits { BeginsWith (low_bits result.count result.word) (bits_to_come self.new) }
         ensures none_once_ended { IsTrue (has_ended self.old) → result.count ≡ 0 }
 
         // No call was made.

@@ -2,7 +2,7 @@
 use Rattle.std.specs.Prelude.{◌≡◌, ◌+◌, ◌^◌, ℕ, Bool, List}
 use Rattle.gcl_core.specs.declared.answers.Answer.{Answer}
 use Rattle.gcl_core.specs.declared.answers.Outcome.{Outcome}
-use Rattle.gcl_core.specs.StringWeight.{outcome_weight}
+use Rattle.gcl_core.specs.weighing.StringWeight.{outcome_weight}
 use Rattle.sampler_run.specs.Held.{Held, IsRestOf}
 use Rattle.audit_walk.specs.Audited.{undecided_by}
 use Rattle.audit_walk.specs.Rows.{Rows, row_count, sum_of_counts}

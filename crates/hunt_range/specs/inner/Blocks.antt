@@ -5,8 +5,8 @@ use Rattle.tally_range.specs.Blocks.{first_in_block}
 use Rattle.hunt_range.specs.Sought.{Sought, NoneWanted}
 
 -- the first stream of a block
-abbrev pub first_of : Sought → ℕ → ℕ
-first_of s j = first_in_block s.from j
+abbrev pub block_start : Sought → ℕ → ℕ
+block_start s j = first_in_block s.from j
 
 -- the first that is wanted of the streams of a block, which begins at `first`, below `to`
 abbrev pub FirstWanted : Sought → ℕ → ℕ → Option ℕ → Type 0

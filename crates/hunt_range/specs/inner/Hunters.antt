@@ -18,15 +18,15 @@ use Rattle.tally_range.specs.declared.range.SeedRange.{SeedRange}
 use Rattle.tally_range.specs.declared.range.TheConstants.{STREAMS_OF_A_BLOCK}
 use Rattle.tally_range.specs.Blocks.{blocks_over}
 use Rattle.hunt_range.specs.Sought.{Sought, sought_of}
-use Rattle.hunt_range.specs.inner.Blocks.{first_of}
+use Rattle.hunt_range.specs.inner.Blocks.{block_start}
 
 -- the boards and the range belong together
-pub record Fits (b : Board) (l : LeastBoard) (r : SeedRange) : Type 0 where
+pub record BelongTogether (b : Board) (l : LeastBoard) (r : SeedRange) : Type 0 where
   pub blocks : claim.blocks_of b ≡ blocks_over r.from r.to
   pub top : least.top_of l ≡ r.to
 
 -- passes of these boards, and nothing dealt or offered yet
-pub record IsReady (b : Board) (l : LeastBoard) (h : Hunter) : Type 0 where
+pub record IsReadyHunter (b : Board) (l : LeastBoard) (h : Hunter) : Type 0 where
   pub pass : claim.IsPassOf b h.pass
   pub bid : least.IsPassOf l h.bid
   pub new : claim.IsNew h.pass
@@ -34,7 +34,7 @@ pub record IsReady (b : Board) (l : LeastBoard) (h : Hunter) : Type 0 where
 
 -- each stream that is wanted, of these blocks, is at least what was seen
 abbrev pub Covers : Sought → List ℕ → ℕ → Type 0
-Covers s dealt seen = (j i : ℕ) → 0 < times j dealt → first_of s j ≤ i → i < first_of s j + STREAMS_OF_A_BLOCK → i < s.to → s.wants i ≡ true → seen ≤ i
+Covers s dealt seen = (j i : ℕ) → 0 < times j dealt → block_start s j ≤ i → i < block_start s j + STREAMS_OF_A_BLOCK → i < s.to → s.wants i ≡ true → seen ≤ i
 
 -- each of these streams is wanted
 abbrev pub AreWanted : Sought → List ℕ → Type 0
@@ -46,7 +46,7 @@ pub record Searched (s : Sought) (p : Pass) (q : LeastPass) : Type 0 where
 
 -- the worker stopped: there was no block left, or a block was dealt to it that begins at a number looked at, or behind it
 abbrev pub HasStopped : Sought → Pass → LeastPass → Type 0
-HasStopped s p q = (had_none p ≡ true) ⊎ ((j : ℕ) × (0 < times j (dealt_to p)) × (seen_by q ≤ first_of s j))
+HasStopped s p q = (had_none p ≡ true) ⊎ ((j : ℕ) × (0 < times j (dealt_to p)) × (seen_by q ≤ block_start s j))
 
 abbrev pub HasHunted : Sought → Pass → LeastPass → Type 0
 HasHunted s p q = Searched s p q × HasStopped s p q
@@ -58,7 +58,7 @@ HasHuntedRuns c l r want p q = (run : List Bool → Answer) → IsRunOf c l run 
 abbrev pub IsSameHunter : Hunter → Hunter → Type 0
 IsSameHunter h k = claim.IsSamePass h.pass k.pass × least.IsSamePass h.bid k.bid
 
--- the same passes, and where memory was not wanting the worker has hunted
+-- the same passes, and where memory did not run out the worker has hunted
 pub record HasWorked (Hunted : Pass → LeastPass → Type 0) (h k : Hunter) : Type 0 where
   pub same : IsSameHunter h k
   pub hunted : k.failed ≡ false → Hunted k.pass k.bid

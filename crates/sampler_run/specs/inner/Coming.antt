@@ -19,5 +19,5 @@ unfoldable pub deepest : ℕ → (List Bool → Option Reached) → ℕ
 deepest zero f = 0
 deepest (suc k) f = more_of (f []) (max (deepest k (λ v. f (false ∷ v))) (deepest k (λ v. f (true ∷ v))))
 
-abbrev pub bits_to_come : Held → ℕ
-bits_to_come s = deepest (most_steps s.code s.limits) (rest_of s.code s.limits s.machine)
+abbrev pub most_bits_to_come : Held → ℕ
+most_bits_to_come s = deepest (most_steps s.code s.limits) (rest_of s.code s.limits s.machine)

@@ -8,7 +8,7 @@ use Rattle.sampler_run.specs.declared.machine.Progress.{Progress}
 use Rattle.sampler_run.specs.Held.{Held}
 use Rattle.sampler_run.specs.inner.Resting.{Rests, IsSmall}
 
-pub record Kept (s : Held) (loops count : ℕ) (p : Progress) : Type 0 where
+pub record KeptState (s : Held) (loops count : ℕ) (p : Progress) : Type 0 where
   pub sound : Sound s.code loops count
   pub turns : length s.machine.turns ≡ loops
   pub vars : length s.machine.vars ≡ count

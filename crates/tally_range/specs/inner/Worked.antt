@@ -15,7 +15,7 @@ entry_pass e = pass_of e.share
 abbrev pub entry_table : Entry → Rows
 entry_table e = table_of e.share
 
--- the same pass, and where memory was not wanting its blocks are counted
+-- the same pass, and where memory did not run out its blocks are counted
 pub record IsWorked (c : Assembled) (l : Limits) (r : SeedRange) (e f : Entry) : Type 0 where
   pub pass : IsSamePass (pass_of e.share) (pass_of f.share)
   pub counted : f.failed ≡ false → IsCounted c l r f.share

@@ -1,4 +1,4 @@
-use Rattle.sampler_run.specs.Held.{first_of}
+use Rattle.sampler_run.specs.Held.{run_begun}
 use Rattle.audit_walk.proofs.Rests.{rest_here}
 use Rattle.audit_walk.proofs.Exact.{exact_audit}
 use Rattle.audit_walk.proofs.auditing.audit.Goals as goal
@@ -7,7 +7,7 @@ pub returns-clause-runs : goal.returns-clause-runs
 returns-clause-runs g c =
     let a = c.in_ok-audit.audit in
     λ run is. exact_audit run c.args.depth a.rows a.undecided c.count.ensures.rows
-    (c.in_ok-audit.ensures.rest run (rest_here (first_of c.args.s.now c.args.l.now) c.in_ok-state.state run c.in_ok-state.ensures.rest is))
+    (c.in_ok-audit.ensures.rest run (rest_here (run_begun c.args.s.now c.args.l.now) c.in_ok-state.state run c.in_ok-state.ensures.rest is))
 
 pub returns-clause-all : goal.returns-clause-all
 returns-clause-all g c = c.in_ok-audit.ensures.all

@@ -1,6 +1,6 @@
 use Rattle.std.proofs.Common.{◌≡◌, length, ap, ◌∙◌, arith}
 use Rattle.std.specs.List.{sum}
-use Rattle.gcl_core.specs.Draw.{last_end}
+use Rattle.gcl_core.specs.meaning.Draw.{last_end}
 use Rattle.gcl_core.proofs.PartialSums.{as_many, last_is}
 use Rattle.bit_tree.proofs.debiasing.pick_among.Goals as goal
 

@@ -1,9 +1,9 @@
 use Rattle.std.proofs.Common.{◌≡◌, ◌+◌, ap, sym, ◌∙◌, subst}
 use Rattle.std.proofs.lemmas.List.{at_drop_all}
 use Rattle.std.specs.Option.{option_map}
-use Rattle.gcl_core.specs.Views as statements
-use Rattle.gcl_core.specs.Views.{statement_of, arm_list_of}
-use Rattle.choice_tree.specs.Tree.{in_order}
+use Rattle.gcl_core.specs.meaning.Views as statements
+use Rattle.gcl_core.specs.meaning.Views.{statement_of, arm_list_of}
+use Rattle.choice_tree.specs.Tree.{Row}
 use Rattle.choice_tree.specs.TreeOf.{member_of, members_of, arm_trees}
 use Rattle.choice_tree.specs.Views.{choice_tree_of}
 use Rattle.choice_tree.proofs.Rows.{Built, members_from, built_all, built_one, next_member, next_arm}
@@ -29,7 +29,7 @@ row-returns t c =
 
 pub arm_row-loop-block-preserved : goal.arm_row-loop-block-preserved
 arm_row-loop-block-preserved t c =
-    let tree = row_view _ ∙ ap in_order c.in_ok-row.ensures in
+    let tree = row_view _ ∙ ap Row c.in_ok-row.ensures in
     built_one _ _ _ c.loop-block.invariant _ _ _ c.in_ok-push.ensures.items (next_arm _ _ c.loop-block-item.result c.loop-block-test.true c.loop-block-item.is _ tree)
 
 pub arm_row-returns : goal.arm_row-returns

@@ -1,6 +1,6 @@
 use Rattle.std.proofs.Common.{◌≡◌, take}
-use Rattle.gcl_core.specs.Arms.{parts_of}
-use Rattle.gcl_core.specs.Views.{list_of_arms}
+use Rattle.gcl_core.specs.meaning.Arms.{parts_of}
+use Rattle.gcl_core.specs.meaning.Views.{list_of_arms}
 use Rattle.choice_tree.proofs.building.parts.Given as goal
 
 abbrev pub invariant-loop-i : goal.invariant-loop-i

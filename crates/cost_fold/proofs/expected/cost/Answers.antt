@@ -1,5 +1,5 @@
 use Rattle.std.proofs.Common.{Some, refl, subst}
-use Rattle.gcl_core.specs.Views.{source_of}
+use Rattle.gcl_core.specs.meaning.Views.{source_of}
 use Rattle.mass_fold.specs.Body.{RoundBits}
 use Rattle.cost_fold.proofs.Whole.{body_wide, rounds_wide, cost_is, cost_law}
 use Rattle.cost_fold.proofs.expected.cost.Goals as goal

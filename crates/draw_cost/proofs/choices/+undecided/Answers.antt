@@ -1,5 +1,5 @@
 use Rattle.std.proofs.Common.{◌≡◌, ◌≤◌, ◌-◌, ◌*◌, ◌^◌, ◌%◌, ap, sym, ◌∙◌, arith}
-use Rattle.gcl_core.specs.Draw.{have_one_class}
+use Rattle.gcl_core.specs.meaning.Draw.{have_one_class}
 use Rattle.gcl_core.proofs.Strings.{shifted_one}
 use Rattle.draw_tree.proofs.LeastPower.{half_power}
 use Rattle.draw_cost.proofs.Stretches.{depth_most, none_inside}

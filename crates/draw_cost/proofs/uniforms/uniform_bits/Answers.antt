@@ -1,7 +1,7 @@
 use Rattle.std.proofs.Common.{◌≡◌, ◌-◌, ◌∙◌, sym, ap, arith}
-use Rattle.gcl_core.specs.Blocks.{uniform_ends}
+use Rattle.gcl_core.specs.meaning.Draw.{uniform_ends}
 use Rattle.gcl_core.proofs.EqualClasses.{last_of_equal}
-use Rattle.draw_cost.specs.Undecided.{undecided_below}
+use Rattle.draw_cost.specs.inner.Undecided.{undecided_below}
 use Rattle.draw_cost.proofs.Stretches.{attempt_is}
 use Rattle.draw_cost.proofs.Sides.{some_below}
 use Rattle.draw_cost.proofs.uniforms.uniform_bits.Goals as goal

@@ -1,5 +1,5 @@
 use Rattle.std.proofs.Common.{◌≡◌, ℕ, zero, suc, ◌≤◌, ◌^◌, false, List, IfNone, sym, ap, ◌∙◌, subst, arith, true≢false}
-use Rattle.gcl_core.specs.Draw.{have_one_class}
+use Rattle.gcl_core.specs.meaning.Draw.{have_one_class}
 use Rattle.gcl_core.proofs.Strings.{shifted_one}
 use Rattle.draw_tree.proofs.Halves.{one_number}
 use Rattle.draw_tree.proofs.SmallClasses.{small_class}

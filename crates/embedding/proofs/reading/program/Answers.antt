@@ -1,5 +1,5 @@
 use Rattle.std.proofs.Common.{◌∙◌, length, refl, sym, ap, arith}
-use Rattle.gcl_core.specs.Views.{source_of}
+use Rattle.gcl_core.specs.meaning.Views.{source_of}
 use Rattle.gcl_check.specs.Refused.{refusal_said}
 use Rattle.embedding.proofs.Tokens.{tokens_fewer}
 use Rattle.embedding.proofs.Unspelled.{by_error, is_lexed, is_parsed, is_accepted}

@@ -1,6 +1,6 @@
 use Rattle.std.proofs.Common.{refl}
-use Rattle.gcl_core.specs.Runs.{run_on}
-use Rattle.gcl_core.specs.Views.{source_of}
+use Rattle.gcl_core.specs.meaning.Runs.{run_on}
+use Rattle.gcl_core.specs.meaning.Views.{source_of}
 use Rattle.weighing_law.specs.Weighing.{limited_mass}
 use Rattle.embedding.proofs.Chances.{chance_found}
 use Rattle.embedding.proofs.weighing.chance.Goals as goal

@@ -3,9 +3,9 @@ use Rattle.std.specs.List.{sum, sum_by}
 use Rattle.std.proofs.lemmas.Bool.Decides.{nat_tests}
 use Rattle.std.proofs.lemmas.List.Sums.{sum-map, sum_by_more, sum_by-take-le}
 use Rattle.gcl_core.specs.declared.rules.TheConstants.{GREATEST_DENOMINATOR}
-use Rattle.gcl_core.specs.Arms.{parts_of}
-use Rattle.gcl_core.specs.Lowest.{common_divisor, lowest_parts}
-use Rattle.gcl_core.specs.Views.{list_of_arms}
+use Rattle.gcl_core.specs.meaning.Arms.{parts_of}
+use Rattle.gcl_core.specs.meaning.Lowest.{common_divisor, lowest_parts}
+use Rattle.gcl_core.specs.meaning.Views.{list_of_arms}
 use Rattle.gcl_check.proofs.parts.are_too_fine.Goals as goal
 
 -- the parts up to one, each over the divisor, are above a bound already

@@ -1,7 +1,7 @@
 use Rattle.std.proofs.Common.{◌≡◌, ℕ, List, refl, sym, ◌∙◌, ◌<◌, [], ◌∷◌, Some, None, Err, length, take, arith}
 use Rattle.std.proofs.lemmas.List.{append-nil}
-use Rattle.gcl_core.specs.Lexing.{long_text}
-use Rattle.gcl_lex.specs.Reads.{Stands}
+use Rattle.gcl_core.specs.text.Lexing.{long_text}
+use Rattle.gcl_lex.specs.inner.Reads.{Stands}
 use Rattle.gcl_lex.proofs.Cuts.{front_is, no_front, some_len}
 use Rattle.gcl_lex.proofs.InOrder.{lexed_in_order}
 use Rattle.gcl_lex.proofs.PieceByPiece.{nothing_read, piece_read, text_read}

@@ -1,7 +1,7 @@
 use Rattle.std.proofs.Common.{◌≡◌, true, drop}
 use Rattle.std.specs.List.{list_all}
 use Rattle.std.specs.Str.Parse.{digits_value, digits_value_after}
-use Rattle.gcl_core.specs.Pieces.{is_digit}
+use Rattle.gcl_core.specs.text.Pieces.{is_digit}
 use Rattle.gcl_lex.proofs.piece.number.Given as goal
 
 abbrev pub invariant-loop-digit : goal.invariant-loop-digit

@@ -1,6 +1,6 @@
 use Rattle.gcl_core.specs.declared.rules.TheConstants.{LONGEST_NAME}
 use Rattle.std.proofs.Common.{◌<◌, length, sym, ◌∙◌, arith}
-use Rattle.gcl_lex.specs.Reads.{too_wide, too_long}
+use Rattle.gcl_lex.specs.inner.Reads.{too_wide, too_long}
 use Rattle.gcl_lex.proofs.Numbers.{number_digits, wide}
 use Rattle.gcl_lex.proofs.piece.token_kind.Goals as goal
 

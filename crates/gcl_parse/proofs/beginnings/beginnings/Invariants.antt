@@ -1,5 +1,5 @@
 use Rattle.std.proofs.Common.{◌≡◌, ◌++◌, length}
-use Rattle.gcl_parse.specs.Beginnings.{beginnings}
+use Rattle.gcl_parse.specs.inner.Beginnings.{beginnings}
 use Rattle.gcl_parse.proofs.beginnings.beginnings.Given as goal
 
 abbrev pub invariant-loop-token : goal.invariant-loop-token

@@ -1,6 +1,6 @@
 use Rattle.std.proofs.Common.{◌≡◌, ◌+◌, ◌≤◌, drop, option_map}
-use Rattle.gcl_core.specs.Nesting.{breaks_from, nesting_break}
-use Rattle.gcl_core.specs.Words.{kinds_of}
+use Rattle.gcl_core.specs.text.Nesting.{breaks_from, nesting_break}
+use Rattle.gcl_core.specs.text.Words.{kinds_of}
 use Rattle.gcl_core.specs.declared.rules.TheConstants.{DEEPEST_NESTING, MOST_OPERATORS}
 use Rattle.gcl_parse.proofs.nesting.nesting_break.Given as goal
 

@@ -1,7 +1,7 @@
 use Rattle.std.proofs.Common.{◌≡◌, ◌∙◌, ap, sym}
 use Rattle.gcl_core.specs.declared.words.Word.TheVariants as w
-use Rattle.gcl_core.specs.Names.{with_name}
-use Rattle.gcl_core.specs.Words.{slice_of}
+use Rattle.gcl_core.specs.text.Names.{with_name}
+use Rattle.gcl_core.specs.text.Words.{slice_of}
 use Rattle.gcl_core.proofs.TokenWords.{number_with}
 use Rattle.gcl_parse.proofs.wording.word.Goals as goal
 

@@ -1,12 +1,12 @@
 use Rattle.std.proofs.Common.{◌≡◌, ◌-◌}
 use Rattle.number_lists.specs.Numbers.{top}
 use Rattle.claim_board.specs.Board.{blocks_of, dealt_to}
-use Rattle.sampler_run.specs.Held.{first_of, set_back}
+use Rattle.sampler_run.specs.Held.{run_begun, set_back}
 use Rattle.hunt_range.proofs.Searching.{Hunting, HasSearched}
 use Rattle.hunt_range.proofs.working.work.Given as goal
 
 abbrev pub invariant-loop-block : goal.invariant-loop-block
-invariant-loop-block g l = Hunting l.board l.least (HasSearched l.s l.l l.range l.want) l.initial.hunter l.hunter × (set_back l.state ≡ first_of l.s l.l)
+invariant-loop-block g l = Hunting l.board l.least (HasSearched l.s l.l l.range l.want) l.initial.hunter l.hunter × (set_back l.state ≡ run_begun l.s l.l)
 
 -- each block is above those before it
 abbrev pub decreases-loop-block : goal.decreases-loop-block

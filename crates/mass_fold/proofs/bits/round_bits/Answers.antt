@@ -1,5 +1,5 @@
 use Rattle.std.proofs.Common.{◌<◌, Some, arith}
-use Rattle.gcl_core.specs.Views.{source_of}
+use Rattle.gcl_core.specs.meaning.Views.{source_of}
 use Rattle.mass_fold.proofs.RoundBits.{bits_are, failed_lowest}
 use Rattle.mass_fold.proofs.bits.round_bits.Goals as goal
 

@@ -1,7 +1,7 @@
 use Rattle.std.proofs.Common.{◌≡◌, ◌∷◌, [], ◌∙◌, Err, sym, ap, subst, arith}
-use Rattle.gcl_core.specs.Bounds.{BlockIsWeighed}
-use Rattle.gcl_core.specs.Runs.{zeros}
-use Rattle.gcl_core.specs.Views.{source_of, statements_of}
+use Rattle.gcl_core.specs.meaning.Bounds.{BlockIsWeighed}
+use Rattle.gcl_core.specs.meaning.Outcomes.{zeros}
+use Rattle.gcl_core.specs.meaning.Views.{source_of, statements_of}
 use Rattle.mass_tables.specs.Tables.{peak_of}
 use Rattle.mass_tables.specs.Width.{round_width}
 use Rattle.mass_fold.specs.Amounts.{Blames}

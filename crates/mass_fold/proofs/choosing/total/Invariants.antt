@@ -1,7 +1,7 @@
 use Rattle.std.proofs.Common.{◌≡◌, ◌+◌}
 use Rattle.std.specs.List.{sum}
-use Rattle.gcl_core.specs.Arms.{parts_of}
-use Rattle.gcl_core.specs.Views.{arm_list_of}
+use Rattle.gcl_core.specs.meaning.Arms.{parts_of}
+use Rattle.gcl_core.specs.meaning.Views.{arm_list_of}
 use Rattle.mass_fold.proofs.ArmsLeft.{parts_left}
 use Rattle.mass_fold.proofs.choosing.total.Given as goal
 

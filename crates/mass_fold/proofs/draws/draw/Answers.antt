@@ -1,6 +1,6 @@
 use Rattle.std.proofs.Common.{◌≡◌, ◌∙◌, length, sym, arith}
-use Rattle.gcl_core.specs.Views.{expression_of}
-use Rattle.gcl_core.specs.Value.{value_of}
+use Rattle.gcl_core.specs.meaning.Views.{expression_of}
+use Rattle.gcl_core.specs.meaning.Value.{value_of}
 use Rattle.mass_tables.specs.Counts.{part_at, rest_at, drawn, undrawn}
 use Rattle.mass_fold.proofs.Moves.{reads_at}
 use Rattle.mass_fold.proofs.Sizes.{sized_at}

@@ -1,13 +1,13 @@
 use Rattle.std.proofs.Common.{rules, ◌∙◌, w64, length, sym, ap, subst, arith}
 use Rattle.std.proofs.lemmas.Int.{ints}
 use mir.Val.{SFits}
-use Rattle.gcl_core.specs.Views.{expression_of}
-use Rattle.gcl_core.specs.Value.{value_of, Reads}
+use Rattle.gcl_core.specs.meaning.Views.{expression_of}
+use Rattle.gcl_core.specs.meaning.Value.{value_of, ExpressionBelow}
 use Rattle.mass_fold.proofs.Bounds.{is_bound, fault_stopped, bad_stopped, draw_added, draw_stopped, draw_blamed}
 use Rattle.mass_fold.proofs.draws.draw_entry.Goals as goal
 
 pub eval-requires : goal.eval-requires
-eval-requires c = subst (λ s. Reads (expression_of c.args.e.now) (length s)) (sym c.values.ensures) c.requires.reads
+eval-requires c = subst (λ s. ExpressionBelow (expression_of c.args.e.now) (length s)) (sym c.values.ensures) c.requires.reads
 
 pub returns-in-Ok-add-clause-stopped : goal.returns-in-Ok-add-clause-stopped
 returns-in-Ok-add-clause-stopped c =

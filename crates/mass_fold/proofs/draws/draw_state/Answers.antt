@@ -1,7 +1,7 @@
 use Rattle.std.proofs.Common.{◌≤◌, sym, arith}
-use Rattle.gcl_core.specs.Blocks.{limit}
+use Rattle.gcl_core.specs.meaning.Blocks.{limit}
 use Rattle.gcl_core.specs.declared.answers.Limit.TheVariants.{Attempts}
-use Rattle.gcl_core.specs.WeightedEnds.{class_weight, no_class_weight}
+use Rattle.gcl_core.specs.weighing.WeightedEnds.{class_weight, no_class_weight}
 use Rattle.mass_fold.specs.declared.ended.Gone.TheVariants as gone_kind
 use Rattle.mass_fold.specs.Steps.{at_numbers}
 use Rattle.mass_fold.proofs.Bounds.{class_above}

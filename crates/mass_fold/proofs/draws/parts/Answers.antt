@@ -1,5 +1,5 @@
 use Rattle.std.proofs.Common.{◌≡◌, ◌≤◌, ◌<◌, ◌^◌, ℕ, Option, Some, IfSome, sym, subst, ◌∙◌, arith}
-use Rattle.gcl_core.specs.WeightedEnds.{class_weight, no_class_weight}
+use Rattle.gcl_core.specs.weighing.WeightedEnds.{class_weight, no_class_weight}
 use Rattle.gcl_core.proofs.Classes.{bits_enough}
 use Rattle.mass_tables.specs.Scale.{Whole}
 use Rattle.mass_fold.specs.Steps.{IsParts}

@@ -1,12 +1,12 @@
 use Rattle.std.proofs.Common.{rules, ◌≡◌, ◌+◌, ◌-◌, suc, arith, refl, sym, ap, ◌∙◌, ◌≤◌, drop, subst, length}
 use Rattle.std.specs.List.{sum}
-use Rattle.gcl_core.specs.Arms.{parts_of}
+use Rattle.gcl_core.specs.meaning.Arms.{parts_of}
 use Rattle.gcl_core.specs.declared.syntax.Stmt.{the_lemmas}
-use Rattle.gcl_core.specs.Bounds.{StatementBelow, BlockBelow, ArmsBelow, ArmsAreWeighed}
-use Rattle.gcl_core.specs.Views.{expression_of, statement_of, statements_of, list_of, arm_list_of, list_of_arms}
-use Rattle.gcl_core.specs.WeightedEnds.{class_weight}
+use Rattle.gcl_core.specs.meaning.Bounds.{StatementBelow, BlockBelow, ArmsBelow, ArmsAreWeighed}
+use Rattle.gcl_core.specs.meaning.Views.{expression_of, statement_of, statements_of, list_of, arm_list_of, list_of_arms}
+use Rattle.gcl_core.specs.weighing.WeightedEnds.{class_weight}
 use Rattle.frac128.specs.Fraction.{IsEqual}
-use Rattle.gcl_core.specs.Value.{value_of, Reads}
+use Rattle.gcl_core.specs.meaning.Value.{value_of, ExpressionBelow}
 use Rattle.mass_tables.specs.Tables.{block_flow, loop_flow}
 use Rattle.gcl_core.proofs.ViewLemmas.{skip_view, set_view, observe_view, if_view, while_view, choice_view, choose_view, uniform_view}
 use Rattle.mass_fold.specs.Fold.{FoldBlames, UndecidedTo, UndecidedBlames}
@@ -77,10 +77,10 @@ fold_loop-returns-then-len-eq0-clause-ok t c =
     loop_dry c.args.turns c.args.attempts (expression_of c.args.e.now) (statements_of c.args.body.now) c.args.table.states.entries c.args.ended.now (c.args.turns - c.loop.counter) c.loop.now.states.entries c.loop.exits.states.entries c.loop.ended c.loop.invariant.so_far c.requires.weights (empty_of c.loop.now.states.entries (sym c.len.ensures.len ∙ c.if-len-eq0.true))
 
 pub fold_loop-split-requires : goal.fold_loop-split-requires
-fold_loop-split-requires t c = subst (Reads (expression_of c.args.e.now)) (sym c.loop.invariant.now_vars) c.requires.reads
+fold_loop-split-requires t c = subst (ExpressionBelow (expression_of c.args.e.now)) (sym c.loop.invariant.now_vars) c.requires.reads
 
 pub fold_loop-split-requires-2 : goal.fold_loop-split-requires-2
-fold_loop-split-requires-2 t c = subst (Reads (expression_of c.args.e.now)) (sym c.loop.invariant.now_vars) c.requires.reads
+fold_loop-split-requires-2 t c = subst (ExpressionBelow (expression_of c.args.e.now)) (sym c.loop.invariant.now_vars) c.requires.reads
 
 pub fold_loop-fold_block-requires : goal.fold_loop-fold_block-requires
 fold_loop-fold_block-requires t c =

@@ -1,11 +1,11 @@
 use Rattle.std.proofs.Common.{◌≡◌, ◌-◌, ◌≤◌, ℕ, drop}
 use Rattle.std.specs.List.{sum}
-use Rattle.gcl_core.specs.Arms.{parts_of}
-use Rattle.gcl_core.specs.Parts.{partial_sums}
-use Rattle.gcl_core.specs.Syntax.{choice_among}
-use Rattle.gcl_core.specs.Bounds.{BlockIsWeighed, ArmsAreWeighed, BlockBelow, ArmsBelow}
-use Rattle.gcl_core.specs.Views.{list_of, arm_list_of, list_of_arms, expression_of, statements_of}
-use Rattle.gcl_core.specs.Value.{value_of}
+use Rattle.gcl_core.specs.meaning.Arms.{parts_of}
+use Rattle.gcl_core.specs.meaning.Parts.{partial_sums}
+use Rattle.gcl_core.specs.meaning.Syntax.{Choose}
+use Rattle.gcl_core.specs.meaning.Bounds.{BlockIsWeighed, ArmsAreWeighed, BlockBelow, ArmsBelow}
+use Rattle.gcl_core.specs.meaning.Views.{list_of, arm_list_of, list_of_arms, expression_of, statements_of}
+use Rattle.gcl_core.specs.meaning.Value.{value_of}
 use Rattle.mass_tables.specs.Tables.{statement_flow, block_flow, arms_flow, loop_flow}
 use Rattle.mass_fold.specs.declared.meter.Meter.{Meter}
 use Rattle.mass_fold.specs.Fold.{LoopsOn, AfterUndecided}
@@ -44,8 +44,8 @@ invariant-fold_arms-loop-count l = record {
   weights : ArmsAreWeighed (arm_list_of (drop l.count-index l.count-items));
   few : sum (parts_left l.count-items l.count-index) ≤ sum (parts_of (list_of_arms l.arms));
   so_far : AfterUndecided (sum (parts_of (list_of_arms l.arms))) l.attempts l.table.states.entries l.fn.ended
-      (λ E. ArmsOn (statement_flow l.turns l.attempts (choice_among (list_of_arms l.arms))) (arms_flow l.turns l.attempts (sum (parts_of (list_of_arms l.arms))) (arm_list_of (drop l.count-index l.count-items))) l.table.states.entries E l.out.states.entries l.ended);
+      (λ E. ArmsOn (statement_flow l.turns l.attempts (Choose (list_of_arms l.arms))) (arms_flow l.turns l.attempts (sum (parts_of (list_of_arms l.arms))) (arm_list_of (drop l.count-index l.count-items))) l.table.states.entries E l.out.states.entries l.ended);
   bits : AfterUndecided (sum (parts_of (list_of_arms l.arms))) l.attempts l.table.states.entries l.fn.ended
       (λ E. (m : Meter) → CountsDraws l.attempts (sum (parts_of (list_of_arms l.arms))) (partial_sums (parts_of (list_of_arms l.arms))) l.table.states.entries m l.fn.meter →
-      ArmsMetered l.attempts (statement_flow l.turns l.attempts (choice_among (list_of_arms l.arms))) (statement_draws l.turns l.attempts (choice_among (list_of_arms l.arms))) (arms_draws l.turns l.attempts (sum (parts_of (list_of_arms l.arms))) (arm_list_of (drop l.count-index l.count-items))) l.table.states.entries E m l.meter);
+      ArmsMetered l.attempts (statement_flow l.turns l.attempts (Choose (list_of_arms l.arms))) (statement_draws l.turns l.attempts (Choose (list_of_arms l.arms))) (arms_draws l.turns l.attempts (sum (parts_of (list_of_arms l.arms))) (arm_list_of (drop l.count-index l.count-items))) l.table.states.entries E m l.meter);
 }

@@ -1,6 +1,6 @@
 use Rattle.std.proofs.Common.{◌≡◌, ◌-◌, ◌<◌, Err, Some, None, IfOk, IfNone, sym, subst, arith}
-use Rattle.gcl_core.specs.Mass.{failed_mass, mass_of, mass_of_those}
-use Rattle.gcl_core.specs.Views.{source_of}
+use Rattle.gcl_core.specs.weighing.Mass.{failed_mass, mass_of, mass_of_those}
+use Rattle.gcl_core.specs.meaning.Views.{source_of}
 use Rattle.mass_tables.specs.Scale.{whole}
 use Rattle.mass_tables.specs.Width.{round_width, width_of}
 use Rattle.mass_fold.specs.Masses.{WholeWithin}

@@ -1,8 +1,8 @@
 use Rattle.std.proofs.Common.{rules, ◌∙◌, Ok, w64, sym, ap, arith}
 use Rattle.std.proofs.lemmas.Int.{ints}
 use mir.Val.{SFits}
-use Rattle.gcl_core.specs.Views.{expression_of}
-use Rattle.gcl_core.specs.Value.{value_of}
+use Rattle.gcl_core.specs.meaning.Views.{expression_of}
+use Rattle.gcl_core.specs.meaning.Value.{value_of}
 use Rattle.mass_fold.proofs.Bounds.{is_bound}
 use Rattle.mass_fold.proofs.Prices.{bound_wide, bound_adds}
 use Rattle.mass_fold.proofs.meter.count_bound.Goals as goal

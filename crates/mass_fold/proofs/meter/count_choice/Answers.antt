@@ -1,5 +1,5 @@
 use Rattle.std.proofs.Common.{refl}
-use Rattle.gcl_core.specs.Blocks.{choice_ends}
+use Rattle.gcl_core.specs.meaning.Draw.{choice_ends}
 use Rattle.mass_fold.proofs.Prices.{draw_wide, draw_adds}
 use Rattle.mass_fold.proofs.meter.count_choice.Goals as goal
 

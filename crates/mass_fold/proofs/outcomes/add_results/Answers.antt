@@ -1,6 +1,6 @@
 use Rattle.std.proofs.Common.{◌≡◌, Err, arith}
 use Rattle.std.specs.Map.Iter.{deref_pair}
-use Rattle.gcl_core.specs.Views.{expression_of}
+use Rattle.gcl_core.specs.meaning.Views.{expression_of}
 use Rattle.mass_fold.proofs.Moves.{reads_at}
 use Rattle.mass_fold.proofs.Sizes.{sized_at}
 use Rattle.mass_fold.proofs.Results.{results_end, results_next, results_blame}

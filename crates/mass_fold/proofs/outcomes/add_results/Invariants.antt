@@ -1,4 +1,4 @@
-use Rattle.gcl_core.specs.Views.{expression_of}
+use Rattle.gcl_core.specs.meaning.Views.{expression_of}
 use Rattle.mass_fold.proofs.Results.{ResultsOn}
 use Rattle.mass_fold.proofs.outcomes.add_results.Given as goal
 

@@ -1,8 +1,8 @@
 use Rattle.std.proofs.Common.{◌≡◌, arith, slice_set, [], length, sym, ap, ◌∙◌}
 use Rattle.std.proofs.lemmas.Int.{to_z-of_z}
 use Rattle.std.proofs.lemmas.List.{length-set}
-use Rattle.gcl_core.specs.Views.{expression_of}
-use Rattle.gcl_core.specs.Value.{value_of}
+use Rattle.gcl_core.specs.meaning.Views.{expression_of}
+use Rattle.gcl_core.specs.meaning.Value.{value_of}
 use Rattle.mass_tables.specs.Counts.{moved, stopped}
 use Rattle.mass_fold.proofs.Doings.{doing_start, doing_along, doing_go, doing_stop, doing_all, blame_stop}
 use Rattle.mass_fold.proofs.Moves.{moved_ok, stopped_ok, moved_err, stopped_err, reads_at}

@@ -1,7 +1,7 @@
 use Rattle.std.proofs.Common.{◌≡◌, ◌∙◌, [], length, pos, of_z, w64, sym, ap, arith}
 use Rattle.std.proofs.lemmas.Int.{to_z-of_z}
-use Rattle.gcl_core.specs.Views.{expression_of}
-use Rattle.gcl_core.specs.Value.{value_of}
+use Rattle.gcl_core.specs.meaning.Views.{expression_of}
+use Rattle.gcl_core.specs.meaning.Value.{value_of}
 use Rattle.mass_tables.specs.Tables.{holds, fails}
 use Rattle.mass_tables.specs.Counts.{kept_if, stopped}
 use Rattle.mass_fold.proofs.Doings.{doing_along, doing_go, doing_skip, doing_stop, doing_all, blame_go, blame_stop, blame_within}

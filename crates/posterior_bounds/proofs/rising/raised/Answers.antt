@@ -1,5 +1,5 @@
 use Rattle.std.proofs.Common.{◌∙◌, ◌++◌, ◌+◌, drop, ap, sym}
-use Rattle.posterior_bounds.specs.Rising.{raised}
+use Rattle.posterior_bounds.specs.inner.Rising.{raised}
 use Rattle.posterior_bounds.proofs.RisingRows.{raised_one, raised_none}
 use Rattle.posterior_bounds.proofs.rising.raised.Goals.{then-is_settled+in-Some+in_ok-push-in-Some, else-is_settled}
 use Rattle.posterior_bounds.proofs.rising.raised.Goals as goal

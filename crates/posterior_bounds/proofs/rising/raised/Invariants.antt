@@ -1,5 +1,5 @@
 use Rattle.std.proofs.Common.{◌≡◌, ◌++◌, drop}
-use Rattle.posterior_bounds.specs.Rising.{raised}
+use Rattle.posterior_bounds.specs.inner.Rising.{raised}
 use Rattle.posterior_bounds.proofs.rising.raised.Given as goal
 
 abbrev pub invariant-loop-i : goal.invariant-loop-i

@@ -1,7 +1,7 @@
 use Rattle.std.proofs.Common.{◌≡◌, drop}
 use Rattle.gcl_core.specs.declared.answers.Limit.TheVariants.{Turns}
 use Rattle.gcl_core.specs.declared.answers.Outcome.TheVariants as outcome
-use Rattle.posterior_bounds.specs.Rising.{mass_in}
+use Rattle.posterior_bounds.specs.inner.Rising.{mass_in}
 use Rattle.posterior_bounds.proofs.rising.undecided.Given as goal
 
 abbrev pub invariant-loop-i : goal.invariant-loop-i

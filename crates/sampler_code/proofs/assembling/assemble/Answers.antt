@@ -1,9 +1,10 @@
 use Rattle.std.proofs.Common.{sym, subst, ◌∙◌}
 use Rattle.bit_tree.specs.Views.{tied_tree_of}
-use Rattle.sampler_code.specs.Assembled.{Assembled, Follows}
+use Rattle.sampler_code.specs.Assembled.{Assembled}
+use Rattle.sampler_code.specs.Follows.{Follows}
 use Rattle.sampler_code.proofs.SoundCode.{tied_follows}
 use Rattle.sampler_code.proofs.Written.{numbers_of, written}
-use Rattle.gcl_core.specs.Bounds.{ExpressionFits}
+use Rattle.gcl_core.specs.meaning.Bounds.{ExpressionFits}
 use Rattle.sampler_code.proofs.assembling.assemble.Goals as goal
 
 pub emit-requires-clause-arms : goal.emit-requires-clause-arms

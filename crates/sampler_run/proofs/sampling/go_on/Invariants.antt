@@ -1,7 +1,7 @@
 use Rattle.std.proofs.Common.{◌≡◌, IsTrue}
 use Rattle.sampler_run.specs.Held.{set_back}
 use Rattle.sampler_run.specs.Sampled.{WentOn}
-use Rattle.sampler_run.specs.inner.Coming.{bits_to_come}
+use Rattle.sampler_run.specs.inner.Coming.{most_bits_to_come}
 use Rattle.sampler_run.proofs.sampling.go_on.Given as goal
 
 abbrev pub invariant-loop-outcome : goal.invariant-loop-outcome
@@ -16,4 +16,4 @@ invariant-loop-outcome g l =
     × (IsTrue g.B.Bits.told → WentOn l.initial.state l.state (g.B.Bits.left l.initial.bits) (g.B.Bits.left l.bits))
 
 abbrev pub decreases-loop-outcome : goal.decreases-loop-outcome
-decreases-loop-outcome g l = bits_to_come l.state
+decreases-loop-outcome g l = most_bits_to_come l.state

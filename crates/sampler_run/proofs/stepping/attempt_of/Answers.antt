@@ -1,7 +1,7 @@
 use Rattle.std.proofs.Common.{◌≤◌, ap, arith}
 use Rattle.formula.specs.ReadBack.{expression_in}
 use Rattle.sampler_code.proofs.GreatestDepth.{within_greatest}
-use Rattle.sampler_code.specs.Machine.{goes, begun}
+use Rattle.sampler_code.specs.Machine.{goes, first_attempt}
 use Rattle.sampler_run.specs.Views.{drawing_of, machine_of}
 use Rattle.sampler_run.proofs.Draws.{idle_ends, idle_begins}
 use Rattle.sampler_run.proofs.stepping.attempt_of.Goals as goal
@@ -22,10 +22,10 @@ returns-in-Ok-clause-begun c =
     let b = c.in-Ok.bound in
     let small = c.in-Ok.ensures.small in
     let within = c.bits_for.ensures.within in
-    idle_begins c.args.code.now.instrs l c.args.x (expression_in c.args.e.now) m c.requires.at (ap drawing_of c.in-Idle.is) c.args.word c.args.left b c.bits_for.result c.requires.can.answered (c.in-Ok.ensures.bound (λ b. goes (begun l m b))) (small.1, small.0) (omega (arith, within)) c.bits_for.ensures.value
+    idle_begins c.args.code.now.instrs l c.args.x (expression_in c.args.e.now) m c.requires.at (ap drawing_of c.in-Idle.is) c.args.word c.args.left b c.bits_for.result c.requires.can.answered (c.in-Ok.ensures.bound (λ b. goes (first_attempt l m b))) (small.1, small.0) (omega (arith, within)) c.bits_for.ensures.value
 
 pub returns-in-Err-clause-ended : goal.returns-in-Err-clause-ended
 returns-in-Err-clause-ended c =
     let l = c.args.limits.now in
     let m = machine_of c.args.m.now in
-    idle_ends c.args.code.now.instrs l c.args.x (expression_in c.args.e.now) m c.requires.at (ap drawing_of c.in-Idle.is) c.in-Err.outcome (c.in-Err.ensures.none (λ b. goes (begun l m b)))
+    idle_ends c.args.code.now.instrs l c.args.x (expression_in c.args.e.now) m c.requires.at (ap drawing_of c.in-Idle.is) c.in-Err.outcome (c.in-Err.ensures.none (λ b. goes (first_attempt l m b)))

@@ -1,7 +1,7 @@
 use Rattle.std.proofs.Common.{◌≡◌, ℕ, ◌<◌, ◌≤◌, List, Some}
 use Rattle.std.specs.Prelude.{slice_get}
 use Rattle.gcl_core.specs.declared.answers.Limits.{Limits}
-use Rattle.gcl_core.specs.Syntax.{Expression}
+use Rattle.gcl_core.specs.meaning.Syntax.{Expression}
 use Rattle.sampler_code.specs.Instruction.{Instruction, Range}
 use Rattle.sampler_code.specs.Machine.{Machine}
 use Rattle.sampler_code.specs.inner.Bounded.{Answered}

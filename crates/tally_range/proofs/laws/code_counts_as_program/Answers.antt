@@ -1,7 +1,7 @@
-use Rattle.gcl_core.specs.Runs.{run_on}
-use Rattle.sampler_run.specs.Held.{first_of}
+use Rattle.gcl_core.specs.meaning.Runs.{run_on}
+use Rattle.sampler_run.specs.Held.{run_begun}
 use Rattle.tally_range.proofs.Counting.{count_same, runs_agree}
 use Rattle.tally_range.proofs.laws.code_counts_as_program.Goals as goal
 
 pub returns : goal.returns
-returns c = λ code p l is run also r key. count_same run (run_on p l) r.seed r.budget r.from r.to key (runs_agree (first_of code l) run (run_on p l) also is)
+returns c = λ code p l is run also r key. count_same run (run_on p l) r.seed r.budget r.from r.to key (runs_agree (run_begun code l) run (run_on p l) also is)

@@ -1,6 +1,6 @@
 use Rattle.std.proofs.Common.{Bool, List, subst}
 use Rattle.gcl_core.specs.declared.answers.Limits.{Limits}
-use Rattle.gcl_core.specs.Runs.{InRange}
+use Rattle.gcl_core.specs.meaning.LimitRange.{InRange}
 use Rattle.sampler_code.specs.Assembled.{Assembled, CodeReaches}
 use Rattle.sampler_code.specs.Running.{Reached}
 use Rattle.tally_range.proofs.tallying.runs_answer.Goals as goal

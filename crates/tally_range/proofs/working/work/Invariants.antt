@@ -5,7 +5,7 @@ use Rattle.number_lists.specs.Total.{total}
 use Rattle.number_lists.specs.Numbers.{top}
 use Rattle.claim_board.specs.Board.{blocks_of, dealt_to, had_none, IsPassOf, IsSamePass}
 use Rattle.sampler_code.specs.Assembled.{IsRunOf}
-use Rattle.sampler_run.specs.Held.{first_of, set_back}
+use Rattle.sampler_run.specs.Held.{run_begun, set_back}
 use Rattle.tally_range.specs.Sums.{count_in}
 use Rattle.tally_range.specs.declared.range.TheConstants.{STREAMS_OF_A_BLOCK}
 use Rattle.tally_range.specs.Blocks.{count_block}
@@ -15,7 +15,7 @@ use Rattle.tally_range.proofs.working.work.Given as goal
 abbrev pub invariant-loop-block : goal.invariant-loop-block
 invariant-loop-block g l = IsPassOf l.board (pass_of l.share) × IsSamePass (pass_of l.initial.share) (pass_of l.share) × (had_none (pass_of l.share) ≡ false)
     × (top (dealt_to (pass_of l.share)) ≤ blocks_of l.board)
-    × (set_back l.state ≡ first_of l.s l.l)
+    × (set_back l.state ≡ run_begun l.s l.l)
     × ((run : List Bool → Answer) → IsRunOf l.s l.l run → (key : TallyKey) → count_in (table_of l.share) key ≡ total (count_block run l.range key) (dealt_to (pass_of l.share)))
     × ((key : TallyKey) → count_in (table_of l.share) key ≤ STREAMS_OF_A_BLOCK * top (dealt_to (pass_of l.share)))
 

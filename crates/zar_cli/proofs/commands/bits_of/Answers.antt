@@ -1,5 +1,5 @@
 use Rattle.std.proofs.Common.{subst}
-use Rattle.gcl_core.specs.Views.{source_of}
+use Rattle.gcl_core.specs.meaning.Views.{source_of}
 use Rattle.cost_fold.specs.Refused.{CostRefused}
 use Rattle.zar_cli.specs.Costs.{exact, too_wide, too_many_states}
 use Rattle.zar_cli.proofs.commands.bits_of.Goals as goal

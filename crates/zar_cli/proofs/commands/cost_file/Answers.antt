@@ -1,6 +1,6 @@
 use Rattle.std.proofs.Common.{◌≡◌, Err, arith}
 use Rattle.gcl_core.specs.declared.refusals.TheConstants.{TOO_FINE, TOO_MANY_STATES}
-use Rattle.gcl_core.specs.Views.{source_of}
+use Rattle.gcl_core.specs.meaning.Views.{source_of}
 use Rattle.zar_cli.specs.declared.command.Command.TheVariants.{Cost}
 use Rattle.zar_cli.specs.declared.said.Said.TheVariants.{Costed}
 use Rattle.zar_cli.specs.Costs.{SaysCost}

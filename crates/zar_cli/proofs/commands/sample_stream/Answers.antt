@@ -1,5 +1,5 @@
 use Rattle.std.proofs.Common.{◌≡◌, Ok, Err, ap, arith}
-use Rattle.gcl_core.specs.Views.{source_of}
+use Rattle.gcl_core.specs.meaning.Views.{source_of}
 use Rattle.zar_cli.specs.declared.command.Command.TheVariants.{Sample}
 use Rattle.zar_cli.specs.declared.command.Source.TheVariants.{Stream}
 use Rattle.zar_cli.specs.declared.said.Said.TheVariants.{Answered}

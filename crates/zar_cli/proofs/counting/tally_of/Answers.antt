@@ -1,5 +1,5 @@
-use Rattle.gcl_core.specs.Runs.{run_on}
-use Rattle.gcl_core.specs.Views.{source_of}
+use Rattle.gcl_core.specs.meaning.Runs.{run_on}
+use Rattle.gcl_core.specs.meaning.Views.{source_of}
 use Rattle.zar_cli.proofs.counting.tally_of.Goals as goal
 
 pub returns : goal.returns

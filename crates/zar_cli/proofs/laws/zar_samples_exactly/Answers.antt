@@ -1,13 +1,13 @@
 use Rattle.std.proofs.Common.{◌≡◌, ℕ, List, Option, Some, Ok, refl, subst}
 use Rattle.gcl_core.specs.declared.answers.Limits.{Limits}
-use Rattle.gcl_core.specs.Runs.{run_on}
-use Rattle.gcl_core.specs.Syntax.{Source}
-use Rattle.gcl_core.specs.Texts.{Spells}
+use Rattle.gcl_core.specs.meaning.Runs.{run_on}
+use Rattle.gcl_core.specs.meaning.Syntax.{Source}
+use Rattle.gcl_core.specs.text.Texts.{Spells}
 use Rattle.zar_io.specs.FileBits.{file_bits}
 use Rattle.zar_cli.specs.declared.command.Command.TheVariants.{Sample}
 use Rattle.zar_cli.specs.declared.command.Source.TheVariants.{File}
 use Rattle.zar_cli.specs.declared.said.Said.TheVariants.{Answered}
-use Rattle.zar_cli.specs.Output.{Output, IsOutput, reading, on_bits, spelled}
+use Rattle.zar_cli.specs.Output.{Output, IsOutput, reading, on_bits, if_spelled}
 use Rattle.zar_cli.specs.Forms.{Word}
 use Rattle.zar_cli.proofs.laws.zar_samples_exactly.Goals as goal
 
@@ -15,7 +15,7 @@ use Rattle.zar_cli.proofs.laws.zar_samples_exactly.Goals as goal
 said_of : (text : List ℕ) (p : Source) (l : Limits) → Spells text p → (file : Word → Option (List ℕ)) (program bits : Word) (bytes : List ℕ) (output : Output) →
     file program ≡ Some text → file bits ≡ Some bytes → IsOutput file (Sample program (File bits) l) output → output ≡ Ok (Answered (run_on p l (file_bits bytes)))
 said_of text p l spells file program bits bytes output e d is =
-    let of_text = subst (λ b. reading b (spelled (λ q. on_bits (file bits) (λ w. Answered (run_on q l w)))) output) e is in
+    let of_text = subst (λ b. reading b (if_spelled (λ q. on_bits (file bits) (λ w. Answered (run_on q l w)))) output) e is in
     subst (λ b. on_bits b (λ w. Answered (run_on p l w)) output) d (of_text.program p spells)
 
 pub returns : goal.returns

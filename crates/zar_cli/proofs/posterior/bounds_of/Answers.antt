@@ -1,5 +1,5 @@
 use Rattle.std.proofs.Common.{Ok, None, sym, subst}
-use Rattle.gcl_core.specs.Views.{source_of}
+use Rattle.gcl_core.specs.meaning.Views.{source_of}
 use Rattle.mass_fold.specs.Refused.{MassRefused}
 use Rattle.zar_cli.specs.declared.said.Said.TheVariants.{Shown}
 use Rattle.zar_cli.specs.Posterior.{SaysBounds, exact, too_wide, too_many_states, all_failed}

@@ -1,6 +1,6 @@
 use Rattle.std.proofs.Common.{◌≡◌, Err, arith}
 use Rattle.gcl_core.specs.declared.refusals.TheConstants.{TOO_FINE, ALL_FAILED}
-use Rattle.gcl_core.specs.Views.{source_of}
+use Rattle.gcl_core.specs.meaning.Views.{source_of}
 use Rattle.zar_cli.specs.declared.command.Command.TheVariants.{Posterior}
 use Rattle.zar_cli.specs.declared.said.Said.TheVariants.{Shown}
 use Rattle.zar_cli.specs.Posterior.{SaysBounds}

@@ -1,5 +1,5 @@
 use Rattle.std.proofs.Common.{◌≤◌, ◌∙◌, length, ap, sym, subst}
-use Rattle.gcl_core.specs.Value.{Reads}
+use Rattle.gcl_core.specs.meaning.Value.{ExpressionBelow}
 use Rattle.formula.specs.Steps.{depth}
 use Rattle.formula.specs.ReadBack.{expression_in}
 use Rattle.formula.specs.Forms.{FormOf}
@@ -27,7 +27,7 @@ value-requires c =
       stands = (
         c.self.invariant.tree,
         d.value ∙ h.0,
-        subst (λ e. Reads e (length c.args.vars.now)) s c.requires.reads,
+        subst (λ e. ExpressionBelow e (length c.args.vars.now)) s c.requires.reads,
         subst (λ e. depth e ≤ length c.deref_mut.result.now) s (subst (λ n. depth (expression_in c.args.self.now) ≤ n) (sym v ∙ ap length (sym m.value)) r),
       );
     }

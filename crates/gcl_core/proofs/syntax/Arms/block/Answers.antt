@@ -1,6 +1,6 @@
 use Rattle.std.proofs.Common.{◌<◌, length, Some, arith, ap, sym, ◌∙◌}
 use Rattle.gcl_core.specs.declared.syntax.Arms.{out-Arms}
-use Rattle.gcl_core.specs.Views.{statements_of}
+use Rattle.gcl_core.specs.meaning.Views.{statements_of}
 use Rattle.gcl_core.proofs.ArmLists.{as_many_arms, block_there}
 use Rattle.gcl_core.proofs.syntax.Arms.block.Goals as goal
 

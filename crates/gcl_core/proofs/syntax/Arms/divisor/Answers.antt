@@ -1,6 +1,6 @@
 use Rattle.std.proofs.Common.{◌≡◌, ◌+◌, ◌≤◌, [], drop, ap, sym, subst, arith}
-use Rattle.gcl_core.specs.Arms.{parts_of}
-use Rattle.gcl_core.specs.Views.{arm_list_of}
+use Rattle.gcl_core.specs.meaning.Arms.{parts_of}
+use Rattle.gcl_core.specs.meaning.Views.{arm_list_of}
 use Rattle.gcl_core.proofs.ArmDivisors.{Gathered, one_gathered, zero_gathered, all_gathered}
 use Rattle.gcl_core.proofs.ArmLists.{parts_more, no_parts}
 use Rattle.gcl_core.proofs.LowestParts.{divisor_positive}

@@ -1,6 +1,6 @@
 use Rattle.std.proofs.Common.{drop}
-use Rattle.gcl_core.specs.Arms.{parts_of}
-use Rattle.gcl_core.specs.Views.{arm_list_of}
+use Rattle.gcl_core.specs.meaning.Arms.{parts_of}
+use Rattle.gcl_core.specs.meaning.Views.{arm_list_of}
 use Rattle.gcl_core.proofs.ArmDivisors.{Gathered}
 use Rattle.gcl_core.proofs.syntax.Arms.divisor.Given as goal
 

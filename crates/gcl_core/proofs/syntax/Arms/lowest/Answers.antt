@@ -1,8 +1,8 @@
 use Rattle.std.proofs.Common.{◌∙◌, ap, arith}
 use Rattle.std.proofs.lemmas.List.{with_items_is}
 use Rattle.gcl_core.specs.declared.syntax.Arms.{out-Arms, out-roll-Arms}
-use Rattle.gcl_core.specs.Lowest.{divided}
-use Rattle.gcl_core.specs.Views.{arm_list_of}
+use Rattle.gcl_core.specs.meaning.Lowest.{divided}
+use Rattle.gcl_core.specs.meaning.Views.{arm_list_of}
 use Rattle.gcl_core.proofs.ArmLists.{all_divided}
 use Rattle.gcl_core.proofs.syntax.Arms.lowest.Goals as goal
 

@@ -3,13 +3,13 @@ use Rattle.gcl_core.specs.declared.words.Word.TheVariants as w
 use Rattle.gcl_core.specs.declared.tokens.Key.TheVariants as k
 use Rattle.gcl_core.specs.declared.tokens.Sym.TheVariants as y
 use Rattle.gcl_core.specs.declared.levels.Level.TheVariants as l
-use Rattle.gcl_core.specs.Views.{expression_of}
-use Rattle.gcl_core.specs.Grammar as g
-use Rattle.gcl_core.specs.Grammar.{ReadsPhrase, ReadsMore}
-use Rattle.gcl_core.specs.Levels.{above}
-use Rattle.gcl_parse.specs.Pushdown.{Symbol, phrase, more, run}
-use Rattle.gcl_parse.specs.Fronts.{first}
-use Rattle.gcl_parse.specs.Parses.{operator_at, leaf_at}
+use Rattle.gcl_core.specs.meaning.Views.{expression_of}
+use Rattle.gcl_core.specs.text.Grammar as g
+use Rattle.gcl_core.specs.text.Grammar.{ReadsPhrase, ReadsMore}
+use Rattle.gcl_core.specs.text.Levels.{above}
+use Rattle.gcl_parse.specs.inner.Pushdown.{Symbol, phrase, more, run}
+use Rattle.gcl_parse.specs.inner.Fronts.{first}
+use Rattle.gcl_parse.specs.inner.Parses.{operator_at, leaf_at}
 use Rattle.gcl_parse.proofs.Steps as step
 use Rattle.gcl_parse.proofs.parser.Parser.+phrase.Goals as goal
 

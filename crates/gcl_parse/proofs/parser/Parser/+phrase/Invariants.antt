@@ -1,10 +1,10 @@
 use Rattle.std.proofs.Common.{◌≡◌, ◌<◌, ◌+◌, ◌-◌, ◌*◌, List, ◌∷◌, length}
 use Rattle.gcl_core.specs.declared.words.Word.{Word}
-use Rattle.gcl_core.specs.Syntax.{Expression}
-use Rattle.gcl_core.specs.Views.{expression_of}
-use Rattle.gcl_core.specs.Grammar.{ReadsPhrase, ReadsMore}
-use Rattle.gcl_core.specs.Levels.{rank}
-use Rattle.gcl_parse.specs.Pushdown.{Symbol, phrase, more, run}
+use Rattle.gcl_core.specs.meaning.Syntax.{Expression}
+use Rattle.gcl_core.specs.meaning.Views.{expression_of}
+use Rattle.gcl_core.specs.text.Grammar.{ReadsPhrase, ReadsMore}
+use Rattle.gcl_core.specs.text.Levels.{rank}
+use Rattle.gcl_parse.specs.inner.Pushdown.{Symbol, phrase, more, run}
 use Rattle.gcl_parse.proofs.parser.Parser.+phrase.Given as goal
 
 abbrev pub decreases-phrase : goal.decreases-phrase

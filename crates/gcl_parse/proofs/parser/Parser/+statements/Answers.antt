@@ -3,12 +3,12 @@ use Rattle.gcl_core.specs.declared.words.Word.TheVariants as w
 use Rattle.gcl_core.specs.declared.tokens.Key.TheVariants as k
 use Rattle.gcl_core.specs.declared.tokens.Sym.TheVariants as y
 use Rattle.gcl_core.specs.declared.syntax.Arms.{out-roll-Arms}
-use Rattle.gcl_core.specs.Syntax.{arm}
-use Rattle.gcl_core.specs.Views.{statements_of, arm_list_of, list_of_arms}
-use Rattle.gcl_parse.specs.Fronts.{first}
-use Rattle.gcl_core.specs.Grammar as g
-use Rattle.gcl_parse.specs.Pushdown as m
-use Rattle.gcl_parse.specs.Parses.{ParsesArms, arms_before, start_at}
+use Rattle.gcl_core.specs.meaning.Syntax.{arm}
+use Rattle.gcl_core.specs.meaning.Views.{statements_of, arm_list_of, list_of_arms}
+use Rattle.gcl_parse.specs.inner.Fronts.{first}
+use Rattle.gcl_core.specs.text.Grammar as g
+use Rattle.gcl_parse.specs.inner.Pushdown as m
+use Rattle.gcl_parse.specs.inner.Parses.{ParsesArms, arms_before, start_at}
 use Rattle.gcl_parse.proofs.Steps as step
 use Rattle.gcl_parse.proofs.Steps.{after, fails_after, fails_here}
 use Rattle.gcl_core.proofs.ViewLemmas as views

@@ -1,8 +1,8 @@
 use Rattle.std.proofs.Common.{◌≡◌, ◌≤◌, ◌+◌, ◌*◌, List, ◌∷◌, length}
 use Rattle.gcl_core.specs.declared.words.Word.{Word}
-use Rattle.gcl_core.specs.Syntax.{Statements}
-use Rattle.gcl_core.specs.Grammar.{ReadsStatements}
-use Rattle.gcl_parse.specs.Pushdown.{Symbol, stmts, run}
+use Rattle.gcl_core.specs.meaning.Syntax.{Statements}
+use Rattle.gcl_core.specs.text.Grammar.{ReadsStatements}
+use Rattle.gcl_parse.specs.inner.Pushdown.{Symbol, stmts, run}
 use Rattle.gcl_parse.proofs.Blocks.{before}
 use Rattle.gcl_parse.proofs.parser.Parser.+statements.Given as goal
 

@@ -1,5 +1,5 @@
 use Rattle.std.proofs.Common.{arith}
-use Rattle.gcl_core.specs.Grammar as g
+use Rattle.gcl_core.specs.text.Grammar as g
 use Rattle.gcl_parse.proofs.Steps.{after}
 use Rattle.gcl_core.proofs.ViewLemmas as views
 use Rattle.gcl_parse.proofs.parser.Parser.assignment.Goals as goal

@@ -1,5 +1,5 @@
 use Rattle.std.proofs.Common.{◌≡◌, Some, None, arith}
-use Rattle.gcl_parse.specs.Fronts.{first, number_at}
+use Rattle.gcl_parse.specs.inner.Fronts.{first, number_at}
 use Rattle.gcl_parse.proofs.Steps as step
 use Rattle.gcl_parse.proofs.parser.Parser.number.Goals as goal
 

@@ -1,4 +1,4 @@
-use Rattle.gcl_core.specs.Grammar as g
+use Rattle.gcl_core.specs.text.Grammar as g
 use Rattle.gcl_core.proofs.ViewLemmas as views
 use Rattle.gcl_parse.proofs.parser.Parser.skip.Goals as goal
 

@@ -1,7 +1,7 @@
 use Rattle.std.proofs.Common.{◌≡◌, ◌≢◌, Some, arith}
 use Rattle.gcl_core.specs.declared.words.Word.TheVariants as w
 use Rattle.gcl_core.specs.declared.tokens.Sym.TheVariants as y
-use Rattle.gcl_parse.specs.Fronts.{first}
+use Rattle.gcl_parse.specs.inner.Fronts.{first}
 use Rattle.gcl_parse.proofs.Steps as step
 use Rattle.gcl_parse.proofs.Steps.{after, fails_after, fails_here}
 use Rattle.gcl_parse.proofs.parser.Parser.target.Goals as goal

@@ -4,7 +4,7 @@ use Rattle.sampler_run.specs.declared.machine.Progress.TheVariants.{NeedBit}
 use Rattle.sampler_run.specs.Held.{Held, StandsAfter}
 use Rattle.sampler_run.specs.Telling.{Tells}
 use Rattle.sampler_run.specs.Views.{machine_of}
-use Rattle.sampler_run.specs.inner.Coming.{bits_to_come}
+use Rattle.sampler_run.specs.inner.Coming.{most_bits_to_come}
 use Rattle.sampler_run.proofs.Feeding.{fewer}
 use Rattle.sampler_run.proofs.Settle.{answered_bit}
 use Rattle.sampler_run.proofs.Standing.{stands, kept_asks, kept_tells}
@@ -48,5 +48,5 @@ returns-clause-fewer c =
     let l = c.self.inside.limits in
     let n = machine_of c.advance-self-inside.new.m in
     let new : Held = record { code = code; limits = l; machine = n } in
-    subst (λ s. bits_to_come new < bits_to_come s) c.self.view_is
+    subst (λ s. most_bits_to_come new < most_bits_to_come s) c.self.view_is
     (fewer code l (machine_of c.self.inside.m) n c.args.bit c.self.invariant.kept.answered (subst (λ s. Tells s NeedBit) (sym c.self.view_is) c.requires) c.advance-self-inside.ensures.same)

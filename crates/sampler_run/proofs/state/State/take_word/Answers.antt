@@ -6,7 +6,7 @@ use Rattle.sampler_run.specs.Held.{Held}
 use Rattle.sampler_run.specs.Sampled.{WentOn}
 use Rattle.sampler_run.specs.Telling.{Tells}
 use Rattle.sampler_run.specs.Views.{machine_of}
-use Rattle.sampler_run.specs.inner.Coming.{bits_to_come}
+use Rattle.sampler_run.specs.inner.Coming.{most_bits_to_come}
 use Rattle.sampler_run.proofs.Standing.{kept_asks, kept_tells, kept_one}
 use Rattle.sampler_run.proofs.Takes.{went_taken}
 use Rattle.sampler_run.proofs.Words.{taken_answered, fewer_word}
@@ -51,5 +51,5 @@ returns-clause-fewer c =
     let new : Held = record { code = code; limits = l; machine = n } in
     let a = c.run_held-progress.ensures in
     let asks = kept_asks _ _ _ _ c.self.invariant.kept (subst (λ s. Tells s NeedBit) (sym c.self.view_is) c.requires.needs) in
-    subst (λ s. bits_to_come new < bits_to_come s) c.self.view_is
+    subst (λ s. most_bits_to_come new < most_bits_to_come s) c.self.view_is
     (fewer_word code l (machine_of c.self.inside.m) n c.run_held-progress.result.0 c.run_held-progress.result.1 c.args.count c.args.word c.requires.some c.self.invariant.kept.answered asks a.rests a.used_up a.takes)

@@ -1,6 +1,6 @@
 use Rattle.std.proofs.Common.{arith, refl, subst, sym, ◌≤◌}
 use Rattle.rand_chacha.specs.ChaCha.{word_at}
-use Rattle.zar_io.specs.Bits.{Begins}
+use Rattle.zar_io.specs.Bits.{BeginsWith}
 use Rattle.zar_io.specs.FileBits.{low_bits}
 use Rattle.zar_io.specs.StreamBits.{word_bits}
 use Rattle.zar_io.proofs.StreamBitsLemmas.{begins_ahead}
@@ -17,5 +17,5 @@ returns-clause-bits c = λ told.
     let count = c.min-count.result in
     let le : count ≤ s.waiting = omega arith in
     let few : count ≤ s.left = omega arith in
-    subst (λ v. Begins (low_bits count v) (word_bits word s.given s.left)) (sym c.from.ensures)
+    subst (λ v. BeginsWith (low_bits count v) (word_bits word s.given s.left)) (sym c.from.ensures)
     (begins_ahead word s.word s.given s.left s.waiting count s.words.word_pos s.place s.in_word (s.held c.draw_word.ensures.waits) le few)

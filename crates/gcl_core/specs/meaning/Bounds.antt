@@ -1,0 +1,109 @@
+-- Facts of all that a program names: its variables lie below a count, its numbers have 64 bits, and a fact of each weight and of the
+-- parts of each choice among several.
+-- Programs of the code have numbers of 64 bits by their type.
+use Rattle.std.specs.Prelude.{ℕ, ◌<◌, ◌≤◌, IsTrue, List, length}
+use Rattle.gcl_core.specs.declared.rules.TheConstants.{GREATEST_DENOMINATOR}
+use Rattle.gcl_core.specs.declared.syntax.Weight.{Weight}
+use Rattle.gcl_core.specs.meaning.Arms.{parts_of}
+use Rattle.gcl_core.specs.meaning.Parts.{HaveArmCount, AreParts}
+use Rattle.gcl_core.specs.meaning.Syntax.{Expression, Num, Truth, Var, Neg, Not, Bin, Statement, Skip, Set, If, While, Choice, Choose, Uniform, Observe, Statements, done, ◌▸◌, ArmList, no_arm, arm, Source}
+use Rattle.gcl_core.specs.meaning.Value.{fits_64, ExpressionBelow}
+
+-- each variable that is read or set is below a count
+module _ (count : ℕ) where
+  abbrev mutual
+    pub StatementBelow : Statement → Type 0
+    StatementBelow Skip = Unit {0}
+    StatementBelow (Set x e) = (x < count) × ExpressionBelow e count
+    StatementBelow (If e a c) = ExpressionBelow e count × BlockBelow a × BlockBelow c
+    StatementBelow (While e a) = ExpressionBelow e count × BlockBelow a
+    StatementBelow (Choice w a c) = BlockBelow a × BlockBelow c
+    StatementBelow (Choose arms) = ArmsBelow arms
+    StatementBelow (Uniform x e) = (x < count) × ExpressionBelow e count
+    StatementBelow (Observe e) = ExpressionBelow e count
+
+    pub BlockBelow : Statements → Type 0
+    BlockBelow done = Unit {0}
+    BlockBelow (s ▸ b) = StatementBelow s × BlockBelow b
+
+    pub ArmsBelow : ArmList → Type 0
+    ArmsBelow no_arm = Unit {0}
+    ArmsBelow (arm p b arms) = BlockBelow b × ArmsBelow arms
+
+-- below the count of the names
+pub record VariablesBelow (p : Source) : Type 0 where
+  pub body : BlockBelow (length p.names) p.body
+  pub result : ExpressionBelow p.result (length p.names)
+
+-- each number has 64 bits
+abbrev pub ExpressionFits : Expression → Type 0
+ExpressionFits (Num z) = IsTrue (fits_64 z)
+ExpressionFits (Truth b) = Unit {0}
+ExpressionFits (Var x) = Unit {0}
+ExpressionFits (Neg a) = ExpressionFits a
+ExpressionFits (Not a) = ExpressionFits a
+ExpressionFits (Bin op a b) = ExpressionFits a × ExpressionFits b
+
+abbrev mutual
+  pub StatementFits : Statement → Type 0
+  StatementFits Skip = Unit {0}
+  StatementFits (Set x e) = ExpressionFits e
+  StatementFits (If e a c) = ExpressionFits e × BlockFits a × BlockFits c
+  StatementFits (While e a) = ExpressionFits e × BlockFits a
+  StatementFits (Choice w a c) = BlockFits a × BlockFits c
+  StatementFits (Choose arms) = ArmsFit arms
+  StatementFits (Uniform x e) = ExpressionFits e
+  StatementFits (Observe e) = ExpressionFits e
+
+  pub BlockFits : Statements → Type 0
+  BlockFits done = Unit {0}
+  BlockFits (s ▸ b) = StatementFits s × BlockFits b
+
+  pub ArmsFit : ArmList → Type 0
+  ArmsFit no_arm = Unit {0}
+  ArmsFit (arm p b arms) = BlockFits b × ArmsFit arms
+
+pub record NumbersFit (p : Source) : Type 0 where
+  pub body : BlockFits p.body
+  pub result : ExpressionFits p.result
+
+-- a weight is at most 1, over a number from 1 to the greatest denominator
+pub record IsWeight (w : Weight) : Type 0 where
+  pub at_most_one : w.num ≤ w.den
+  pub positive : 1 ≤ w.den
+  pub coarse : w.den ≤ GREATEST_DENOMINATOR
+
+-- a fact of each weight, and one of the parts of each choice among several
+module _ (Fact : Weight → Type 0) (PartsFact : List ℕ → Type 0) where
+  abbrev mutual
+    pub StatementWeights : Statement → Type 0
+    StatementWeights Skip = Unit {0}
+    StatementWeights (Set x e) = Unit {0}
+    StatementWeights (If e a c) = BlockWeights a × BlockWeights c
+    StatementWeights (While e a) = BlockWeights a
+    StatementWeights (Choice w a c) = Fact w × BlockWeights a × BlockWeights c
+    StatementWeights (Choose arms) = PartsFact (parts_of arms) × ArmsWeights arms
+    StatementWeights (Uniform x e) = Unit {0}
+    StatementWeights (Observe e) = Unit {0}
+
+    pub BlockWeights : Statements → Type 0
+    BlockWeights done = Unit {0}
+    BlockWeights (s ▸ b) = StatementWeights s × BlockWeights b
+
+    pub ArmsWeights : ArmList → Type 0
+    ArmsWeights no_arm = Unit {0}
+    ArmsWeights (arm p b arms) = BlockWeights b × ArmsWeights arms
+
+-- each draw is by a weight, or by parts, as they have to be
+abbrev pub StatementIsWeighed : Statement → Type 0
+StatementIsWeighed = StatementWeights IsWeight AreParts
+
+abbrev pub BlockIsWeighed : Statements → Type 0
+BlockIsWeighed = BlockWeights IsWeight AreParts
+
+abbrev pub ArmsAreWeighed : ArmList → Type 0
+ArmsAreWeighed = ArmsWeights IsWeight AreParts
+
+-- each choice among several has as many arms as it may have
+abbrev pub BlockCounted : Statements → Type 0
+BlockCounted = BlockWeights (λ w. Unit {0}) HaveArmCount

@@ -1,0 +1,22 @@
+-- Texts: their pieces and words, the program that these derive, which programs are accepted, and how they are printed.
+pub mod Names
+pub mod Levels
+pub mod Pieces
+pub mod Tokens
+pub mod Lexing
+pub mod Spans
+pub mod Offsets
+pub mod Words
+pub mod Grammar
+pub mod Places
+pub mod Derivation
+pub mod Nesting
+pub mod GrammarRefusal
+pub mod NoNegative
+pub mod Kinds
+pub mod Targets
+pub mod ReadingOrder
+pub mod Acceptance
+pub mod Marks
+pub mod Canonical
+pub mod Texts
