@@ -89,7 +89,7 @@ pub(crate) fn value_of_term(t: &Term, vars: &[i64]) -> Result<i64, Fault>
 }
 
 // The value of one operator on two terms, or the first fault.
-#[inline(always)]
+#[inline(never)]
 pub(crate) fn value_of_joined(op: BinOp, t: &Term, u: &Term, vars: &[i64]) -> Result<i64, Fault>
     requires left { TermReads t.now (length vars.now) }
     requires right { TermReads u.now (length vars.now) }
