@@ -5,8 +5,6 @@ mod auditing;
 mod audits;
 mod laws;
 mod rows;
-#[cfg(test)]
-mod tests;
 mod walking;
 
 pub use auditing::{MOST_DEPTH, audit};

@@ -5,8 +5,6 @@ mod hunter;
 mod hunting;
 mod laws;
 mod streams;
-#[cfg(test)]
-mod tests;
 mod working;
 
 pub use hunting::hunt;

@@ -9,8 +9,6 @@ mod small_counts;
 mod streams;
 mod table;
 mod tallying;
-#[cfg(test)]
-mod tests;
 mod working;
 
 pub use laws::{code_counts_as_program, ranges_add_up};

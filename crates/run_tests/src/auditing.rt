@@ -1,33 +1,18 @@
-// Audits of programs, and what threads are lent.
+// Audits by real threads.
 
-use crate::{Audit, AuditRows, MOST_DEPTH, audit};
-use gcl_check::check;
-use gcl_core::{Checked, Limit, Limits, Outcome};
-use gcl_lex::lex;
-use gcl_parse::parse;
-use sampler_run::compile;
-use std::alloc::{AllocError, Global};
-use std::marker::{Send, Sync};
+use crate::programs::{GEOMETRIC, LIMITS, TWO_THIRDS, sampler};
+use audit_walk::{Audit, AuditRows, MOST_DEPTH, audit};
+use gcl_core::{Limit, Limits, Outcome};
+use std::alloc::Global;
 use std::test::Fail;
 use std::thread::Threads;
 
-const TWO_THIRDS: &str = "choice 2/3 { x := 1; } or { x := 2; } return x;";
-
 const TWO_COINS: &str = "x ~ uniform(2); y ~ uniform(2); observe x = 1 or y = 1; return x + y;";
-
-const GEOMETRIC: &str =
-    "go := 1; while go = 1 { choice 1/2 { x := x + 1; } or { go := 0; } } return x;";
 
 const REVERSED: &str = "a ~ uniform(2); b ~ uniform(4); return 2 * b + a;";
 
 const EIGHT_AND_HEADS: &str =
     "a ~ uniform(6); b ~ uniform(6); observe a + b = 8; heads := 0; while heads = 0 { heads ~ uniform(2); } return a;";
-
-const ALL: Limits = Limits {
-    turns: 1000,
-    attempts: 1000,
-    rounds: 1000,
-};
 
 struct Case {
     text: &'static str,
@@ -40,21 +25,21 @@ struct Case {
 const CASES: [Case; 9] = [
     Case {
         text: "return 7;",
-        limits: ALL,
+        limits: LIMITS,
         depth: 0,
         rows: &[(Outcome::Value(7), 1)],
         undecided: 0,
     },
     Case {
         text: TWO_THIRDS,
-        limits: ALL,
+        limits: LIMITS,
         depth: 0,
         rows: &[],
         undecided: 1,
     },
     Case {
         text: TWO_THIRDS,
-        limits: ALL,
+        limits: LIMITS,
         depth: 3,
         rows: &[(Outcome::Value(1), 5), (Outcome::Value(2), 2)],
         undecided: 1,
@@ -76,7 +61,7 @@ const CASES: [Case; 9] = [
     },
     Case {
         text: TWO_COINS,
-        limits: ALL,
+        limits: LIMITS,
         depth: 2,
         rows: &[(Outcome::Value(1), 2), (Outcome::Value(2), 1)],
         undecided: 1,
@@ -113,7 +98,7 @@ const CASES: [Case; 9] = [
     },
     Case {
         text: GEOMETRIC,
-        limits: ALL,
+        limits: LIMITS,
         depth: 6,
         rows: &[
             (Outcome::Value(0), 32),
@@ -127,7 +112,7 @@ const CASES: [Case; 9] = [
     },
     Case {
         text: REVERSED,
-        limits: ALL,
+        limits: LIMITS,
         depth: 3,
         rows: &[
             (Outcome::Value(0), 1),
@@ -142,21 +127,6 @@ const CASES: [Case; 9] = [
         undecided: 0,
     },
 ];
-
-fn program(alloc: Global, text: &str) -> Option<Checked> {
-    let bytes = text.as_bytes();
-    let tokens = match lex(alloc, bytes) {
-        Ok(tokens) => tokens,
-        Err(_) => return None,
-    };
-    if tokens.len() > 65_536 {
-        return None;
-    }
-    match parse(alloc, bytes, tokens.as_slice()) {
-        Ok(parsed) => check(parsed.program).ok(),
-        Err(_) => None,
-    }
-}
 
 fn has_rows(rows: &AuditRows, want: &[(Outcome, u64)]) -> bool {
     if rows.count() != want.len() {
@@ -176,31 +146,22 @@ fn audit_of<R: Threads + Sync>(
     text: &str,
     l: Limits,
     depth: u32,
-) -> Result<Option<Audit>, AllocError> {
+) -> Result<Audit, Fail> {
     if l.turns > 1000 || l.attempts > 1000 || l.rounds > 1000 || depth > MOST_DEPTH {
-        return Ok(None);
+        return Err(Fail::from("a number above its range"));
     }
     if l.attempts == 0 || l.rounds == 0 {
-        return Ok(None);
+        return Err(Fail::from("a limit of 0"));
     }
-    match program(alloc, text) {
-        Some(p) => Ok(Some(audit(rt, alloc, &compile(alloc, &p)?, &l, depth)?)),
-        None => Ok(None),
-    }
+    Ok(audit(rt, alloc, &sampler(alloc, text)?, &l, depth)?)
 }
 
-fn is_as_told<R: Threads + Sync>(rt: &R, alloc: Global, case: &Case) -> Result<bool, AllocError> {
-    match audit_of(rt, alloc, case.text, case.limits, case.depth)? {
-        Some(a) => Ok(a.undecided == case.undecided && has_rows(&a.rows, case.rows)),
-        None => Ok(false),
-    }
+fn is_as_told<R: Threads + Sync>(rt: &R, alloc: Global, case: &Case) -> Result<bool, Fail> {
+    let a = audit_of(rt, alloc, case.text, case.limits, case.depth)?;
+    Ok(a.undecided == case.undecided && has_rows(&a.rows, case.rows))
 }
 
-fn all_as_told<R: Threads + Sync>(
-    rt: &R,
-    alloc: Global,
-    cases: &[Case],
-) -> Result<bool, AllocError> {
+fn all_as_told<R: Threads + Sync>(rt: &R, alloc: Global, cases: &[Case]) -> Result<bool, Fail> {
     for case in cases {
         if !is_as_told(rt, alloc, case)? {
             return Ok(false);
@@ -226,23 +187,7 @@ fn sum_of_counts(rows: &AuditRows) -> u64 {
 // An audit at the greatest depth counts each of its 2^20 strings once.
 #[test]
 fn audits_at_the_greatest_depth(rt: HostRuntime) -> Result<(), Fail> {
-    match audit_of(&rt, rt.alloc(), EIGHT_AND_HEADS, ALL, MOST_DEPTH)? {
-        Some(a) => assert!(rt; sum_of_counts(&a.rows).saturating_add(a.undecided) == 1_048_576),
-        None => assert!(rt; false),
-    }
-    Ok(())
-}
-
-fn shared<T: Sync>(_value: &T) {}
-
-fn handed<T: Send + Drop>(_value: T) {}
-
-// An audit may be lent and handed to a thread.
-#[test]
-fn threads_are_lent_audits(rt: HostRuntime) -> Result<(), Fail> {
-    if let Some(a) = audit_of(&rt, rt.alloc(), TWO_THIRDS, ALL, 3)? {
-        shared(&a);
-        handed(a);
-    }
+    let a = audit_of(&rt, rt.alloc(), EIGHT_AND_HEADS, LIMITS, MOST_DEPTH)?;
+    assert!(rt; sum_of_counts(&a.rows).saturating_add(a.undecided) == 1_048_576);
     Ok(())
 }

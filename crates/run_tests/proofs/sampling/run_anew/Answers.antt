@@ -1,7 +1,7 @@
 use Rattle.std.proofs.Common.{[], subst}
 use Rattle.sampler_run.specs.Held.{StandsAfter, set_back}
 use Rattle.sampler_run.proofs.Standing.{stands_then}
-use Rattle.sampler_run.proofs.tests.run_anew.Goals as goal
+use Rattle.run_tests.proofs.sampling.run_anew.Goals as goal
 
 pub returns-clause-stands : goal.returns-clause-stands
 returns-clause-stands c =

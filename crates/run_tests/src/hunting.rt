@@ -1,12 +1,12 @@
-// Hunts by real threads, on words that RFC 8439 publishes: stream 0 begins with the bits 101, and stream 2^57 with the bits 001.
+// Hunts by real threads.
 
-ghost use Rattle.std.specs.Prelude.{◌≡◌};
 ghost use Rattle.tally_range.specs.Ranges.{IsRange, IsWorkers};
 
-use crate::hunt;
-use gcl_check::check;
-use gcl_core::{Block, Checked, Expr, Limits, Names, Outcome, Program, Stmt, TallyKey};
-use sampler_run::{Sampler, compile};
+use crate::programs::{DIE, LIMITS, sampler};
+use crate::ranges::{FAR, streams};
+use gcl_core::{Outcome, TallyKey};
+use hunt_range::hunt;
+use sampler_run::Sampler;
 use std::alloc::{AllocError, Global};
 use std::sync::atomic::AtomicU64;
 use std::sync::atomic::Ordering::SeqCst;
@@ -14,12 +14,6 @@ use std::test::Fail;
 use std::thread::Threads;
 use tally_range::SeedRange;
 use zar_io::{Gate, Open};
-
-const LIMITS: Limits = Limits {
-    turns: 1000,
-    attempts: 1000,
-    rounds: 1000,
-};
 
 // Counts the blocks that are entered.
 #[derive(Drop)]
@@ -33,54 +27,11 @@ impl Gate for Counter {
     }
 }
 
-// `return 5;`
-#[tactic(auto, using(gcl_core::proofs::ViewLemmas::views))]
-fn five(alloc: Global) -> Result<Option<Checked>, AllocError> {
-    Ok(check(Program {
-        names: Names::new(alloc),
-        body: Block {
-            stmts: Vec::new(alloc),
-        },
-        result: Expr::Num(5),
-    })
-    .ok())
-}
-
-// `x ~ uniform(6); return x;`
-#[tactic(auto, using(gcl_core::proofs::ViewLemmas::views))]
-fn die(alloc: Global) -> Result<Option<Checked>, AllocError> {
-    let mut names = Names::new(alloc);
-    names.add(b"x")?;
-    let mut stmts = Vec::new(alloc);
-    stmts.push(Stmt::Uniform(0, Expr::Num(6)))?;
-    Ok(check(Program {
-        names,
-        body: Block { stmts },
-        result: Expr::Var(0),
-    })
-    .ok())
-}
-
-// Streams of seed 0.
-fn streams(from: u64, to: u64, budget: u64, workers: u32) -> SeedRange
-    ensures { result ≡ record { seed = 0; from = from; to = to; budget = budget; workers = workers } }
-{
-    SeedRange {
-        seed: 0,
-        from,
-        to,
-        budget,
-        workers,
-    }
-}
-
 const FIVE: TallyKey = TallyKey::Outcome(Outcome::Value(5));
 
 const ONE: TallyKey = TallyKey::Outcome(Outcome::Value(1));
 
 const NINE: TallyKey = TallyKey::Outcome(Outcome::Value(9));
-
-const FAR: u64 = 0x0200000000000000;
 
 fn finds<R: Threads + Sync>(
     rt: &R,
@@ -121,14 +72,9 @@ fn ends_early<R: Threads + Sync>(rt: &R, alloc: Global, s: &Sampler) -> Result<b
 #[test]
 fn the_least_of_many(rt: HostRuntime) -> Result<(), Fail> {
     let alloc = rt.alloc();
-    match die(alloc)? {
-        Some(die) => {
-            let sampler = compile(alloc, &die)?;
-            assert!(rt; finds_draws(&rt, alloc, &sampler)?);
-            assert!(rt; ends_early(&rt, alloc, &sampler)?);
-        }
-        None => assert!(rt; false),
-    }
+    let die = sampler(alloc, DIE)?;
+    assert!(rt; finds_draws(&rt, alloc, &die)?);
+    assert!(rt; ends_early(&rt, alloc, &die)?);
     Ok(())
 }
 
@@ -152,14 +98,9 @@ fn enters_few<R: Threads + Sync>(
 #[test]
 fn workers_stop_behind_what_they_found(rt: HostRuntime) -> Result<(), Fail> {
     let alloc = rt.alloc();
-    match five(alloc)? {
-        Some(five) => {
-            let sampler = compile(alloc, &five)?;
-            for workers in [1, 4, 64] {
-                assert!(rt; enters_few(&rt, alloc, &sampler, workers)?);
-            }
-        }
-        None => assert!(rt; false),
+    let five = sampler(alloc, "return 5;")?;
+    for workers in [1, 4, 64] {
+        assert!(rt; enters_few(&rt, alloc, &five, workers)?);
     }
     Ok(())
 }
