@@ -19,7 +19,7 @@ use Rattle.zar_cli.specs.declared.said.Said.TheVariants.{Answered}
 use Rattle.zar_cli.specs.Answer.{IsSaid}
 use Rattle.zar_cli.specs.Fits.{names_in, greatest_code, FitsSaid, FitsRefusal}
 use Rattle.zar_cli.specs.Output.{Output, says, reading, on_bits, if_written, if_spelled, IsOutput, SaysOrRunsOut}
-use Rattle.zar_cli.specs.Readings.{InFile, NoneInFile, GivesOnBits, Gives}
+use Rattle.zar_cli.specs.inner.Readings.{InFile, NoneInFile, GivesOnBits, Gives}
 use Rattle.zar_cli.specs.Seen.{FilesSeen, IsQuiet}
 use Rattle.zar_cli.specs.Stages.{CountsRead, MissesOneOf, IsStage}
 use Rattle.zar_cli.specs.Forms.{Word}

@@ -1,13 +1,13 @@
 // Programs whose runs are hunted for a key.
 
-ghost use Rattle.std.specs.Prelude.{◌≡◌, IfOk, Ok};
+ghost use Rattle.std.specs.Prelude.{IfOk, Ok};
 ghost use Rattle.gcl_core.specs.meaning.LimitRange.{InRange};
 ghost use Rattle.gcl_core.specs.meaning.Views.{source_of};
 ghost use Rattle.tally_range.specs.Ranges.{IsRange, IsWorkers};
 ghost use Rattle.zar_cli.specs.declared.command.Command.TheVariants.{Hunt};
 ghost use Rattle.zar_cli.specs.Answer.{IsSaid};
 ghost use Rattle.zar_cli.specs.Hunted.{IsFound};
-ghost use Rattle.zar_cli.specs.Seen.{files_seen};
+ghost use Rattle.zar_cli.specs.Seen.{files_seen, KeepsFiles};
 
 use crate::command::FileName;
 use crate::said::Said;
@@ -58,8 +58,7 @@ pub fn hunt_file<R: Threads + Sync, F: Files, G: Gate>(
     requires workers { IsWorkers range.now.workers }
     ensures said { IsSaid (Ok (Hunt program.now range.now limits.now want.now))
         (files_seen F.told F.file F.may_be_missing F.faults F.is_open files.old files.new) result }
-    ensures same_files { F.file files.new ≡ F.file files.old }
-    ensures same_names { F.may_be_missing files.new ≡ F.may_be_missing files.old }
+    ensures kept { KeepsFiles F.file F.may_be_missing files.old files.new }
 {
     let checked = read_checked(alloc, files, program.text())?;
     let found = found_of(rt, alloc, &checked, range, limits, want, gate)?;

@@ -64,7 +64,7 @@ impl<'a> Options<'a> {
     ghost use Rattle.gcl_core.specs.meaning.LimitRange.{InRange};
     ghost use Rattle.zar_cli.specs.OptionWords.{setting_named, is_given, excludes, if_taken, with_value, limits_of, range_of};
     ghost use Rattle.tally_range.specs.Ranges.{IsRange, IsWorkers};
-    ghost use Rattle.zar_cli.specs.OptionsView.{options_of};
+    ghost use Rattle.zar_cli.specs.inner.OptionsView.{options_of};
 
     fn is_given(&self, setting: Setting) -> bool
         ensures { result ≡ is_given setting (options_of self.now) }

@@ -2,7 +2,7 @@
 
 ghost use Rattle.std.specs.Prelude.{◌≡◌, ◌+◌, ◌^◌, ◌<◌, length, Ok, Err, map, string_bytes, MatchResult};
 ghost use Rattle.zar_cli.specs.OptionWords.{options_from};
-ghost use Rattle.zar_cli.specs.OptionsView.{options_of};
+ghost use Rattle.zar_cli.specs.inner.OptionsView.{options_of};
 
 use crate::options::Options;
 use crate::settings::Verb;

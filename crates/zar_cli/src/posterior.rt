@@ -1,13 +1,13 @@
 // Bounds of the outcomes of a program.
 
-ghost use Rattle.std.specs.Prelude.{◌≡◌, ◌≤◌, Ok};
+ghost use Rattle.std.specs.Prelude.{◌≤◌, Ok};
 ghost use Rattle.gcl_core.specs.meaning.Views.{source_of};
 ghost use Rattle.zar_cli.specs.declared.command.Command.TheVariants.{Posterior};
 ghost use Rattle.gcl_core.specs.declared.rules.TheConstants.{MOST_LIMIT};
 ghost use Rattle.zar_cli.specs.Answer.{IsSaid};
 ghost use Rattle.zar_cli.specs.Posterior.{SaysBounds};
-ghost use Rattle.zar_cli.specs.Readings.{Gives};
-ghost use Rattle.zar_cli.specs.Seen.{files_seen};
+ghost use Rattle.zar_cli.specs.inner.Readings.{Gives};
+ghost use Rattle.zar_cli.specs.Seen.{files_seen, KeepsFiles};
 ghost use Rattle.zar_cli.specs.declared.said.Said.TheVariants.{Shown};
 
 use crate::command::FileName;
@@ -45,8 +45,7 @@ pub fn posterior_file<F: Files>(
 ) -> Result<Said, Refusal>
     requires { turns ≤ MOST_LIMIT }
     ensures said { IsSaid (Ok (Posterior program.now turns)) (files_seen F.told F.file F.may_be_missing F.faults F.is_open files.old files.new) result }
-    ensures same_files { F.file files.new ≡ F.file files.old }
-    ensures same_names { F.may_be_missing files.new ≡ F.may_be_missing files.old }
+    ensures kept { KeepsFiles F.file F.may_be_missing files.old files.new }
 {
     let checked = read_checked(alloc, files, program.text())?;
     let text = bounds_of(alloc, &checked, turns)?;

@@ -3,9 +3,9 @@
 ghost use Rattle.std.specs.Prelude.{◌≡◌, ◌≤◌, [], ◌∷◌, IsTrue, IfOk};
 ghost use Rattle.dice_roll.specs.FastRoll.{fast_roll};
 ghost use Rattle.dice_roll.specs.declared.rules.TheConstants.{LEAST_LABELS, MOST_LABELS, MOST_FLIPS};
-ghost use Rattle.zar_cli.specs.Readings.{GivesOnBits};
+ghost use Rattle.zar_cli.specs.inner.Readings.{GivesOnBits};
 ghost use Rattle.zar_cli.specs.Rolls.{shares_text, weights_text};
-ghost use Rattle.zar_cli.specs.Seen.{files_seen};
+ghost use Rattle.zar_cli.specs.Seen.{files_seen, KeepsFiles};
 ghost use Rattle.zar_cli.specs.Stages.{IsStage, refusal_in};
 ghost use Rattle.zar_io.specs.declared.stream_bits.TheConstants.{MOST_BUDGET};
 ghost use Rattle.zar_io.specs.StreamBits.{stream_bits};
@@ -29,8 +29,7 @@ pub fn roll_on_file<F: Files>(
     requires few { flips ≤ MOST_FLIPS }
     ensures answer { IsTrue F.told → GivesOnBits (fast_roll labels flips) (F.file files.old name.now) result }
     ensures stage { IsStage (name.now ∷ []) 0 (files_seen F.told F.file F.may_be_missing F.faults F.is_open files.old files.new) (refusal_in result) }
-    ensures same_files { F.file files.new ≡ F.file files.old }
-    ensures same_names { F.may_be_missing files.new ≡ F.may_be_missing files.old }
+    ensures kept { KeepsFiles F.file F.may_be_missing files.old files.new }
 {
     match files.open(name) {
         Ok(()) => {}

@@ -1,7 +1,7 @@
 use Rattle.std.proofs.Common.{◌≡◌, ◌+◌, ◌≤◌, ◌∷◌, get_or, map, string_bytes, Ok, Err, Some, MatchResult, sym, subst, ap, ◌∙◌, arith, take, drop, length, length-drop, ◌-◌}
 use Rattle.std.proofs.lemmas.List.{take_all}
 use Rattle.zar_cli.specs.OptionWords.{options_from, setting_named, if_taken, with_value}
-use Rattle.zar_cli.specs.OptionsView.{options_of}
+use Rattle.zar_cli.specs.inner.OptionsView.{options_of}
 use Rattle.zar_cli.proofs.OnePair.{options_go, two_first}
 use Rattle.zar_cli.proofs.pairs.+options_from.Goals as goal
 
