@@ -57,11 +57,7 @@ fn first_above(bound: u64, number: u64, need: u32) -> u32
     ensures above { bound ≤ number / 2 ^ result * 2 ^ result }
     ensures below { number / 2 ^ (result + 1) * 2 ^ (result + 1) < bound }
 {
-    let mut rest = need - 1;
-    while is_below(bound, rest, number >> rest) {
-        rest -= 1;
-    }
-    rest
+    63 - (number ^ (bound - 1)).leading_zeros()
 }
 
 // Some bits of an attempt were read, and another attempt begins.
