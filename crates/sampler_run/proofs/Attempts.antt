@@ -1,6 +1,6 @@
 -- An attempt below a bound that succeeds, on all the bits that it still needs at once.
-use Rattle.std.proofs.Common.{◌≡◌, ℕ, zero, suc, ◌+◌, ◌*◌, ◌^◌, ◌/◌, ◌%◌, ◌-◌, ◌<◌, ◌≤◌, ◌==◌, ℤ, pos, Bool, true, false, List, [], ◌∷◌, ◌++◌, Option, Some, refl, sym, ap, ◌∙◌, subst, arith, lt-ltb, pow-add}
-use Rattle.std.specs.Prelude.{slice_get, nat_lt, min, if◌then◌else◌}
+use Rattle.std.proofs.Common.{◌≡◌, ℕ, zero, suc, ◌+◌, ◌*◌, ◌^◌, ◌/◌, ◌%◌, ◌-◌, ◌<◌, ◌≤◌, ◌==◌, pos, Bool, true, false, List, ◌∷◌, ◌++◌, Some, refl, sym, ap, ◌∙◌, subst, arith, lt-ltb, pow-add}
+use Rattle.std.specs.Prelude.{slice_get, if◌then◌else◌}
 use Rattle.std.proofs.lemmas.Nat.{mul-le, pow_pos}
 use Rattle.std.proofs.Math.Arith.{mod-mul}
 use Rattle.std.proofs.Math.Nat.{div-div-eq-div-mul}
@@ -10,14 +10,13 @@ use Rattle.gcl_core.specs.meaning.Draw.{bit}
 use Rattle.gcl_core.specs.meaning.Runs.{capped}
 use Rattle.zar_io.specs.FileBits.{low_bits}
 use Rattle.sampler_code.specs.Instruction.{Instruction, Range}
-use Rattle.sampler_code.specs.Machine.{Machine, below, Next, goes, asks, act, step, stored, narrowed, retry, draws_on, ranges}
-use Rattle.sampler_code.specs.Running.{Reached}
+use Rattle.sampler_code.specs.Machine.{Machine, below, goes, asks, act, step, stored, narrowed, retry, draws_on, ranges}
 use Rattle.sampler_code.specs.inner.Bounded.{most_steps, rest_of, Answered}
 use Rattle.sampler_run.specs.inner.Resting.{Asks, side}
 use Rattle.sampler_run.specs.inner.Going.{steps_left, to_go}
 use Rattle.sampler_run.specs.inner.Taken.{Takes}
 use Rattle.sampler_run.proofs.Settle.{step_same, bit_same, answered_bit}
-use Rattle.sampler_run.proofs.Takes.{takes_none, takes_more, takes_on, takes_join}
+use Rattle.sampler_run.proofs.Takes.{takes_none, takes_more, takes_join}
 use Rattle.sampler_run.proofs.Words.{needs_rest, silent_most}
 
 -- ---- numbers and their bits

@@ -1,5 +1,5 @@
 -- A draw below a bound, from registers to registers.
-use Rattle.std.proofs.Common.{◌≡◌, ℕ, ◌<◌, ◌≤◌, pos, List, length, refl, sym, ap, ◌∙◌, subst, arith}
+use Rattle.std.proofs.Common.{◌≡◌, ℕ, ◌<◌, ◌≤◌, pos, List, length, sym, ap, ◌∙◌, subst, arith}
 use Rattle.std.specs.Prelude.{◌^◌, slice_get, Some}
 use Rattle.gcl_core.specs.declared.answers.Fault.TheVariants.{BadBound}
 use Rattle.gcl_core.specs.declared.answers.Limits.{Limits}
@@ -23,9 +23,9 @@ use Rattle.sampler_run.specs.declared.trials.Trial.{Trial}
 use Rattle.sampler_run.specs.Views.{machine_of}
 use Rattle.sampler_run.specs.inner.Going.{to_go}
 use Rattle.sampler_run.specs.inner.Ran.{CanRun, HasMoved, MovedTo}
-use Rattle.sampler_run.specs.inner.Resting.{Asks, IsSmall}
+use Rattle.sampler_run.specs.inner.Resting.{IsSmall}
 use Rattle.sampler_run.specs.inner.Taken.{Takes}
-use Rattle.sampler_run.specs.inner.Tried.{at_trial, HasTried, HasBegun, Went}
+use Rattle.sampler_run.specs.inner.Tried.{at_trial, HasTried, HasBegun}
 use Rattle.sampler_run.proofs.Rejections.{step_went, went_answered}
 use Rattle.sampler_run.proofs.Takes.{takes_join}
 
@@ -51,9 +51,11 @@ module _ (code : List Instruction) (l : Limits) (old new : Registers) where
   moved_same next word before after p same stack moved = record {
     takes = subst (λ m. Takes (rest_of code l m) (rest_of code l (machine_of next)) (low_bits before word) (low_bits after word)) same moved.takes;
     moved = then_moved next before after p same moved.moved;
-    turns = moved.turns ∙ ap (λ (m : Machine). length m.turns) same;
-    vars = moved.vars ∙ ap (λ (m : Machine). length m.vars) same;
-    stack = moved.stack ∙ stack;
+    shape = record {
+      turns = moved.shape.turns ∙ ap (λ (m : Machine). length m.turns) same;
+      vars = moved.shape.vars ∙ ap (λ (m : Machine). length m.vars) same;
+      stack = moved.shape.stack ∙ stack;
+    };
     small = moved.small;
   }
 

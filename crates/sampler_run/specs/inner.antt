@@ -1,4 +1,5 @@
 -- Words of proofs and of private contracts. No public definition or clause cites one.
+pub mod Shape
 pub mod Resting
 pub mod Kept
 pub mod Coming

@@ -14,6 +14,7 @@ use Rattle.sampler_run.specs.declared.stepping.Move.{Move}
 use Rattle.sampler_run.specs.declared.stepping.Move.TheVariants as move
 use Rattle.sampler_run.specs.inner.Going.{to_go}
 use Rattle.sampler_run.specs.inner.Resting.{Asks, Rests, IsSmall}
+use Rattle.sampler_run.specs.inner.Shape.{SameShape}
 use Rattle.sampler_run.specs.inner.Taken.{Takes}
 use Rattle.sampler_run.specs.Views.{machine_of}
 
@@ -35,9 +36,7 @@ MovedTo code l old new before after (move.Ended o) = step code l (machine_of new
 pub record HasMoved (code : List Instruction) (l : Limits) (old new : Registers) (word before after : ℕ) (p : Move) : Type 0 where
   pub takes : Takes (rest_of code l (machine_of old)) (rest_of code l (machine_of new)) (low_bits before word) (low_bits after word)
   pub moved : MovedTo code l old new before after p
-  pub turns : length new.turns.items ≡ length old.turns.items
-  pub vars : length new.vars.items ≡ length old.vars.items
-  pub stack : new.stack ≡ old.stack
+  pub shape : SameShape old new
   pub small : IsSmall (machine_of new).drawing
 
 -- it took those of the lowest bits of a word that it needs, and stands where they are used up and it needs one more, or has ended
@@ -46,7 +45,5 @@ pub record HasRun (code : List Instruction) (l : Limits) (old new : Registers) (
   pub rests : Rests (step code l (machine_of new)) p
   pub left : after ≤ before
   pub used_up : p ≡ NeedBit → after ≡ 0
-  pub turns : length new.turns.items ≡ length old.turns.items
-  pub vars : length new.vars.items ≡ length old.vars.items
-  pub stack : new.stack ≡ old.stack
+  pub shape : SameShape old new
   pub small : IsSmall (machine_of new).drawing

@@ -1,4 +1,4 @@
-use Rattle.std.proofs.Common.{◌≤◌, ap, arith}
+use Rattle.std.proofs.Common.{ap, arith}
 use Rattle.formula.specs.ReadBack.{expression_in}
 use Rattle.sampler_code.proofs.GreatestDepth.{within_greatest}
 use Rattle.sampler_code.specs.Machine.{goes, first_attempt}

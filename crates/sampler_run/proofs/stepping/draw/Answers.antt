@@ -1,4 +1,4 @@
-use Rattle.sampler_run.proofs.Draws.{can_same, moved_same}
+use Rattle.sampler_run.proofs.Draws.{can_same}
 use Rattle.sampler_run.proofs.stepping.draw.Goals as goal
 
 pub draw_from-requires-clause-can : goal.draw_from-requires-clause-can

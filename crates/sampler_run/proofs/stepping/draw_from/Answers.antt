@@ -28,9 +28,7 @@ returns-in-Number c =
     record {
       takes = number_takes code l x b m w c.args.left.now t u h n c.in-Number.number e.stored hand;
       moved = number_less code l x b m w c.args.left.now t u h n c.in-Number.number e.stored hand;
-      turns = e.turns;
-      vars = e.vars;
-      stack = e.stack;
+      shape = record { turns = e.shape.turns; vars = e.shape.vars; stack = e.shape.stack };
       small = subst (λ (n : Machine). IsSmall n.drawing) (sym e.stored) tt;
     }
 
@@ -50,9 +48,7 @@ returns-in-NeedBit c =
     record {
       takes = need_takes code l x b m w c.args.left.now t u h hand;
       moved = (hand.1, hand.2);
-      turns = refl;
-      vars = refl;
-      stack = refl;
+      shape = record { turns = refl; vars = refl; stack = refl };
       small = (h.bound.0, h.bound.1, subst (λ o. IsSmallTrial b u o) c.in-NeedBit.is c.attempts-came.ensures.small);
     }
 
@@ -72,8 +68,6 @@ returns-in-TriedOut c =
     record {
       takes = out_takes code l x b m w c.args.left.now t u h hand;
       moved = hand.1;
-      turns = refl;
-      vars = refl;
-      stack = refl;
+      shape = record { turns = refl; vars = refl; stack = refl };
       small = (h.bound.0, h.bound.1, subst (λ o. IsSmallTrial b u o) c.in-TriedOut.is c.attempts-came.ensures.small);
     }

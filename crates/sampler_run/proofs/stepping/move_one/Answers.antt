@@ -26,8 +26,6 @@ returns c =
     record {
       takes = moved_takes code l c.args.m.now c.do_one.new.m c.args.word c.args.left.now c.do_one.new.left c.do_one.result c.requires.can.answered led;
       moved = moved_to code l c.args.m.now c.do_one.new.m c.args.word c.args.left.now c.do_one.new.left c.do_one.result c.requires.can.answered led;
-      turns = e.turns;
-      vars = e.vars;
-      stack = e.stack;
+      shape = e.shape;
       small = e.small;
     }

@@ -1,18 +1,17 @@
-use Rattle.std.proofs.Common.{◌≤◌, ◌∙◌, refl, sym, subst, length, arith}
+use Rattle.std.proofs.Common.{◌≤◌, refl, sym, subst, length, arith}
 use Rattle.zar_io.specs.FileBits.{low_bits}
 use Rattle.sampler_code.specs.Depths.{greatest_depth}
 use Rattle.sampler_code.specs.Sound.{Sound}
 use Rattle.sampler_run.specs.Views.{machine_of}
 use Rattle.sampler_run.proofs.Settle.{within}
+use Rattle.sampler_run.proofs.Shapes.{own_shape, shape_join}
 use Rattle.sampler_run.proofs.Takes.{takes_none, takes_join}
 use Rattle.sampler_run.proofs.Words.{fewer, taken_answered}
 use Rattle.sampler_run.proofs.stepping.run_on.Goals as goal
 
 pub loop-outcome-init : goal.loop-outcome-init
 loop-outcome-init c = record {
-  turns = refl;
-  vars = refl;
-  stack = refl;
+  shape = own_shape _;
   small = c.requires.small;
   answered = c.requires.answered;
   takes = takes_none _ _ _ (λ v. refl);
@@ -29,8 +28,8 @@ move_on-requires-clause-can c =
     let f = fewer _ _ c.args.left.now c.loop-outcome.left c.args.word i.takes in
     let b = c.requires.bits in
     record {
-      room = subst (λ n. greatest_depth code ≤ n) (sym i.stack) c.requires.room;
-      sound = subst (λ n. Sound code n (length m.vars.items)) (sym i.turns) (subst (λ n. Sound code (length c.args.m.now.turns.items) n) (sym i.vars) c.requires.sound);
+      room = subst (λ n. greatest_depth code ≤ n) (sym i.shape.stack) c.requires.room;
+      sound = subst (λ n. Sound code n (length m.vars.items)) (sym i.shape.turns) (subst (λ n. Sound code (length c.args.m.now.turns.items) n) (sym i.shape.vars) c.requires.sound);
       answered = i.answered;
       small = i.small;
       bits = omega (arith, f, b);
@@ -44,9 +43,7 @@ loop-outcome-preserved c =
     let i = c.loop-outcome.invariant in
     let e = c.in-On.ensures in
     record {
-      turns = e.turns ∙ i.turns;
-      vars = e.vars ∙ i.vars;
-      stack = e.stack ∙ i.stack;
+      shape = shape_join _ _ _ i.shape e.shape;
       small = e.small;
       answered = taken_answered c.args.code.now.instrs c.args.limits.now (machine_of c.loop-outcome.m) (machine_of c.move_on.new.m) _ _ i.answered e.takes;
       takes = takes_join _ _ _ _ _ _ i.takes e.takes;
@@ -62,9 +59,7 @@ returns-in-NeedBit c =
       rests = e.moved.0;
       left = fewer _ _ c.args.left.now c.move_on.new.left c.args.word t;
       used_up = λ h. e.moved.1;
-      turns = e.turns ∙ i.turns;
-      vars = e.vars ∙ i.vars;
-      stack = e.stack ∙ i.stack;
+      shape = shape_join _ _ _ i.shape e.shape;
       small = e.small;
     }
 
@@ -78,8 +73,6 @@ returns-in-Ended c =
       rests = e.moved;
       left = fewer _ _ c.args.left.now c.move_on.new.left c.args.word t;
       used_up = λ h. absurd (cc);
-      turns = e.turns ∙ i.turns;
-      vars = e.vars ∙ i.vars;
-      stack = e.stack ∙ i.stack;
+      shape = shape_join _ _ _ i.shape e.shape;
       small = e.small;
     }

@@ -21,14 +21,14 @@ invariant_of-self c =
     record {
       kept = record {
         sound = k.sound;
-        turns = a.turns ∙ c.begin.ensures.turns ∙ k.turns;
-        vars = a.vars ∙ c.begin.ensures.vars ∙ k.vars;
+        turns = a.shape.turns ∙ c.begin.ensures.shape.turns ∙ k.turns;
+        vars = a.shape.vars ∙ c.begin.ensures.shape.vars ∙ k.vars;
         answered = answered_as c.self.inside.code.now.instrs c.self.inside.limits (machine_of c.begin.new.self) (machine_of c.settle-self-inside.new.m) begun a.same;
         from_start = k.from_start;
         rests = a.rests;
         small = a.small;
       };
-      room = subst (λ n. greatest_depth c.self.inside.code.now.instrs ≤ n) (sym (a.stack ∙ c.begin.ensures.stack)) c.self.invariant.room;
+      room = subst (λ n. greatest_depth c.self.inside.code.now.instrs ≤ n) (sym (a.shape.stack ∙ c.begin.ensures.shape.stack)) c.self.invariant.room;
     }
 
 pub returns-clause-rest : goal.returns-clause-rest
@@ -43,4 +43,4 @@ returns-clause-rest c =
     (λ v. c.settle-self-inside.ensures.same v ∙ ap (λ m. rest_of code l m v) c.begin.ensures.start))
 
 pub settle-self-inside-requires-clause-room : goal.settle-self-inside-requires-clause-room
-settle-self-inside-requires-clause-room c = subst (λ n. greatest_depth c.self.inside.code.now.instrs ≤ n) (sym c.begin.ensures.stack) c.self.invariant.room
+settle-self-inside-requires-clause-room c = subst (λ n. greatest_depth c.self.inside.code.now.instrs ≤ n) (sym c.begin.ensures.shape.stack) c.self.invariant.room

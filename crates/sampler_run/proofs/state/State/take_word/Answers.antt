@@ -19,14 +19,14 @@ invariant_of-self c =
     record {
       kept = record {
         sound = k.sound;
-        turns = a.turns ∙ k.turns;
-        vars = a.vars ∙ k.vars;
+        turns = a.shape.turns ∙ k.turns;
+        vars = a.shape.vars ∙ k.vars;
         answered = taken_answered c.self.inside.code.now.instrs c.self.inside.limits (machine_of c.self.inside.m) (machine_of c.run_held-progress.new.m) _ _ k.answered a.takes;
         from_start = k.from_start;
         rests = a.rests;
         small = a.small;
       };
-      room = subst (λ n. greatest_depth c.self.inside.code.now.instrs ≤ n) (sym a.stack) c.self.invariant.room;
+      room = subst (λ n. greatest_depth c.self.inside.code.now.instrs ≤ n) (sym a.shape.stack) c.self.invariant.room;
     }
 
 pub returns-clause-used_up : goal.returns-clause-used_up
