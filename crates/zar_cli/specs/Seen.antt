@@ -16,11 +16,6 @@ abbrev pub files_seen : {F : Type 0} → Bool → (F → Word → Option (List �
 files_seen told file may_be_missing faults is_open old new =
     record { told = told; file = file old; may_be_missing = may_be_missing old; faults = faults old; faults_now = faults new; open_now = is_open new }
 
--- after a call the files hold the same bytes by each name, and the same names may be missing
-pub record KeepsFiles {F : Type 0} (file : F → Word → Option (List ℕ)) (may_be_missing : F → Word → Bool) (old new : F) : Type 0 where
-  pub same_files : file new ≡ file old
-  pub same_names : may_be_missing new ≡ may_be_missing old
-
 -- a sink: whether it tells what was written, the faults counted, and the bytes written
 pub record SinkSeen : Type 0 where
   pub told : Bool

@@ -1,3 +1,4 @@
 -- Words of proofs and of private contracts. No public definition or clause cites one.
+pub mod Kept
 pub mod OptionsView
 pub mod Readings

@@ -7,7 +7,8 @@ ghost use Rattle.tally_range.specs.Ranges.{IsRange, IsWorkers};
 ghost use Rattle.zar_cli.specs.declared.command.Command.TheVariants.{Hunt};
 ghost use Rattle.zar_cli.specs.Answer.{IsSaid};
 ghost use Rattle.zar_cli.specs.Hunted.{IsFound};
-ghost use Rattle.zar_cli.specs.Seen.{files_seen, KeepsFiles};
+ghost use Rattle.zar_cli.specs.Seen.{files_seen};
+ghost use Rattle.zar_cli.specs.inner.Kept.{KeepsFiles};
 
 use crate::command::FileName;
 use crate::said::Said;

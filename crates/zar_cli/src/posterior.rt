@@ -7,7 +7,8 @@ ghost use Rattle.gcl_core.specs.declared.rules.TheConstants.{MOST_LIMIT};
 ghost use Rattle.zar_cli.specs.Answer.{IsSaid};
 ghost use Rattle.zar_cli.specs.Posterior.{SaysBounds};
 ghost use Rattle.zar_cli.specs.inner.Readings.{Gives};
-ghost use Rattle.zar_cli.specs.Seen.{files_seen, KeepsFiles};
+ghost use Rattle.zar_cli.specs.Seen.{files_seen};
+ghost use Rattle.zar_cli.specs.inner.Kept.{KeepsFiles};
 ghost use Rattle.zar_cli.specs.declared.said.Said.TheVariants.{Shown};
 
 use crate::command::FileName;
