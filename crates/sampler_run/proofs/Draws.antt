@@ -12,7 +12,7 @@ use Rattle.gcl_core.specs.meaning.Value.{value_of}
 use Rattle.zar_io.specs.FileBits.{low_bits}
 use Rattle.sampler_code.specs.Depths.{greatest_depth}
 use Rattle.sampler_code.specs.Instruction.{Instruction, Range}
-use Rattle.sampler_code.specs.Machine.{idle, below, Machine, goes, ends, act, step, stored, first_attempt, ranges, on_value_next}
+use Rattle.sampler_code.specs.Machine.{Drawing, idle, below, Machine, goes, ends, act, step, stored, first_attempt, ranges, on_value_next}
 use Rattle.sampler_code.specs.Sound.{Sound}
 use Rattle.sampler_code.specs.inner.Bounded.{rest_of, Answered}
 use Rattle.sampler_run.specs.declared.machine.Registers.{Registers}
@@ -23,7 +23,6 @@ use Rattle.sampler_run.specs.declared.trials.Trial.{Trial}
 use Rattle.sampler_run.specs.Views.{machine_of}
 use Rattle.sampler_run.specs.inner.Going.{to_go}
 use Rattle.sampler_run.specs.inner.Ran.{CanRun, HasMoved, MovedTo}
-use Rattle.sampler_run.specs.inner.Resting.{IsSmall}
 use Rattle.sampler_run.specs.inner.Taken.{Takes}
 use Rattle.sampler_run.specs.inner.Tried.{at_trial, HasTried, HasBegun}
 use Rattle.sampler_run.proofs.Rejections.{step_went, went_answered}
@@ -37,7 +36,6 @@ module _ (code : List Instruction) (l : Limits) (old new : Registers) where
     room = subst (λ n. greatest_depth code ≤ n) (sym stack) can.room;
     sound = subst (λ (m : Machine). Sound code (length m.turns) (length m.vars)) (sym same) can.sound;
     answered = subst (λ m. Answered code l m) (sym same) can.answered;
-    small = subst (λ (m : Machine). IsSmall m.drawing) (sym same) can.small;
     bits = can.bits;
   }
 
@@ -56,8 +54,11 @@ module _ (code : List Instruction) (l : Limits) (old new : Registers) where
       vars = moved.shape.vars ∙ ap (λ (m : Machine). length m.vars) same;
       stack = moved.shape.stack ∙ stack;
     };
-    small = moved.small;
   }
+
+-- the machine of a draw that is at an attempt
+pub stands_at : (m : Machine) (b : ℕ) (t : Trial) (d : Drawing) → d ≡ below b t.need t.low → (let n : Machine = record m { tries = t.tries; used = t.used; drawing = d } in n) ≡ at_trial m b t
+stands_at m b t d is = ap (λ (d : Drawing). let n : Machine = record m { tries = t.tries; used = t.used; drawing = d } in n) is
 
 -- ---- the attempt at which it begins
 

@@ -6,7 +6,7 @@ use Rattle.sampler_code.specs.Sound.{Sound}
 use Rattle.sampler_code.specs.inner.Bounded.{Answered}
 use Rattle.sampler_run.specs.declared.machine.Progress.{Progress}
 use Rattle.sampler_run.specs.Held.{Held}
-use Rattle.sampler_run.specs.inner.Resting.{Rests, IsSmall}
+use Rattle.sampler_run.specs.inner.Resting.{Rests}
 
 pub record KeptState (s : Held) (loops count : ℕ) (p : Progress) : Type 0 where
   pub sound : Sound s.code loops count
@@ -15,4 +15,3 @@ pub record KeptState (s : Held) (loops count : ℕ) (p : Progress) : Type 0 wher
   pub answered : Answered s.code s.limits s.machine
   pub from_start : Answered s.code s.limits (start count loops s.limits)
   pub rests : Rests (step s.code s.limits s.machine) p
-  pub small : IsSmall s.machine.drawing

@@ -13,7 +13,7 @@ use Rattle.sampler_run.specs.declared.machine.Registers.{Registers}
 use Rattle.sampler_run.specs.declared.stepping.Move.{Move}
 use Rattle.sampler_run.specs.declared.stepping.Move.TheVariants as move
 use Rattle.sampler_run.specs.inner.Going.{to_go}
-use Rattle.sampler_run.specs.inner.Resting.{Asks, Rests, IsSmall}
+use Rattle.sampler_run.specs.inner.Resting.{Asks, Rests}
 use Rattle.sampler_run.specs.inner.Shape.{SameShape}
 use Rattle.sampler_run.specs.inner.Taken.{Takes}
 use Rattle.sampler_run.specs.Views.{machine_of}
@@ -23,7 +23,6 @@ pub record CanRun (code : List Instruction) (l : Limits) (m : Registers) (count 
   pub room : greatest_depth code ≤ m.stack
   pub sound : Sound code (length m.turns.items) (length m.vars.items)
   pub answered : Answered code l (machine_of m)
-  pub small : IsSmall (machine_of m).drawing
   pub bits : count ≤ 64
 
 -- where it went: on, with less to go; or to rest
@@ -37,7 +36,6 @@ pub record HasMoved (code : List Instruction) (l : Limits) (old new : Registers)
   pub takes : Takes (rest_of code l (machine_of old)) (rest_of code l (machine_of new)) (low_bits before word) (low_bits after word)
   pub moved : MovedTo code l old new before after p
   pub shape : SameShape old new
-  pub small : IsSmall (machine_of new).drawing
 
 -- it took those of the lowest bits of a word that it needs, and stands where they are used up and it needs one more, or has ended
 pub record HasRun (code : List Instruction) (l : Limits) (old new : Registers) (word before after : ℕ) (p : Progress) : Type 0 where
@@ -46,4 +44,3 @@ pub record HasRun (code : List Instruction) (l : Limits) (old new : Registers) (
   pub left : after ≤ before
   pub used_up : p ≡ NeedBit → after ≡ 0
   pub shape : SameShape old new
-  pub small : IsSmall (machine_of new).drawing

@@ -1,7 +1,7 @@
 use Rattle.std.proofs.Common.{ℕ, ◌∙◌, sym, ap}
 use Rattle.formula.specs.ReadBack.{expression_in}
 use Rattle.gcl_core.specs.meaning.Draw.{bits_for}
-use Rattle.sampler_code.specs.Machine.{Machine, below, goes, first_attempt, ranges}
+use Rattle.sampler_code.specs.Machine.{Machine, Drawing, below, goes, first_attempt, ranges}
 use Rattle.sampler_run.specs.Views.{drawing_of, machine_of}
 use Rattle.sampler_run.proofs.machine.range.Goals as goal
 
@@ -14,7 +14,7 @@ returns-in-Ok-clause-led c =
     ap (λ d. ranges l c.args.x (expression_in c.args.e.now) m d) (ap drawing_of c.in-Idle.is)
     ∙ c.in-Ok.ensures.bound (λ b. goes (first_attempt l m b))
     ∙ ap (λ (m : Machine). goes (record m { tries = l.attempts; drawing = below b (bits_for b) 0 })) (sym c.bound_for.ensures.same)
-    ∙ ap (λ (k : ℕ). goes (record n { tries = l.attempts; drawing = below b k 0 })) (sym c.bits_for.ensures.value)
+    ∙ ap (λ (d : Drawing). goes (record n { tries = l.attempts; drawing = d })) (sym c.first_attempt-m.ensures)
 
 pub returns-in-Err-clause-led : goal.returns-in-Err-clause-led
 returns-in-Err-clause-led c =

@@ -1,10 +1,15 @@
-use Rattle.std.proofs.Common.{refl, sym, subst}
+use Rattle.std.proofs.Common.{◌≡◌, refl, sym, subst}
+use Rattle.zar_io.specs.FileBits.{low_bits}
 use Rattle.formula.specs.ReadBack.{expression_in}
-use Rattle.sampler_code.specs.Machine.{Machine}
+use Rattle.gcl_core.specs.declared.answers.Limit.TheVariants.{Attempts}
+use Rattle.gcl_core.specs.declared.answers.Outcome.TheVariants as outcome
+use Rattle.sampler_code.specs.Machine.{ends, step}
+use Rattle.sampler_code.specs.inner.Bounded.{rest_of}
 use Rattle.sampler_run.specs.Views.{machine_of}
-use Rattle.sampler_run.specs.inner.Resting.{IsSmall}
+use Rattle.sampler_run.specs.inner.Resting.{Asks}
+use Rattle.sampler_run.specs.inner.Taken.{Takes}
 use Rattle.sampler_run.specs.inner.Tried.{HasTried, IsSmallTrial}
-use Rattle.sampler_run.proofs.Draws.{number_takes, number_less, need_takes, out_takes, begun_answered}
+use Rattle.sampler_run.proofs.Draws.{number_takes, number_less, need_takes, out_takes, begun_answered, stands_at}
 use Rattle.sampler_run.proofs.stepping.draw_from.Goals as goal
 
 pub store_number-requires-clause-place : goal.store_number-requires-clause-place
@@ -29,7 +34,6 @@ returns-in-Number c =
       takes = number_takes code l x b m w c.args.left.now t u h n c.in-Number.number e.stored hand;
       moved = number_less code l x b m w c.args.left.now t u h n c.in-Number.number e.stored hand;
       shape = record { turns = e.shape.turns; vars = e.shape.vars; stack = e.shape.stack };
-      small = subst (λ (n : Machine). IsSmall n.drawing) (sym e.stored) tt;
     }
 
 pub returns-in-NeedBit : goal.returns-in-NeedBit
@@ -45,11 +49,11 @@ returns-in-NeedBit c =
     let h = c.requires.begun in
     let tried = c.attempts-came.ensures.tried code l x (expression_in c.args.e.now) m c.requires.at (begun_answered code l x b m w c.args.left.now t u h c.requires.can.answered) in
     let hand = subst (λ o. HasTried code l x b m w t u o) c.in-NeedBit.is tried in
+    let here = sym (stands_at m b u _ c.under_way-m.ensures) in
     record {
-      takes = need_takes code l x b m w c.args.left.now t u h hand;
-      moved = (hand.1, hand.2);
+      takes = subst (λ n. Takes (rest_of code l m) (rest_of code l n) (low_bits c.args.left.now w) (low_bits u.left w)) here (need_takes code l x b m w c.args.left.now t u h hand);
+      moved = (subst (λ n. Asks (step code l n)) here hand.1, hand.2);
       shape = record { turns = refl; vars = refl; stack = refl };
-      small = (h.bound.0, h.bound.1, subst (λ o. IsSmallTrial b u o) c.in-NeedBit.is c.attempts-came.ensures.small);
     }
 
 pub returns-in-TriedOut : goal.returns-in-TriedOut
@@ -65,9 +69,9 @@ returns-in-TriedOut c =
     let h = c.requires.begun in
     let tried = c.attempts-came.ensures.tried code l x (expression_in c.args.e.now) m c.requires.at (begun_answered code l x b m w c.args.left.now t u h c.requires.can.answered) in
     let hand = subst (λ o. HasTried code l x b m w t u o) c.in-TriedOut.is tried in
+    let here = sym (stands_at m b u _ c.under_way-m-in-TriedOut.ensures) in
     record {
-      takes = out_takes code l x b m w c.args.left.now t u h hand;
-      moved = hand.1;
+      takes = subst (λ n. Takes (rest_of code l m) (rest_of code l n) (low_bits c.args.left.now w) (low_bits u.left w)) here (out_takes code l x b m w c.args.left.now t u h hand);
+      moved = subst (λ n. step code l n ≡ ends (outcome.Limit Attempts)) here hand.1;
       shape = record { turns = refl; vars = refl; stack = refl };
-      small = (h.bound.0, h.bound.1, subst (λ o. IsSmallTrial b u o) c.in-TriedOut.is c.attempts-came.ensures.small);
     }

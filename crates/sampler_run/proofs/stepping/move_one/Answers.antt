@@ -27,5 +27,4 @@ returns c =
       takes = moved_takes code l c.args.m.now c.do_one.new.m c.args.word c.args.left.now c.do_one.new.left c.do_one.result c.requires.can.answered led;
       moved = moved_to code l c.args.m.now c.do_one.new.m c.args.word c.args.left.now c.do_one.new.left c.do_one.result c.requires.can.answered led;
       shape = e.shape;
-      small = e.small;
     }

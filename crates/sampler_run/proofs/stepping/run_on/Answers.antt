@@ -12,7 +12,6 @@ use Rattle.sampler_run.proofs.stepping.run_on.Goals as goal
 pub loop-outcome-init : goal.loop-outcome-init
 loop-outcome-init c = record {
   shape = own_shape _;
-  small = c.requires.small;
   answered = c.requires.answered;
   takes = takes_none _ _ _ (λ v. refl);
 }
@@ -31,7 +30,6 @@ move_on-requires-clause-can c =
       room = subst (λ n. greatest_depth code ≤ n) (sym i.shape.stack) c.requires.room;
       sound = subst (λ n. Sound code n (length m.vars.items)) (sym i.shape.turns) (subst (λ n. Sound code (length c.args.m.now.turns.items) n) (sym i.shape.vars) c.requires.sound);
       answered = i.answered;
-      small = i.small;
       bits = omega (arith, f, b);
     }
 
@@ -44,7 +42,6 @@ loop-outcome-preserved c =
     let e = c.in-On.ensures in
     record {
       shape = shape_join _ _ _ i.shape e.shape;
-      small = e.small;
       answered = taken_answered c.args.code.now.instrs c.args.limits.now (machine_of c.loop-outcome.m) (machine_of c.move_on.new.m) _ _ i.answered e.takes;
       takes = takes_join _ _ _ _ _ _ i.takes e.takes;
     }
@@ -60,7 +57,6 @@ returns-in-NeedBit c =
       left = fewer _ _ c.args.left.now c.move_on.new.left c.args.word t;
       used_up = λ h. e.moved.1;
       shape = shape_join _ _ _ i.shape e.shape;
-      small = e.small;
     }
 
 pub returns-in-Ended : goal.returns-in-Ended
@@ -74,5 +70,4 @@ returns-in-Ended c =
       left = fewer _ _ c.args.left.now c.move_on.new.left c.args.word t;
       used_up = λ h. absurd (cc);
       shape = shape_join _ _ _ i.shape e.shape;
-      small = e.small;
     }

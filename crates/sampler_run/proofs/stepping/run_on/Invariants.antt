@@ -1,7 +1,6 @@
 use Rattle.zar_io.specs.FileBits.{low_bits}
 use Rattle.sampler_code.specs.inner.Bounded.{rest_of}
 use Rattle.sampler_code.specs.inner.Bounded.{Answered}
-use Rattle.sampler_run.specs.inner.Resting.{IsSmall}
 use Rattle.sampler_run.specs.inner.Shape.{SameShape}
 use Rattle.sampler_run.specs.inner.Taken.{Takes}
 use Rattle.sampler_run.specs.Views.{machine_of}
@@ -11,7 +10,6 @@ use Rattle.sampler_run.proofs.stepping.run_on.Given as goal
 abbrev pub invariant-loop-outcome : goal.invariant-loop-outcome
 invariant-loop-outcome l = record {
   shape : SameShape l.initial.m l.m;
-  small : IsSmall (machine_of l.m).drawing;
   answered : Answered l.code.instrs l.limits (machine_of l.m);
   takes : Takes (rest_of l.code.instrs l.limits (machine_of l.initial.m)) (rest_of l.code.instrs l.limits (machine_of l.m)) (low_bits l.initial.left l.word) (low_bits l.left l.word);
 }

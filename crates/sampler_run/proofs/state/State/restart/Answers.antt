@@ -26,7 +26,6 @@ invariant_of-self c =
         answered = answered_as c.self.inside.code.now.instrs c.self.inside.limits (machine_of c.begin.new.self) (machine_of c.settle-self-inside.new.m) begun a.same;
         from_start = k.from_start;
         rests = a.rests;
-        small = a.small;
       };
       room = subst (λ n. greatest_depth c.self.inside.code.now.instrs ≤ n) (sym (a.shape.stack ∙ c.begin.ensures.shape.stack)) c.self.invariant.room;
     }

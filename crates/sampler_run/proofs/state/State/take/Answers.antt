@@ -25,7 +25,6 @@ invariant_of-self c =
         answered = answered_bit c.self.inside.code.now.instrs c.self.inside.limits (machine_of c.self.inside.m) (machine_of c.advance-self-inside.new.m) c.args.bit k.answered a.same;
         from_start = k.from_start;
         rests = a.rests;
-        small = a.small;
       };
       room = subst (λ n. greatest_depth c.self.inside.code.now.instrs ≤ n) (sym a.shape.stack) c.self.invariant.room;
     }

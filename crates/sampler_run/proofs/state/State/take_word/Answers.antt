@@ -24,7 +24,6 @@ invariant_of-self c =
         answered = taken_answered c.self.inside.code.now.instrs c.self.inside.limits (machine_of c.self.inside.m) (machine_of c.run_held-progress.new.m) _ _ k.answered a.takes;
         from_start = k.from_start;
         rests = a.rests;
-        small = a.small;
       };
       room = subst (λ n. greatest_depth c.self.inside.code.now.instrs ≤ n) (sym a.shape.stack) c.self.invariant.room;
     }
