@@ -6,7 +6,7 @@ use Rattle.gcl_core.specs.declared.syntax.BinOp.{BinOp}
 use Rattle.gcl_core.specs.declared.syntax.BinOp.TheVariants.{Add, Sub, Mul, Div, Rem, Eq, Ne, Lt, Le, Gt, Ge, And, Or}
 use Rattle.gcl_core.specs.meaning.Syntax.{Expression}
 use Rattle.gcl_core.specs.meaning.Syntax as source
-use Rattle.gcl_core.specs.meaning.Value.{State, Value, value_of, ExpressionBelow, truth_number, is_zero, within_64, applied, short_circuited, ◌>>=◌}
+use Rattle.gcl_core.specs.meaning.Value.{State, Value, value_of, ExpressionBelow, truth_number, is_zero, as_truth, within_64, applied, ◌>>=◌}
 use Rattle.formula.specs.declared.op.Op.{Op}
 use Rattle.formula.specs.declared.op.Op.TheVariants.{Push, Truth, Load, Neg, Not, Bin, AndSkip, OrSkip, Settle}
 use Rattle.formula.specs.Steps.{settling, steps_between, kept, joining, step_count, steps_at, steps_of, depth}
@@ -33,6 +33,17 @@ bind_some (Err fault) = refl
 top_bind : (x : Value) (s : List ℤ) (go : ℕ → List ℤ → Option Value) → after_move (with_top x s) go ≡ bind x (λ v. go 0 (v ∷ s))
 top_bind (Ok v) s go = refl
 top_bind (Err fault) s go = refl
+
+-- from the left operand's value on
+abbrev from_left : BinOp → ℤ → Value → Value
+from_left And x right = if is_zero x then Ok (pos 0) else as_truth right
+from_left Or x right = if is_zero x then as_truth right else Ok (pos 1)
+from_left op x right = right >>= λ y. applied op x y
+
+from_both : (op : BinOp) (a b : Expression) (s : State) → (value_of a s >>= λ x. from_left op x (value_of b s)) ≡ value_of (source.Bin op a b) s
+from_both And a b s = refl
+from_both Or a b s = refl
+from_both _ a b s = refl
 
 module _ (room : ℕ) (vars : State) where
   pub run_drop : (k i : ℕ) (l : List Op) (s : List ℤ) → run room vars i k l s ≡ run room vars (i + k) 0 (drop k l) s
@@ -96,7 +107,7 @@ module _ (room : ℕ) (vars : State) where
   run_right : (op : BinOp) (x : ℤ) (b : Value) (i t n need : ℕ) (B r : List Op) (s : List ℤ) →
       n ≡ t → t ≡ i + steps_between op + length B + 1 → length s + (need + kept op) ≤ room →
       RunsTo b B (i + steps_between op) (i + steps_between op + length B) need →
-      run room vars i 0 (settling op t ++ (B ++ joining op ∷ r)) (x ∷ s) ≡ bind (short_circuited op x (b >>= λ y. applied op x y)) (λ v. run room vars n 0 r (v ∷ s))
+      run room vars i 0 (settling op t ++ (B ++ joining op ∷ r)) (x ∷ s) ≡ bind (from_left op x b) (λ v. run room vars n 0 r (v ∷ s))
   unfolding run
   run_right And (pos zero) b i t n need B r s f e le h =
       ap (λ l. run room vars i 0 (AndSkip t ∷ l) (pos 0 ∷ s)) (sym (append_assoc B (Settle ∷ []) r))
@@ -129,13 +140,13 @@ module _ (room : ℕ) (vars : State) where
       j ≡ i + length A + steps_between op → t ≡ j + length B + 1 → n ≡ t → length s + max need_a (need_b + kept op) ≤ room →
       RunsTo a A i (i + length A) need_a → RunsTo b B j (j + length B) need_b →
       run room vars i 0 (A ++ (settling op t ++ (B ++ joining op ∷ r))) s
-      ≡ bind (a >>= λ x. short_circuited op x (b >>= λ y. applied op x y)) (λ v. run room vars n 0 r (v ∷ s))
+      ≡ bind (a >>= λ x. from_left op x b) (λ v. run room vars n 0 r (v ∷ s))
   run_two op a b A B i j t n na nb r s ej et en le ha hb =
       let hb' : RunsTo b B (i + length A + steps_between op) (i + length A + steps_between op + length B) nb = subst (λ j. RunsTo b B j (j + length B) nb) ej hb in
       ha (settling op t ++ (B ++ joining op ∷ r)) s (omega arith)
-      ∙ bind_same a (λ x. run room vars (i + length A) 0 (settling op t ++ (B ++ joining op ∷ r)) (x ∷ s)) (λ x. bind (short_circuited op x (b >>= λ y. applied op x y)) (λ v. run room vars n 0 r (v ∷ s)))
+      ∙ bind_same a (λ x. run room vars (i + length A) 0 (settling op t ++ (B ++ joining op ∷ r)) (x ∷ s)) (λ x. bind (from_left op x b) (λ v. run room vars n 0 r (v ∷ s)))
       (λ x. run_right op x b (i + length A) t n nb B r s en (omega arith) (omega arith) hb')
-      ∙ bind_bind a (λ x. short_circuited op x (b >>= λ y. applied op x y)) (λ v. run room vars n 0 r (v ∷ s))
+      ∙ bind_bind a (λ x. from_left op x b) (λ v. run room vars n 0 r (v ∷ s))
 
   run_one : (op : Op) (f : ℤ → Value) (a : Value) (A : List Op) (i n need : ℕ) (r : List Op) (s : List ℤ) →
       n ≡ i + length A + 1 → length s + need ≤ room → RunsTo a A i (i + length A) need →
@@ -175,8 +186,10 @@ module _ (room : ℕ) (vars : State) where
       let B = steps_at b j in
       let la = steps_length a i in
       let lb = steps_length b j in
+      let n = i + length (steps_at (source.Bin op a b) i) in
       ap (λ l. run room vars i 0 l s) (regroup A (settling op t) B (joining op) r)
-      ∙ run_two op (value_of a vars) (value_of b vars) A B i j t _ (depth a) (depth b) r s (omega arith) (omega arith) (omega (arith, steps_length (source.Bin op a b) i)) le (runs a i h.0) (runs b j h.1)
+      ∙ run_two op (value_of a vars) (value_of b vars) A B i j t n (depth a) (depth b) r s (omega arith) (omega arith) (omega (arith, steps_length (source.Bin op a b) i)) le (runs a i h.0) (runs b j h.1)
+      ∙ ap (λ v. bind v (λ y. run room vars n 0 r (y ∷ s))) (from_both op a b vars)
 
   -- the whole
   pub runs_whole : (e : Expression) → ExpressionBelow e (length vars) → depth e ≤ room → run room vars 0 0 (steps_of e) [] ≡ Some (value_of e vars)

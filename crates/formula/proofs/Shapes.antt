@@ -1,21 +1,20 @@
 -- What the forms of a formula stand for.
-use Rattle.std.proofs.Common.{◌≡◌, ℕ, ◌+◌, max, List, [], ◌∷◌, ◌++◌, ℤ, Ok, Err, refl, sym, ap, ◌∙◌, subst}
+use Rattle.std.proofs.Common.{◌≡◌, ℕ, ◌+◌, max, List, [], ◌∷◌, ◌++◌, refl, sym, ap, ◌∙◌, subst}
 use Rattle.gcl_core.specs.declared.syntax.BinOp.{BinOp}
 use Rattle.gcl_core.specs.declared.syntax.BinOp.TheVariants.{And, Or}
-use Rattle.gcl_core.specs.meaning.Value.{State, Value, value_of, ◌>>=◌, applied, short_circuited, ExpressionBelow}
+use Rattle.gcl_core.specs.meaning.Value.{State, value_of, ◌>>=◌, applied, ExpressionBelow}
 use Rattle.gcl_core.specs.meaning.Syntax.{Expression}
 use Rattle.gcl_core.specs.meaning.Syntax as source
 use Rattle.formula.specs.declared.op.Op.{Op}
 use Rattle.formula.specs.declared.op.Op.TheVariants.{Bin}
-use Rattle.formula.specs.declared.op.Atom.{Atom}
 use Rattle.formula.specs.declared.op.Atom.TheVariants.{Num, Var}
 use Rattle.formula.specs.declared.op.Term.{Term}
 use Rattle.formula.specs.declared.op.Term.TheVariants.{One, Two}
 use Rattle.formula.specs.declared.op.Form.{Form}
 use Rattle.formula.specs.declared.op.Form.TheVariants.{Short, Joined, Long}
-use Rattle.formula.specs.Steps.{settling, steps_between, kept, joining, step_count, steps_at, steps_of, depth}
+use Rattle.formula.specs.Steps.{settling, steps_between, joining, step_count, steps_at, steps_of, depth}
 use Rattle.formula.specs.ReadBack.{expression_in}
-use Rattle.formula.specs.Forms.{atom_expression, atom_value, AtomReads, term_steps, term_expression, IsTerm, term_depth, TermReads, term_value, joined_steps, joined_value, form_steps, FormOf}
+use Rattle.formula.specs.Forms.{term_steps, term_expression, IsTerm, term_depth, TermReads, term_value, joined_steps, joined_value, form_steps, FormOf}
 use Rattle.formula.proofs.ReadingBack.{stands_for}
 use Rattle.formula.proofs.Written.{Plain, plain_by}
 
@@ -49,18 +48,20 @@ term_reads (Two op (Num x) (Var y)) n r = (tt, r.1)
 term_reads (Two op (Var x) (Num y)) n r = (r.0, tt)
 term_reads (Two op (Var x) (Var y)) n r = r
 
-settles_nothing : (op : BinOp) (x : ℤ) (v : Value) → settling op 0 ≡ [] → v ≡ short_circuited op x v
-settles_nothing And x v h = absurd (cc)
-settles_nothing Or x v h = absurd (cc)
-settles_nothing _ x v h = refl
+-- both operands are evaluated
+value_of_plain : (op : BinOp) (a b : Expression) (vars : State) → settling op 0 ≡ [] →
+    (value_of a vars >>= λ x. (value_of b vars >>= λ y. applied op x y)) ≡ value_of (source.Bin op a b) vars
+value_of_plain And a b vars h = absurd (cc)
+value_of_plain Or a b vars h = absurd (cc)
+value_of_plain _ a b vars h = refl
 
 term_values : (t : Term) (vars : State) → IsTerm t → term_value t vars ≡ value_of (term_expression t) vars
 term_values (One (Num x)) vars h = refl
 term_values (One (Var x)) vars h = refl
-term_values (Two op (Num x) (Num y)) vars h = settles_nothing op x _ h
-term_values (Two op (Num x) (Var y)) vars h = settles_nothing op x _ h
-term_values (Two op (Var x) (Num y)) vars h = settles_nothing op _ _ h
-term_values (Two op (Var x) (Var y)) vars h = settles_nothing op _ _ h
+term_values (Two op (Num x) (Num y)) vars h = value_of_plain op (source.Num x) (source.Num y) vars h
+term_values (Two op (Num x) (Var y)) vars h = value_of_plain op (source.Num x) (source.Var y) vars h
+term_values (Two op (Var x) (Num y)) vars h = value_of_plain op (source.Var x) (source.Num y) vars h
+term_values (Two op (Var x) (Var y)) vars h = value_of_plain op (source.Var x) (source.Var y) vars h
 
 -- ---- one operator on two terms
 
@@ -76,17 +77,12 @@ joined_writes op t u p i k =
     ∙ ap (λ o. steps_at a 0 ++ (steps_at b j ++ o ∷ [])) (sym p.joining)
     ∙ ap (λ m. steps_at a 0 ++ (m ++ (steps_at b j ++ joining op ∷ []))) (sym (p.settling end))
 
-after_settled : (op : BinOp) (v w : Value) → settling op 0 ≡ [] →
-    (v >>= λ x. (w >>= λ y. applied op x y)) ≡ (v >>= λ x. short_circuited op x (w >>= λ y. applied op x y))
-after_settled op (Ok x) w h = settles_nothing op x _ h
-after_settled op (Err fault) w h = refl
-
 joined_values : (op : BinOp) (t u : Term) (vars : State) → settling op 0 ≡ [] → IsTerm t → IsTerm u →
     joined_value op t u vars ≡ value_of (source.Bin op (term_expression t) (term_expression u)) vars
 joined_values op t u vars h i k =
     ap (λ v. v >>= λ x. (term_value u vars >>= λ y. applied op x y)) (term_values t vars i)
     ∙ ap (λ w. value_of (term_expression t) vars >>= λ x. (w >>= λ y. applied op x y)) (term_values u vars k)
-    ∙ after_settled op (value_of (term_expression t) vars) (value_of (term_expression u) vars) h
+    ∙ value_of_plain op (term_expression t) (term_expression u) vars h
 
 -- ---- forms
 

@@ -1,7 +1,7 @@
 // Steps on a stack. Nothing is called back, and no box is followed.
 
 ghost use Rattle.std.specs.Prelude.{◌≡◌, ℤ, ◌+◌, ◌^◌, ◌<◌, ◌≤◌, ◌∷◌, length, IfOk, IsTrue};
-ghost use Rattle.gcl_core.specs.meaning.Value.{fits_64, applied, value_of, ExpressionBelow};
+ghost use Rattle.gcl_core.specs.meaning.Value.{fits_64, value_of, ExpressionBelow};
 ghost use Rattle.formula.specs.Steps.{steps_of, depth};
 ghost use Rattle.formula.specs.ReadBack.{expression_in};
 ghost use Rattle.formula.specs.inner.OnStack.{move, CameTo, Goes};
@@ -9,29 +9,7 @@ ghost use Rattle.formula.specs.Forms.{atom_value, AtomReads, values};
 ghost use Rattle.gcl_core.specs.meaning.Syntax.{Expression};
 
 use crate::op::{Atom, Op};
-use gcl_core::{BinOp, Fault};
-
-// The result of an operator on two values.
-#[inline(always)]
-pub(crate) fn apply(op: BinOp, x: i64, y: i64) -> Result<i64, Fault>
-    ensures { result ≡ applied op x y }
-{
-    match op {
-        BinOp::Add => x.checked_add(y).ok_or(Fault::Overflow),
-        BinOp::Sub => x.checked_sub(y).ok_or(Fault::Overflow),
-        BinOp::Mul => x.checked_mul(y).ok_or(Fault::Overflow),
-        BinOp::Div | BinOp::Rem if y == 0 => Err(Fault::ZeroDivisor),
-        BinOp::Div => x.checked_div(y).ok_or(Fault::Overflow),
-        BinOp::Rem => x.checked_rem(y).ok_or(Fault::Overflow),
-        BinOp::Eq => Ok(i64::from(x == y)),
-        BinOp::Ne => Ok(i64::from(x != y)),
-        BinOp::Lt => Ok(i64::from(x < y)),
-        BinOp::Le => Ok(i64::from(x <= y)),
-        BinOp::Gt => Ok(i64::from(x > y)),
-        BinOp::Ge => Ok(i64::from(x >= y)),
-        BinOp::And | BinOp::Or => Ok(i64::from(y != 0)),
-    }
-}
+use gcl_core::Fault;
 
 #[inline(always)]
 pub(crate) fn atom_value(a: Atom, vars: &[i64]) -> i64
@@ -129,7 +107,7 @@ fn take(
         Op::Not => Ok(go(at + 1, i64::from(top == 0), held)),
         Op::Bin(op) => {
             let p = pop(slots, at, held);
-            Ok(go(p.at, apply(op, p.top, top)?, p.held))
+            Ok(go(p.at, op.apply(p.top, top)?, p.held))
         }
         Op::AndSkip(target) => {
             if top == 0 {

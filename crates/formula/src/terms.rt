@@ -7,7 +7,7 @@ ghost use Rattle.formula.specs.Forms.{term_steps, term_expression, term_depth, t
 
 use crate::op::{Op, Term};
 use crate::reading::{atom, step_of};
-use crate::running::{apply, atom_value};
+use crate::running::atom_value;
 use gcl_core::{BinOp, Expr, Fault};
 use std::alloc::{AllocError, Global};
 
@@ -84,7 +84,7 @@ pub(crate) fn value_of_term(t: &Term, vars: &[i64]) -> Result<i64, Fault>
 {
     match t {
         Term::One(a) => Ok(atom_value(*a, vars)),
-        Term::Two(op, a, b) => apply(*op, atom_value(*a, vars), atom_value(*b, vars)),
+        Term::Two(op, a, b) => op.apply(atom_value(*a, vars), atom_value(*b, vars)),
     }
 }
 
@@ -97,5 +97,5 @@ pub(crate) fn value_of_joined(op: BinOp, t: &Term, u: &Term, vars: &[i64]) -> Re
 {
     let x = value_of_term(t, vars)?;
     let y = value_of_term(u, vars)?;
-    apply(op, x, y)
+    op.apply(x, y)
 }

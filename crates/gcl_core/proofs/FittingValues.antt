@@ -1,5 +1,5 @@
 -- Numbers of 64 bits stay numbers of 64 bits: in states, and in the values of expressions.
-use Rattle.std.proofs.Common.{◌≡◌, ◌↔◌, ℕ, zero, suc, ◌^◌, ◌≤◌, ◌<◌, ℤ, pos, negsuc, ◌+ℤ◌, ◌-ℤ◌, ◌*ℤ◌, neg_ℤ, Bool, true, false, ◌&&◌, Ok, Err, [], ◌∷◌, refl, sym, subst, arith, true≢false}
+use Rattle.std.proofs.Common.{◌≡◌, ◌↔◌, ℕ, zero, suc, ◌^◌, ◌≤◌, ◌<◌, ℤ, pos, negsuc, ◌+ℤ◌, ◌-ℤ◌, ◌*ℤ◌, neg_ℤ, Bool, true, false, ◌&&◌, ◌||◌, Ok, Err, [], ◌∷◌, refl, sym, subst, arith, true≢false}
 use Rattle.std.specs.Prelude.{if◌then◌else◌, FitsSigned, slice_index_or, slice_set, not, int_rem, int_div, int_lt, int_le, unsigned_abs}
 use Rattle.std.specs.Int.{w64}
 use Rattle.std.specs.Ordering.{int_eq}
@@ -13,7 +13,7 @@ use Rattle.gcl_core.specs.meaning.Bounds.{ExpressionFits}
 use Rattle.gcl_core.specs.meaning.Fitting.{state_fits}
 use Rattle.gcl_core.specs.meaning.Outcomes.{zeros}
 use Rattle.gcl_core.specs.meaning.Syntax.{Expression, Num, Truth, Var, Neg, Not, Bin}
-use Rattle.gcl_core.specs.meaning.Value.{State, Value, value_of, ◌>>=◌, fits_64, within_64, truth_number, is_zero, quotient_of, applied, short_circuited}
+use Rattle.gcl_core.specs.meaning.Value.{State, Value, value_of, ◌>>=◌, fits_64, within_64, truth_number, is_zero, as_truth, quotient_of, applied}
 
 -- ---- numbers
 
@@ -127,13 +127,12 @@ applied_fits Lt x y h = truth_fits (int_lt x y)
 applied_fits Le x y h = truth_fits (int_le x y)
 applied_fits Gt x y h = truth_fits (int_lt y x)
 applied_fits Ge x y h = truth_fits (int_le y x)
-applied_fits And x y h = truth_fits (not (is_zero y))
-applied_fits Or x y h = truth_fits (not (is_zero y))
+applied_fits And x y h = truth_fits (not (is_zero x) && not (is_zero y))
+applied_fits Or x y h = truth_fits (not (is_zero x) || not (is_zero y))
 
-settled_fits : (op : BinOp) (x : ℤ) (right : Value) → ValueFits right → ValueFits (short_circuited op x right)
-settled_fits And x right h = if_fits (is_zero x) (Ok (pos 0)) right (λ e. refl) (λ e. h)
-settled_fits Or x right h = if_fits (is_zero x) right (Ok (pos 1)) (λ e. h) (λ e. refl)
-settled_fits _ x right h = h
+as_truth_fits : (v : Value) → ValueFits (as_truth v)
+as_truth_fits (Ok x) = truth_fits (not (is_zero x))
+as_truth_fits (Err f) = tt
 
 pub each_value_fits : (e : Expression) (s : State) → ExpressionFits e → state_fits s ≡ true → ValueFits (value_of e s)
 each_value_fits (Num z) s fit h = fit
@@ -141,9 +140,12 @@ each_value_fits (Truth b) s fit h = truth_fits b
 each_value_fits (Var x) s fit h = variable_fits s x h
 each_value_fits (Neg a) s fit h = then_fits (value_of a s) _ (each_value_fits a s fit h) (λ v _. within_fits (neg_ℤ v))
 each_value_fits (Not a) s fit h = then_fits (value_of a s) _ (each_value_fits a s fit h) (λ v _. truth_fits (is_zero v))
+each_value_fits (Bin And a b) s fit h =
+    then_fits (value_of a s) _ (each_value_fits a s fit.0 h) (λ x _. if_fits (is_zero x) (Ok (pos 0)) (as_truth (value_of b s)) (λ _. refl) (λ _. as_truth_fits (value_of b s)))
+each_value_fits (Bin Or a b) s fit h =
+    then_fits (value_of a s) _ (each_value_fits a s fit.0 h) (λ x _. if_fits (is_zero x) (as_truth (value_of b s)) (Ok (pos 1)) (λ _. as_truth_fits (value_of b s)) (λ _. refl))
 each_value_fits (Bin op a b) s fit h =
-    then_fits (value_of a s) _ (each_value_fits a s fit.0 h)
-    (λ x _. settled_fits op x _ (then_fits (value_of b s) _ (each_value_fits b s fit.1 h) (λ y fy. applied_fits op x y fy)))
+    then_fits (value_of a s) _ (each_value_fits a s fit.0 h) (λ x _. then_fits (value_of b s) _ (each_value_fits b s fit.1 h) (λ y fy. applied_fits op x y fy))
 
 pub value_fits : (e : Expression) (s : State) (v : ℤ) → ExpressionFits e → state_fits s ≡ true → value_of e s ≡ Ok v → fits_64 v ≡ true
 value_fits e s v fit h is = subst ValueFits is (each_value_fits e s fit h)

@@ -1,6 +1,6 @@
 -- The value of an expression in a state, or the first fault: numbers of 64 bits, where a result outside them is a fault.
 -- The expressions are those of cpGCL; the width, the faults and the order of evaluation are this project's own rule.
-use Rattle.std.specs.Prelude.{ℕ, zero, ◌^◌, ◌<◌, ℤ, pos, negsuc, ◌+ℤ◌, ◌-ℤ◌, ◌*ℤ◌, neg_ℤ, Bool, true, false, not, List, Result, Ok, Err, nat_lt, if◌then◌else◌, slice_index_or, int_lt, int_le, int_div, int_rem}
+use Rattle.std.specs.Prelude.{ℕ, zero, ◌^◌, ◌<◌, ℤ, pos, negsuc, ◌+ℤ◌, ◌-ℤ◌, ◌*ℤ◌, neg_ℤ, Bool, true, false, not, ◌&&◌, ◌||◌, List, Result, Ok, Err, nat_lt, if◌then◌else◌, slice_index_or, int_lt, int_le, int_div, int_rem}
 use Rattle.std.specs.Ordering.{int_eq}
 use Rattle.gcl_core.specs.declared.syntax.BinOp.{BinOp}
 use Rattle.gcl_core.specs.declared.syntax.BinOp.TheVariants.{Add, Sub, Mul, Div, Rem, Eq, Ne, Lt, Le, Gt, Ge, And, Or}
@@ -31,6 +31,10 @@ abbrev pub is_zero : ℤ → Bool
 is_zero (pos zero) = true
 is_zero _ = false
 
+-- 1 in place of a value other than 0
+abbrev pub as_truth : Value → Value
+as_truth v = v >>= λ x. Ok (truth_number (not (is_zero x)))
+
 abbrev pub fits_64 : ℤ → Bool
 fits_64 (pos n) = nat_lt n (2 ^ 63)
 fits_64 (negsuc n) = nat_lt n (2 ^ 63)
@@ -46,7 +50,7 @@ quotient_of x y = if is_zero y then Err ZeroDivisor else within_64 (int_div x y)
 abbrev pub remainder_of : ℤ → ℤ → Value
 remainder_of x y = quotient_of x y >>= λ _. Ok (int_rem x y)
 
--- Behind `short_circuited` alone: there the left side of `and` is not 0, and that of `or` is.
+-- An operator on the values of its two sides.
 abbrev pub applied : BinOp → ℤ → ℤ → Value
 applied Add x y = within_64 (x +ℤ y)
 applied Sub x y = within_64 (x -ℤ y)
@@ -59,22 +63,19 @@ applied Lt x y = Ok (truth_number (int_lt x y))
 applied Le x y = Ok (truth_number (int_le x y))
 applied Gt x y = Ok (truth_number (int_lt y x))
 applied Ge x y = Ok (truth_number (int_le y x))
-applied And x y = Ok (truth_number (not (is_zero y)))
-applied Or x y = Ok (truth_number (not (is_zero y)))
+applied And x y = Ok (truth_number (not (is_zero x) && not (is_zero y)))
+applied Or x y = Ok (truth_number (not (is_zero x) || not (is_zero y)))
 
--- The left side alone settles `and` where it is 0, and `or` where it is not; else the right side is evaluated.
-abbrev pub short_circuited : BinOp → ℤ → Value → Value
-short_circuited And x right = if is_zero x then Ok (pos 0) else right
-short_circuited Or x right = if is_zero x then right else Ok (pos 1)
-short_circuited _ x right = right
-
+-- The left side is evaluated first. Where it settles `and` or `or`, the right side is not evaluated, and none of its faults counts.
 abbrev pub value_of : Expression → State → Value
 value_of (Num z) s = Ok z
 value_of (Truth b) s = Ok (truth_number b)
 value_of (Var x) s = Ok (slice_index_or s x (pos 0))
 value_of (Neg a) s = value_of a s >>= λ x. within_64 (neg_ℤ x)
 value_of (Not a) s = value_of a s >>= λ x. Ok (truth_number (is_zero x))
-value_of (Bin op a b) s = value_of a s >>= λ x. short_circuited op x (value_of b s >>= λ y. applied op x y)
+value_of (Bin And a b) s = value_of a s >>= λ x. if is_zero x then Ok (pos 0) else as_truth (value_of b s)
+value_of (Bin Or a b) s = value_of a s >>= λ x. if is_zero x then as_truth (value_of b s) else Ok (pos 1)
+value_of (Bin op a b) s = value_of a s >>= λ x. value_of b s >>= λ y. applied op x y
 
 -- each variable of the expression is below this count
 abbrev pub ExpressionBelow : Expression → ℕ → Type 0
