@@ -1,8 +1,6 @@
 -- What a block does from a state on a list of bits: how it ends, with the bits that are left, or that it needs more bits.
 -- The statements are those of cpGCL; the limits are this project's own rule.
-use Rattle.std.specs.Prelude.{ℕ, zero, suc, ℤ, pos, negsuc, Bool, List, [], ◌∷◌, Option, Some, None, Ok, Err, if◌then◌else◌, slice_set}
-use Rattle.std.specs.List.{range_with_len}
-use Rattle.gcl_core.specs.declared.syntax.Weight.{Weight}
+use Rattle.std.specs.Prelude.{ℕ, zero, suc, ℤ, pos, negsuc, Bool, List, Option, Some, None, Ok, Err, if◌then◌else◌, slice_set}
 use Rattle.gcl_core.specs.declared.answers.Fault.{Fault}
 use Rattle.gcl_core.specs.declared.answers.Fault.TheVariants.{BadBound}
 use Rattle.gcl_core.specs.declared.answers.Limit.{Limit}

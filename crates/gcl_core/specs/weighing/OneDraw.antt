@@ -1,6 +1,6 @@
 -- The law of one draw: what the strings weigh that a draw reads to a class, and to the limit of attempts. A draw by repeated
 -- attempts is the rejection sampler of cpGCL's compiler; the count of its strings under a limit is this project's own rule.
-use Rattle.std.specs.Prelude.{◌≡◌, ℕ, zero, suc, ◌+◌, ◌-◌, ◌*◌, ◌^◌, ◌≤◌, Bool, List, [], ◌∷◌, length, Option, Some, None, ◌==◌}
+use Rattle.std.specs.Prelude.{◌≡◌, ℕ, ◌*◌, ◌^◌, ◌≤◌, Bool, List, [], ◌∷◌, length, Option, Some, None, ◌==◌}
 use Rattle.std.specs.Option.{option_eq}
 use Rattle.gcl_core.specs.meaning.Reading.{more_bits}
 use Rattle.gcl_core.specs.meaning.Draw.{bits_for, last_end, draw_on, class_size, rejected_numbers, strings_to_a_number}
