@@ -6,6 +6,8 @@ pub const LONGEST_TEXT: usize = 65_536;
 pub const LONGEST_NAME: usize = 64;
 /// The most names of a program.
 pub const MOST_NAMES: usize = 256;
+/// The greatest number of a text, 2^63 - 1.
+pub const GREATEST_LITERAL: u64 = (1 << 63) - 1;
 /// How many brackets and blocks may be open at a time.
 pub const DEEPEST_NESTING: u32 = 64;
 /// The most operators since the last `;` or brace.

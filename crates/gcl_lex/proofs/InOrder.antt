@@ -1,8 +1,9 @@
 -- The tokens of a text stand in order.
-use Rattle.std.proofs.Common.{◌≡◌, ℕ, ◌<◌, ◌≤◌, ◌+◌, ◌^◌, sym, arith, true, nat_lt, List, [], ◌∷◌, length, take, drop, length-drop, Option, Some, None, option_map}
+use Rattle.std.proofs.Common.{◌≡◌, ℕ, ◌<◌, ◌≤◌, ◌+◌, sym, arith, true, nat_le, List, [], ◌∷◌, length, take, drop, length-drop, Option, Some, None, option_map}
 use Rattle.std.specs.List.{list_all, cons_option}
 use Rattle.std.specs.Str.Parse.{digits_value}
 use Rattle.std.proofs.lemmas.Bool.Decides.{nat_tests}
+use Rattle.gcl_core.specs.declared.rules.TheConstants.{GREATEST_LITERAL}
 use Rattle.gcl_core.specs.declared.tokens.PieceKind.{PieceKind}
 use Rattle.gcl_core.specs.declared.tokens.PieceKind.TheVariants as kind
 use Rattle.gcl_core.specs.declared.tokens.TokenKind.{TokenKind}
@@ -24,7 +25,7 @@ abbrev OptionInRange : Option TokenKind → Type 0
 OptionInRange None = Unit {0}
 OptionInRange (Some k) = IsInRange k
 
-small : (n : ℕ) → nat_lt n (2 ^ 63) ≡ true → n < 2 ^ 63
+small : (n : ℕ) → nat_le n GREATEST_LITERAL ≡ true → n ≤ GREATEST_LITERAL
 small n h = grind (arith, nat_tests)
 
 in_range : (k : PieceKind) (bytes : List ℕ) → may_stand k bytes ≡ true → OptionInRange (kind_of k bytes)

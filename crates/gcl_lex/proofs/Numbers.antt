@@ -1,10 +1,11 @@
 -- The value of digits.
-use Rattle.std.proofs.Common.{◌≡◌, ℕ, suc, ◌<◌, ◌≤◌, ◌+◌, ◌-◌, ◌*◌, ◌^◌, refl, arith, Bool, true, false, ◌&&◌, nat_lt, List, [], ◌∷◌, length, drop, get_or, None}
+use Rattle.std.proofs.Common.{◌≡◌, ℕ, suc, ◌<◌, ◌≤◌, ◌+◌, ◌-◌, ◌*◌, ◌^◌, refl, arith, Bool, true, false, ◌&&◌, nat_le, List, [], ◌∷◌, length, drop, get_or, None}
 use Rattle.std.specs.List.{list_all}
 use Rattle.std.proofs.Math.Seq.{drop-cons}
 use Rattle.std.proofs.lemmas.Bool.Decides.{nat_tests}
 use Rattle.std.specs.Char.{digit_value}
 use Rattle.std.specs.Str.Parse.{digits_value, digits_value_after}
+use Rattle.gcl_core.specs.declared.rules.TheConstants.{GREATEST_LITERAL}
 use Rattle.gcl_core.specs.declared.tokens.PieceKind.TheVariants as kind
 use Rattle.gcl_core.specs.text.Pieces.{is_digit, is_piece}
 use Rattle.gcl_lex.specs.inner.Reads.{number_of_digits}
@@ -18,10 +19,10 @@ number_digits [] h = refl
 number_digits (b ∷ bs) h = h
 
 -- digits without a number are too wide
-pub wide : (ds : List ℕ) → number_of_digits ds ≡ None → 2 ^ 63 ≤ digits_value 10 ds
-wide ds h = go (nat_lt (digits_value 10 ds) (2 ^ 63)) refl
+pub wide : (ds : List ℕ) → number_of_digits ds ≡ None → GREATEST_LITERAL < digits_value 10 ds
+wide ds h = go (nat_le (digits_value 10 ds) GREATEST_LITERAL) refl
   where
-    go : (b : Bool) → nat_lt (digits_value 10 ds) (2 ^ 63) ≡ b → 2 ^ 63 ≤ digits_value 10 ds
+    go : (b : Bool) → nat_le (digits_value 10 ds) GREATEST_LITERAL ≡ b → GREATEST_LITERAL < digits_value 10 ds
     go true e = absurd (let f = rw e at h in cc)
     go false e = grind (arith, nat_tests)
 
@@ -37,8 +38,8 @@ first_passes d ds h = go (is_digit d) h
     go true h = refl
     go false h = cc
 
-too_wide : (ds : List ℕ) → 2 ^ 63 ≤ digits_value 10 ds → number_of_digits ds ≡ None
-too_wide ds h = let n : nat_lt (digits_value 10 ds) (2 ^ 63) ≡ false = grind (arith, nat_tests) in rw n
+too_wide : (ds : List ℕ) → GREATEST_LITERAL < digits_value 10 ds → number_of_digits ds ≡ None
+too_wide ds h = let n : nat_le (digits_value 10 ds) GREATEST_LITERAL ≡ false = grind (arith, nat_tests) in rw n
 
 -- the value grows past 64 bits at the digit at place i
 pub grows_wide : (ds : List ℕ) (v i : ℕ) → i < length ds → digits_value 10 ds ≡ digits_value_after 10 v (drop i ds) → list_all is_digit (drop i ds) ≡ true

@@ -1,5 +1,5 @@
 -- A text has one list of tokens or one refusal.
-use Rattle.std.proofs.Common.{◌≡◌, ℕ, ◌<◌, ◌≤◌, ◌^◌, ◌∙◌, refl, ap, sym, arith, true, false, nat_lt, nat_le, List, [], length, take}
+use Rattle.std.proofs.Common.{◌≡◌, ℕ, ◌<◌, ◌∙◌, refl, ap, sym, arith, true, false, nat_le, List, [], length, take}
 use Rattle.std.specs.List.{list_all}
 use Rattle.std.specs.Str.Parse.{digits_value}
 use Rattle.std.proofs.lemmas.Bool.Decides.{nat_tests}
@@ -9,7 +9,7 @@ use Rattle.gcl_core.specs.declared.tokens.Token.{Token}
 use Rattle.gcl_core.specs.text.Pieces.{Longest, NoPiece, Piece, Leads, no_piece_more, one_piece_more}
 use Rattle.gcl_core.specs.text.Tokens.{tokens_of}
 use Rattle.gcl_core.specs.text.Lexing.{may_stand, stands, IsLexed, LexRefusal, bad_byte, number_too_wide, name_too_long, PiecesReach, IsRefused, long_text, no_piece, wide_number, long_name}
-use Rattle.gcl_core.specs.declared.rules.TheConstants.{LONGEST_TEXT, LONGEST_NAME}
+use Rattle.gcl_core.specs.declared.rules.TheConstants.{LONGEST_TEXT, GREATEST_LITERAL, LONGEST_NAME}
 use Rattle.gcl_lex.proofs.Cuts.{both, some_len}
 use Rattle.gcl_lex.proofs.OneCut.{one_length, one_kind, no_longest}
 use Rattle.gcl_lex.proofs.PieceByPiece.{taken}
@@ -30,11 +30,8 @@ same_piece {text = text} {n = n} {m = m} p q =
     let e = one_length text n m p q in
     (one_kind text n p (rw (← e) at q), e)
 
-too_wide : (n : ℕ) → 2 ^ 63 ≤ n → nat_lt n (2 ^ 63) ≡ false
-too_wide n h = grind (arith, nat_tests)
-
-too_long : (n : ℕ) → LONGEST_NAME < n → nat_le n LONGEST_NAME ≡ false
-too_long n h = grind (arith, nat_tests)
+above : (n most : ℕ) → most < n → nat_le n most ≡ false
+above n most h = grind (arith, nat_tests)
 
 ends_at : {k : PieceKind} {text : List ℕ} {n : ℕ} → Longest k text n → may_stand k (take n text) ≡ false → Ends text
 ends_at {text = text} p h = record { ends = λ {k = other} {n = m} q. let e = same_piece p q in rw (← e.0, ← e.1) h }
@@ -64,11 +61,11 @@ tokens_once text ts us a b = a.all ∙ ap tokens_of (one_way a.cut a.stand ends_
 none_stands : {text : List ℕ} {k : PieceKind} {n : ℕ} → NoPiece text → Longest k text n → ⊥
 none_stands {k = k} {n = n} h l = let e = h k n l.within in let i = l.is in cc
 
-wide_ends : {rest : List ℕ} {n : ℕ} → Longest kind.Number rest n → 2 ^ 63 ≤ digits_value 10 (take n rest) → Ends rest
-wide_ends l w = ends_at l (too_wide _ w)
+wide_ends : {rest : List ℕ} {n : ℕ} → Longest kind.Number rest n → GREATEST_LITERAL < digits_value 10 (take n rest) → Ends rest
+wide_ends l w = ends_at l (above _ GREATEST_LITERAL w)
 
 long_ends : {rest : List ℕ} {n : ℕ} → Longest kind.Name rest n → LONGEST_NAME < n → Ends rest
-long_ends {rest} {n} l w = ends_at l (too_long _ (let t = taken l in omega (arith, t, w)))
+long_ends {rest} {n} l w = ends_at l (above _ LONGEST_NAME (let t = taken l in omega (arith, t, w)))
 
 not_empty : (text : List ℕ) → 0 < length text → text ≡ [] → ⊥
 not_empty text h e = let n = ap length e in omega (arith, h, n)

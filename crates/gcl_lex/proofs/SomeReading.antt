@@ -1,5 +1,5 @@
 -- A text has tokens or a refusal.
-use Rattle.std.proofs.Common.{◌≡◌, ℕ, zero, suc, ◌<◌, ◌≤◌, ◌^◌, refl, arith, Bool, true, false, nat_lt, nat_le, List, [], ◌∷◌, length, take, drop, length-drop, Option, Some, None, ◌⊎◌, inl, inr}
+use Rattle.std.proofs.Common.{◌≡◌, ℕ, zero, suc, ◌<◌, ◌≤◌, refl, arith, Bool, true, false, nat_le, List, [], ◌∷◌, length, take, drop, length-drop, Option, Some, None, ◌⊎◌, inl, inr}
 use Rattle.std.specs.Str.Parse.{digits_value}
 use Rattle.std.proofs.lemmas.Bool.{cases_lt}
 use Rattle.std.proofs.lemmas.Bool.Decides.{nat_tests}
@@ -8,7 +8,7 @@ use Rattle.gcl_core.specs.declared.tokens.PieceKind.TheVariants as kind
 use Rattle.gcl_core.specs.declared.tokens.Token.{Token}
 use Rattle.gcl_core.specs.text.Pieces.{Longest}
 use Rattle.gcl_core.specs.text.Lexing.{may_stand, IsLexed, LexRefusal, text_too_long, bad_byte, number_too_wide, name_too_long, PiecesReach, IsRefused, long_text, wide_number, long_name}
-use Rattle.gcl_core.specs.declared.rules.TheConstants.{LONGEST_TEXT, LONGEST_NAME}
+use Rattle.gcl_core.specs.declared.rules.TheConstants.{LONGEST_TEXT, GREATEST_LITERAL, LONGEST_NAME}
 use Rattle.gcl_lex.specs.declared.cutting.Front.{Front}
 use Rattle.gcl_lex.specs.inner.Cutting.{front_of}
 use Rattle.gcl_lex.proofs.Cuts.{front_is, no_front, some_len}
@@ -18,18 +18,15 @@ use Rattle.gcl_lex.proofs.Refusing.{rest_stops}
 abbrev Answered : List ℕ → Type 0
 Answered text = ((ts : List Token) × IsLexed text ts) ⊎ ((r : LexRefusal) × IsRefused text r)
 
-not_small : (n : ℕ) → nat_lt n (2 ^ 63) ≡ false → 2 ^ 63 ≤ n
-not_small n h = grind (arith, nat_tests)
-
-not_short : (n : ℕ) → nat_le n LONGEST_NAME ≡ false → LONGEST_NAME < n
-not_short n h = grind (arith, nat_tests)
+above : (n most : ℕ) → nat_le n most ≡ false → most < n
+above n most h = grind (arith, nat_tests)
 
 -- a piece that may not stand is a number that is too wide or a name that is too long
 piece_refused : {text rest : List ℕ} {at n : ℕ} (k : PieceKind) → PiecesReach text at rest → Longest k rest n → may_stand k (take n rest) ≡ false → (r : LexRefusal) × IsRefused text r
 piece_refused kind.Blank r l h = cc
 piece_refused kind.Comment r l h = cc
-piece_refused {rest = rest} {at = at} {n = n} kind.Number r l h = (number_too_wide at, wide_number r l (not_small (digits_value 10 (take n rest)) h))
-piece_refused {rest = rest} {at = at} {n = n} kind.Name r l h = (name_too_long at, long_name r l (not_short n (rw (taken l) at h)))
+piece_refused {rest = rest} {at = at} {n = n} kind.Number r l h = (number_too_wide at, wide_number r l (above (digits_value 10 (take n rest)) GREATEST_LITERAL h))
+piece_refused {rest = rest} {at = at} {n = n} kind.Name r l h = (name_too_long at, long_name r l (above n LONGEST_NAME (rw (taken l) at h)))
 piece_refused kind.Symbol r l h = cc
 
 -- the longest piece at the front of a rest, where there is one, may stand or not, and what follows it is shorter

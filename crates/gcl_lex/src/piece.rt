@@ -9,9 +9,9 @@ ghost use Rattle.gcl_lex.specs.inner.Reads.{number_of_digits, ReadsPiece};
 
 use crate::cutting::symbol;
 use crate::error::LexError;
-use gcl_core::{Key, LONGEST_NAME, PieceKind, TokenKind};
+use gcl_core::{GREATEST_LITERAL, Key, LONGEST_NAME, PieceKind, TokenKind};
 
-// The value, where it is below 2^63.
+// The value, where a text may have it.
 fn number(digits: &[u8]) -> Option<u64>
     requires { list_all is_digit digits.now ≡ true }
     ensures { result ≡ number_of_digits digits.now }
@@ -20,7 +20,7 @@ fn number(digits: &[u8]) -> Option<u64>
     for digit in digits {
         value = value.checked_mul(10)?.checked_add((*digit - b'0') as u64)?;
     }
-    if value <= i64::MAX as u64 {
+    if value <= GREATEST_LITERAL {
         Some(value)
     } else {
         None

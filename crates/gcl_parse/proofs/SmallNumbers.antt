@@ -1,7 +1,10 @@
 -- The numbers that a text's expressions have are below 2 ^ 63, as those of its tokens are. So a program that a text spells is checked.
-use Rattle.std.proofs.Common.{◌≡◌, ℕ, ◌+◌, ◌^◌, Bool, true, false, ◌&&◌, nat_lt, List, [], ◌∷◌, map, length, Option, Some, None, refl, sym, subst}
+use Rattle.std.proofs.Common.{◌≡◌, ℕ, ◌+◌, ◌^◌, Bool, true, false, ◌&&◌, nat_lt, nat_le, List, [], ◌∷◌, map, length, Option, Some, None, refl, sym, subst, arith}
 use Rattle.std.specs.Prelude.{IsTrue, option_map}
 use Rattle.std.specs.List.{list_all, cons_option}
+use Rattle.std.specs.Str.Parse.{digits_value}
+use Rattle.std.proofs.lemmas.Bool.Decides.{nat_tests}
+use Rattle.gcl_core.specs.declared.rules.TheConstants.{GREATEST_LITERAL}
 use Rattle.gcl_core.specs.declared.tokens.Key.TheVariants as k
 use Rattle.gcl_core.specs.declared.tokens.Key.{Key}
 use Rattle.gcl_core.specs.declared.tokens.PieceKind.{PieceKind}
@@ -136,10 +139,13 @@ symbol_small : (s : Option Sym) (kind : Option TokenKind) → kind ≡ option_ma
 symbol_small (Some s) kind e = rw e tt
 symbol_small None kind e = rw e tt
 
+number_small : (n : ℕ) → nat_le n GREATEST_LITERAL ≡ true → nat_lt n (2 ^ 63) ≡ true
+number_small n small = grind (arith, nat_tests)
+
 piece_small : (kind : PieceKind) (bytes : List ℕ) → IsTrue (may_stand kind bytes) → KindOfSmall (kind_of kind bytes)
 piece_small piece.Blank bytes small = tt
 piece_small piece.Comment bytes small = tt
-piece_small piece.Number bytes small = small
+piece_small piece.Number bytes small = number_small (digits_value 10 bytes) small
 piece_small piece.Name bytes small = named_small (key_of bytes)
 piece_small piece.Symbol bytes small = symbol_small _ _ refl
 

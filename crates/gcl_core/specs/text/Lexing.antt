@@ -1,5 +1,5 @@
 -- The tokens of a text, or why it has none. This project's own rule.
-use Rattle.std.specs.Prelude.{◌≡◌, ℕ, ◌+◌, ◌<◌, ◌≤◌, ◌^◌, nat_lt, nat_le, Bool, true, IsTrue, List, length, take}
+use Rattle.std.specs.Prelude.{◌≡◌, ℕ, ◌+◌, ◌<◌, ◌≤◌, nat_le, Bool, true, IsTrue, List, length, take}
 use Rattle.std.specs.List.{list_all}
 use Rattle.std.specs.Str.Parse.{digits_value}
 use Rattle.gcl_core.specs.declared.tokens.PieceKind.{PieceKind}
@@ -7,11 +7,11 @@ use Rattle.gcl_core.specs.declared.tokens.PieceKind.TheVariants as kind
 use Rattle.gcl_core.specs.declared.tokens.Token.{Token}
 use Rattle.gcl_core.specs.text.Pieces.{Longest, NoPiece, Piece, Leads, Pieces}
 use Rattle.gcl_core.specs.text.Tokens.{tokens_of}
-use Rattle.gcl_core.specs.declared.rules.TheConstants.{LONGEST_TEXT, LONGEST_NAME}
+use Rattle.gcl_core.specs.declared.rules.TheConstants.{LONGEST_TEXT, GREATEST_LITERAL, LONGEST_NAME}
 
--- a number is at most 2 ^ 63 - 1, and a name has at most LONGEST_NAME bytes
+-- a number is at most GREATEST_LITERAL, and a name has at most LONGEST_NAME bytes
 abbrev pub may_stand : PieceKind → List ℕ → Bool
-may_stand kind.Number bytes = nat_lt (digits_value 10 bytes) (2 ^ 63)
+may_stand kind.Number bytes = nat_le (digits_value 10 bytes) GREATEST_LITERAL
 may_stand kind.Name bytes = nat_le (length bytes) LONGEST_NAME
 may_stand _ bytes = true
 
@@ -45,5 +45,5 @@ pub record PiecesReach (text : List ℕ) (at : ℕ) (rest : List ℕ) : Type 0 w
 pub data IsRefused : List ℕ → LexRefusal → Type 0 where
   long_text : {text : List ℕ} → LONGEST_TEXT < length text → IsRefused text text_too_long
   no_piece : {text rest : List ℕ} {at : ℕ} → PiecesReach text at rest → 0 < length rest → NoPiece rest → IsRefused text (bad_byte at)
-  wide_number : {text rest : List ℕ} {at n : ℕ} → PiecesReach text at rest → Longest kind.Number rest n → 2 ^ 63 ≤ digits_value 10 (take n rest) → IsRefused text (number_too_wide at)
+  wide_number : {text rest : List ℕ} {at n : ℕ} → PiecesReach text at rest → Longest kind.Number rest n → GREATEST_LITERAL < digits_value 10 (take n rest) → IsRefused text (number_too_wide at)
   long_name : {text rest : List ℕ} {at n : ℕ} → PiecesReach text at rest → Longest kind.Name rest n → LONGEST_NAME < n → IsRefused text (name_too_long at)
