@@ -3,12 +3,14 @@ use Rattle.std.proofs.Common.{◌≡◌, ℕ, zero, suc, ◌<◌, ◌≤◌, ◌
 use Rattle.std.specs.List.{prefix_len, list_all}
 use Rattle.std.proofs.lemmas.Bool.{false_from_ne_true}
 use Rattle.std.proofs.lemmas.Bool.Decides.{nat_tests}
+use Rattle.std.proofs.lemmas.Slice.Eq.{bytes_eq-Decides}
 use Rattle.gcl_core.specs.declared.tokens.Sym.{Sym}
 use Rattle.gcl_core.specs.declared.tokens.PieceKind.{PieceKind}
 use Rattle.gcl_core.specs.declared.tokens.PieceKind.TheVariants as kind
 use Rattle.gcl_lex.specs.declared.cutting.Front.{Front}
-use Rattle.gcl_core.specs.text.Pieces.{is_blank, is_digit, is_letter, goes_on_name, in_comment, one_byte_symbols, symbols_before_equals, symbol_among, one_byte, two_bytes, is_piece, Longest, NoPiece}
-use Rattle.gcl_lex.specs.inner.Cutting.{kind_begun, symbol_front, front_as, front_of}
+use Rattle.gcl_core.specs.text.Names.{Name, same_name, value_named}
+use Rattle.gcl_core.specs.text.Pieces.{is_blank, is_digit, is_letter, goes_on_name, in_comment, symbols, symbol_of, is_piece, Longest, NoPiece}
+use Rattle.gcl_lex.specs.inner.Cutting.{one_byte, two_bytes, begins_symbol, kind_begun, symbol_front, front_as, front_of}
 
 prefix_passes : (p : ℕ → Bool) (bs : List ℕ) → list_all p (take (prefix_len p bs) bs) ≡ true
 prefix_passes p [] = refl
@@ -42,31 +44,32 @@ letter_not_hash b h = grind (arith, nat_tests)
 letter_not_digit : (b : ℕ) → is_letter b ≡ true → is_digit b ≡ false
 letter_not_digit b h = grind (arith, nat_tests)
 
-abbrev in_table : (P : ℕ → Type 0) → List (ℕ × Sym) → Type 0
-in_table P [] = Unit {0}
-in_table P (e ∷ es) = P e.0 × in_table P es
+abbrev Each : (P : Name → Type 0) → List (Name × Sym) → Type 0
+Each P [] = Unit {0}
+Each P (e ∷ es) = P e.0 × Each P es
 
-same : (b c : ℕ) → (b == c) ≡ true → b ≡ c
-same b c h = grind (arith, nat_tests)
-
-found_in : (P : ℕ → Type 0) (b : ℕ) (es : List (ℕ × Sym)) → in_table P es → is_some (symbol_among b es) ≡ true → P b
-found_in P b [] h k = cc
-found_in P b (e ∷ es) h k = go (b == e.0) refl (found_in P b es h.1)
+found_in : (P : Name → Type 0) (bytes : List ℕ) (es : List (Name × Sym)) → Each P es → is_some (value_named es bytes) ≡ true → P bytes
+found_in P bytes [] h k = cc
+found_in P bytes (e ∷ es) h k = go (same_name bytes e.0) refl (found_in P bytes es h.1)
   where
-    go : (c : Bool) → (b == e.0) ≡ c → (is_some (symbol_among b es) ≡ true → P b) → P b
-    go true q ih = subst P (sym (same b e.0 q)) h.0
+    go : (c : Bool) → same_name bytes e.0 ≡ c → (is_some (value_named es bytes) ≡ true → P bytes) → P bytes
+    go true q ih = subst P (sym ((bytes_eq-Decides bytes e.0).0 q)) h.0
     go false q ih = ih (rw q at k)
 
-abbrev IsMark : ℕ → Type 0
-IsMark b = kind_begun b ≡ Some kind.Symbol
+-- a symbol is a byte that begins one, or this and the byte of `=`
+abbrev IsMark : List ℕ → Type 0
+IsMark [] = ⊥
+IsMark (b ∷ []) = kind_begun b ≡ Some kind.Symbol
+IsMark (b ∷ c ∷ []) = (kind_begun b ≡ Some kind.Symbol) × (c ≡ 61)
+IsMark (b ∷ c ∷ d ∷ bs) = ⊥
 
-all_marks : in_table IsMark one_byte_symbols
-unfolding kind_begun
-all_marks = (refl, (refl, (refl, (refl, (refl, (refl, (refl, (refl, (refl, (refl, (refl, (refl, (refl, (refl, (refl, (refl, tt))))))))))))))))
+all_marks : Each IsMark symbols
+unfolding kind_begun symbol_of
+all_marks = ((refl, refl), (refl, (refl, (refl, (refl, (refl, (refl, (refl, (refl, (refl, (refl, (refl, (refl, ((refl, refl), (refl, ((refl, refl), (refl, ((refl, refl), (refl, (refl, tt))))))))))))))))))))
 
-all_pairs : in_table IsMark symbols_before_equals
-unfolding kind_begun
-all_pairs = (refl, (refl, (refl, (refl, tt))))
+pub symbol_mark : (bytes : List ℕ) → is_some (symbol_of bytes) ≡ true → IsMark bytes
+unfolding symbol_of
+symbol_mark bytes h = found_in IsMark bytes symbols all_marks h
 
 pub both : (x z : Bool) → (x && z) ≡ true → (x ≡ true) × (z ≡ true)
 both true z h = (refl, h)
@@ -74,13 +77,6 @@ both false z h = cc
 
 hash_not_blank : (b : ℕ) → (b == 35) ≡ true → is_blank b ≡ false
 hash_not_blank b h = grind (arith, nat_tests)
-
-two_begin : (b c : ℕ) → is_some (two_bytes b c) ≡ true → is_some (symbol_among b symbols_before_equals) ≡ true
-two_begin b c h = go (c == 61) refl
-  where
-    go : (x : Bool) → (c == 61) ≡ x → is_some (symbol_among b symbols_before_equals) ≡ true
-    go true e = rw e at h
-    go false e = let n : is_some (two_bytes b c) ≡ false = rw e in cc
 
 -- what a piece begins with says its kind
 pub begins : (d : PieceKind) (b : ℕ) (bs : List ℕ) → is_piece d (b ∷ bs) ≡ true → kind_begun b ≡ Some d
@@ -90,9 +86,9 @@ begins kind.Blank b (c ∷ bs) h = cc
 begins kind.Comment b bs h = let q = (both (b == 35) (list_all in_comment bs) h).0 in rw (hash_not_blank b q, q)
 begins kind.Number b bs h = let q = (both (is_digit b) (list_all is_digit bs) h).0 in rw (digit_not_blank b q, digit_not_hash b q, q)
 begins kind.Name b bs h = let q = (both (is_letter b) (list_all goes_on_name bs) h).0 in rw (letter_not_blank b q, letter_not_hash b q, letter_not_digit b q, q)
-begins kind.Symbol b [] h = found_in IsMark b one_byte_symbols all_marks h
-begins kind.Symbol b (c ∷ []) h = found_in IsMark b symbols_before_equals all_pairs (two_begin b c h)
-begins kind.Symbol b (c ∷ d ∷ bs) h = cc
+begins kind.Symbol b [] h = symbol_mark (b ∷ []) h
+begins kind.Symbol b (c ∷ []) h = (symbol_mark (b ∷ c ∷ []) h).0
+begins kind.Symbol b (c ∷ d ∷ bs) h = absurd (symbol_mark (b ∷ c ∷ d ∷ bs) h)
 
 prefix_within : (p : ℕ → Bool) (bs : List ℕ) → prefix_len p bs ≤ length bs
 prefix_within p [] = omega arith
@@ -139,7 +135,7 @@ no_three b c bs d (suc zero) h n w = absurd (omega arith)
 no_three b c bs d (suc (suc zero)) h n w = absurd (omega arith)
 no_three b c [] d (suc (suc (suc m))) h n w = absurd (omega arith)
 no_three b c (x ∷ bs) d (suc (suc (suc m))) h n w =
-    false_from_ne_true _ (λ y. let e = same_kind b h (begins d b (c ∷ x ∷ take m bs) y) in let z : is_piece kind.Symbol (b ∷ c ∷ x ∷ take m bs) ≡ true = rw e at y in cc)
+    false_from_ne_true _ (λ y. let e = same_kind b h (begins d b (c ∷ x ∷ take m bs) y) in let z : is_piece kind.Symbol (b ∷ c ∷ x ∷ take m bs) ≡ true = rw e at y in symbol_mark (b ∷ c ∷ x ∷ take m bs) z)
 
 pair_longest : (b c : ℕ) (bs : List ℕ) → kind_begun b ≡ Some kind.Symbol → is_some (two_bytes b c) ≡ true → Longest kind.Symbol (b ∷ c ∷ bs) 2
 unfolding is_piece
@@ -161,7 +157,7 @@ unfolding is_piece
 last_mark b o = record { within = omega arith; is = o; last = λ d m n w. absurd (omega (arith, n, w)) }
 
 nothing : (d : PieceKind) → is_piece d [] ≡ false
-unfolding is_piece
+unfolding is_piece symbol_of
 nothing kind.Blank = refl
 nothing _ = refl
 
@@ -249,7 +245,7 @@ record First (b : ℕ) : Type 0 where
 firsts : (b : ℕ) → First b
 unfolding kind_begun
 firsts b =
-    let s = is_some (one_byte b) || is_some (symbol_among b symbols_before_equals) in
+    let s = begins_symbol b in
     record {
       blank = blank_test (is_blank b) (b == 35) (is_digit b) (is_letter b) s;
       comment = comment_test (is_blank b) (b == 35) (is_digit b) (is_letter b) s;

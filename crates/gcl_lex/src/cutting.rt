@@ -1,11 +1,13 @@
 // The piece at the front of a text.
 
-ghost use Rattle.std.specs.Prelude.{◌≡◌, ◌≤◌, length};
+ghost use Rattle.std.specs.Prelude.{◌≡◌, ◌≤◌, length, map};
 ghost use Rattle.std.specs.List.{prefix_len};
+ghost use Rattle.gcl_core.specs.text.Names.{value_named};
 ghost use Rattle.gcl_core.specs.text.Pieces as piece;
 ghost use Rattle.gcl_lex.specs.inner.Cutting as cutting;
 
-use gcl_core::{PieceKind, Sym};
+use crate::names::is_same;
+use gcl_core::{PieceKind, SYMBOLS, Sym};
 
 /// A piece at the front of a text, by its length in bytes.
 #[derive(Clone, Copy)]
@@ -14,54 +16,31 @@ pub struct Front {
     pub len: usize,
 }
 
-fn one_byte(b: u8) -> Option<Sym>
-    ensures { result ≡ piece.one_byte b }
+fn symbol_among(mut table: &[(&str, Sym)], bytes: &[u8]) -> Option<Sym>
+    ensures { result ≡ value_named (map (λ e. (e.0.now, e.1)) table.entry.now) bytes.now }
 {
-    match b {
-        b'~' => Some(Sym::Tilde),
-        b';' => Some(Sym::Semicolon),
-        b'{' => Some(Sym::LeftBrace),
-        b'}' => Some(Sym::RightBrace),
-        b'(' => Some(Sym::LeftParen),
-        b')' => Some(Sym::RightParen),
-        b'+' => Some(Sym::Plus),
-        b'-' => Some(Sym::Minus),
-        b'*' => Some(Sym::Star),
-        b'/' => Some(Sym::Slash),
-        b'%' => Some(Sym::Percent),
-        b'=' => Some(Sym::Equal),
-        b'<' => Some(Sym::Less),
-        b'>' => Some(Sym::Greater),
-        b':' => Some(Sym::Colon),
-        b'|' => Some(Sym::Bar),
-        _ => None,
+    while let [entry, rest @ ..] = table {
+        if is_same(bytes, entry.0.as_bytes()) {
+            return Some(entry.1);
+        }
+        table = rest;
     }
-}
-
-fn two_bytes(b: u8, c: u8) -> Option<Sym>
-    ensures { result ≡ piece.two_bytes b c }
-{
-    if c != b'=' {
-        return None;
-    }
-    match b {
-        b':' => Some(Sym::Assign),
-        b'!' => Some(Sym::NotEqual),
-        b'<' => Some(Sym::LessEqual),
-        b'>' => Some(Sym::GreaterEqual),
-        _ => None,
-    }
+    None
 }
 
 /// The symbol that the bytes are.
+#[tactic(auto, unfolding(gcl_core::specs::text::Pieces::symbol_of))]
 pub fn symbol(bytes: &[u8]) -> Option<Sym>
     ensures { result ≡ piece.symbol_of bytes.now }
 {
-    match bytes {
-        [b] => one_byte(*b),
-        [b, c] => two_bytes(*b, *c),
-        _ => None,
-    }
+    symbol_among(&SYMBOLS, bytes)
+}
+
+// The byte is a symbol, or one with `=` behind it.
+fn begins_symbol(b: u8) -> bool
+    ensures { result ≡ cutting.begins_symbol b }
+{
+    symbol(&[b]).is_some() || symbol(&[b, b'=']).is_some()
 }
 
 fn is_blank(b: u8) -> bool
@@ -121,7 +100,7 @@ fn kind_begun(b: u8) -> Option<PieceKind>
         Some(PieceKind::Number)
     } else if is_letter(b) {
         Some(PieceKind::Name)
-    } else if one_byte(b).is_some() || two_bytes(b, b'=').is_some() {
+    } else if begins_symbol(b) {
         Some(PieceKind::Symbol)
     } else {
         None
@@ -132,14 +111,14 @@ fn symbol_front(b: u8, rest: &[u8]) -> Option<Front>
     ensures { result ≡ cutting.symbol_front b rest.now }
 {
     if let Some(c) = rest.first() {
-        if two_bytes(b, *c).is_some() {
+        if symbol(&[b, *c]).is_some() {
             return Some(Front {
                 kind: PieceKind::Symbol,
                 len: 2,
             });
         }
     }
-    if one_byte(b).is_some() {
+    if symbol(&[b]).is_some() {
         Some(Front {
             kind: PieceKind::Symbol,
             len: 1,

@@ -4,6 +4,7 @@
 mod cutting;
 mod error;
 mod lexing;
+mod names;
 mod piece;
 #[cfg(test)]
 mod tests;

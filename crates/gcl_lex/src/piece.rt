@@ -1,15 +1,16 @@
 // What one piece of a text gives.
 
-ghost use Rattle.std.specs.Prelude.{◌≡◌, true};
+ghost use Rattle.std.specs.Prelude.{◌≡◌, true, map};
 ghost use Rattle.std.specs.List.{list_all};
-ghost use Rattle.gcl_core.specs.text.Names.{same_name};
+ghost use Rattle.gcl_core.specs.text.Names.{value_named};
 ghost use Rattle.gcl_core.specs.text.Pieces.{is_piece, is_digit};
 ghost use Rattle.gcl_core.specs.text.Tokens.{key_of, named_kind};
 ghost use Rattle.gcl_lex.specs.inner.Reads.{number_of_digits, ReadsPiece};
 
 use crate::cutting::symbol;
 use crate::error::LexError;
-use gcl_core::{GREATEST_LITERAL, Key, LONGEST_NAME, PieceKind, TokenKind};
+use crate::names::is_same;
+use gcl_core::{GREATEST_LITERAL, KEYWORDS, Key, LONGEST_NAME, PieceKind, TokenKind};
 
 // The value, where a text may have it.
 fn number(digits: &[u8]) -> Option<u64>
@@ -27,47 +28,23 @@ fn number(digits: &[u8]) -> Option<u64>
     }
 }
 
-fn is(name: &[u8], reserved: &[u8]) -> bool
-    ensures { result ≡ same_name name.now reserved.now }
+fn key_among(mut table: &[(&str, Key)], name: &[u8]) -> Option<Key>
+    ensures { result ≡ value_named (map (λ e. (e.0.now, e.1)) table.entry.now) name.now }
 {
-    name == reserved
+    while let [entry, rest @ ..] = table {
+        if is_same(name, entry.0.as_bytes()) {
+            return Some(entry.1);
+        }
+        table = rest;
+    }
+    None
 }
 
 #[tactic(auto, unfolding(gcl_core::specs::text::Tokens::key_of))]
 fn key(name: &[u8]) -> Option<Key>
     ensures { result ≡ key_of name.now }
 {
-    if is(name, b"skip") {
-        Some(Key::Skip)
-    } else if is(name, b"if") {
-        Some(Key::If)
-    } else if is(name, b"else") {
-        Some(Key::Else)
-    } else if is(name, b"while") {
-        Some(Key::While)
-    } else if is(name, b"choice") {
-        Some(Key::Choice)
-    } else if is(name, b"choose") {
-        Some(Key::Choose)
-    } else if is(name, b"or") {
-        Some(Key::Or)
-    } else if is(name, b"and") {
-        Some(Key::And)
-    } else if is(name, b"not") {
-        Some(Key::Not)
-    } else if is(name, b"true") {
-        Some(Key::True)
-    } else if is(name, b"false") {
-        Some(Key::False)
-    } else if is(name, b"uniform") {
-        Some(Key::Uniform)
-    } else if is(name, b"observe") {
-        Some(Key::Observe)
-    } else if is(name, b"return") {
-        Some(Key::Return)
-    } else {
-        None
-    }
+    key_among(&KEYWORDS, name)
 }
 
 fn name_kind(name: &[u8]) -> TokenKind

@@ -1,5 +1,8 @@
 -- What the pushdown accepts, the grammar reads.
-use Rattle.std.proofs.Common.{◌≡◌, ◌≢◌, ℕ, zero, suc, refl, ap, Bool, true, false, cond, ◌==◌, List, [], ◌∷◌, ◌++◌, Option, Some, None, ◌⊎◌, inl, inr}
+use Rattle.std.proofs.Common.{◌≡◌, ◌≢◌, ℕ, zero, suc, refl, ap, Bool, true, false, cond, List, [], ◌∷◌, ◌++◌, Option, Some, None, ◌⊎◌, inl, inr}
+use denote.Enum.Bare.{same_true}
+use Rattle.gcl_core.specs.contracts.tokens.Key as reserved
+use Rattle.gcl_core.specs.contracts.tokens.Sym as symbol
 use Rattle.gcl_core.specs.declared.words.Word.{Word}
 use Rattle.gcl_core.specs.declared.words.Word.TheVariants as w
 use Rattle.gcl_core.specs.declared.tokens.Key.{Key}
@@ -17,7 +20,7 @@ use Rattle.gcl_core.specs.text.Grammar as g
 use Rattle.gcl_core.specs.text.Grammar.{operator, leaf, IsRow, or_row, and_row, sum_row, product_row, ReadsPhrase, ReadsMore, ReadsStatement, ReadsStatements, ReadsBlock, ReadsElse, ReadsArms, ReadsProgram, written_weight}
 use Rattle.gcl_core.specs.text.Levels.{level_of, above}
 use Rattle.gcl_parse.specs.inner.Starts.{begins_with, begun}
-use Rattle.gcl_parse.specs.inner.Fronts.{is_sym, is_key, sym_code, key_code}
+use Rattle.gcl_parse.specs.inner.Fronts.{is_sym, is_key}
 use Rattle.gcl_parse.specs.inner.Pushdown as m
 use Rattle.gcl_parse.specs.inner.Pushdown.{Symbol, phrase, more, take_word, run, stops, accepts, goes_on, at_atom, at_sign, at_not, at_phrase, after_start, after_operand, arm_and_more, may_end, a_program}
 use Rattle.gcl_core.proofs.Ranks.{same_rank}
@@ -81,57 +84,17 @@ brackets_all : {s : List Symbol} {ts : List Word} → All (phrase l.Or ∷ m.sym
 brackets_all (cons (a, r) (cons h p)) = cons (a, g.in_brackets (rw h at r)) p
 
 -- two codes that are equal are of one token
-sym_is : (a b : Sym) → (sym_code b == sym_code a) ≡ true → b ≡ a
-sym_is y.Assign y.Assign h = refl
-sym_is y.Tilde y.Tilde h = refl
-sym_is y.Semicolon y.Semicolon h = refl
-sym_is y.LeftBrace y.LeftBrace h = refl
-sym_is y.RightBrace y.RightBrace h = refl
-sym_is y.LeftParen y.LeftParen h = refl
-sym_is y.RightParen y.RightParen h = refl
-sym_is y.Plus y.Plus h = refl
-sym_is y.Minus y.Minus h = refl
-sym_is y.Star y.Star h = refl
-sym_is y.Slash y.Slash h = refl
-sym_is y.Percent y.Percent h = refl
-sym_is y.Equal y.Equal h = refl
-sym_is y.NotEqual y.NotEqual h = refl
-sym_is y.Less y.Less h = refl
-sym_is y.LessEqual y.LessEqual h = refl
-sym_is y.Greater y.Greater h = refl
-sym_is y.GreaterEqual y.GreaterEqual h = refl
-sym_is y.Colon y.Colon h = refl
-sym_is y.Bar y.Bar h = refl
-sym_is _ _ h = cc
-
 is_this_sym : (a : Sym) (v : Word) → is_sym a v ≡ true → v ≡ w.Sym a
 is_this_sym a (w.Number n) h = cc
 is_this_sym a (w.Name n) h = cc
 is_this_sym a (w.Key n) h = cc
-is_this_sym a (w.Sym c) h = ap w.Sym (sym_is a c h)
-
-key_is : (a b : Key) → (key_code b == key_code a) ≡ true → b ≡ a
-key_is k.Skip k.Skip h = refl
-key_is k.If k.If h = refl
-key_is k.Else k.Else h = refl
-key_is k.While k.While h = refl
-key_is k.Choice k.Choice h = refl
-key_is k.Choose k.Choose h = refl
-key_is k.Or k.Or h = refl
-key_is k.And k.And h = refl
-key_is k.Not k.Not h = refl
-key_is k.True k.True h = refl
-key_is k.False k.False h = refl
-key_is k.Uniform k.Uniform h = refl
-key_is k.Observe k.Observe h = refl
-key_is k.Return k.Return h = refl
-key_is _ _ h = cc
+is_this_sym a (w.Sym c) h = ap w.Sym (same_true symbol.the_type tt c a h)
 
 is_this_key : (a : Key) (v : Word) → is_key a v ≡ true → v ≡ w.Key a
 is_this_key a (w.Number n) h = cc
 is_this_key a (w.Name n) h = cc
 is_this_key a (w.Sym n) h = cc
-is_this_key a (w.Key c) h = ap w.Key (key_is a c h)
+is_this_key a (w.Key c) h = ap w.Key (same_true reserved.the_type tt c a h)
 
 abbrev Took : Option (List Symbol) → List Word → Type 0
 Took None ts = ⊥

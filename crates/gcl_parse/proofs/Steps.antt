@@ -1,5 +1,8 @@
 -- Single steps of the pushdown, as the parser makes them.
-use Rattle.std.proofs.Common.{◌≡◌, ◌≢◌, ℕ, zero, suc, ◌<◌, ◌∙◌, refl, ap, sym, subst, arith, Bool, true, false, IsTrue, ◌==◌, List, [], ◌∷◌, ◌++◌, length, Option, Some, None, Result, Ok, Err}
+use Rattle.std.proofs.Common.{◌≡◌, ◌≢◌, ℕ, zero, suc, ◌<◌, ◌∙◌, refl, ap, sym, subst, arith, Bool, true, false, IsTrue, List, [], ◌∷◌, ◌++◌, length, Option, Some, None, Result, Ok, Err}
+use denote.Enum.Bare.{true_same, false_same}
+use Rattle.gcl_core.specs.contracts.tokens.Key as reserved
+use Rattle.gcl_core.specs.contracts.tokens.Sym as symbol
 use Rattle.gcl_core.specs.declared.words.Word.{Word}
 use Rattle.gcl_core.specs.declared.words.Word.TheVariants as w
 use Rattle.gcl_core.specs.declared.tokens.Key.{Key}
@@ -20,71 +23,23 @@ use Rattle.gcl_core.specs.text.Grammar.{operator, IsRow, or_row, and_row, sum_ro
 use Rattle.gcl_core.specs.text.Levels.{level_of, above}
 use Rattle.gcl_core.proofs.Ranks.{same_rank}
 use Rattle.gcl_parse.specs.inner.Starts.{begins_with, begun}
-use Rattle.gcl_parse.specs.inner.Fronts.{first, behind, key_code, sym_code, is_sym, is_key, number_at}
+use Rattle.gcl_parse.specs.inner.Fronts.{first, behind, is_sym, is_key, number_at}
 use Rattle.gcl_parse.specs.inner.Pushdown as m
 use Rattle.gcl_core.specs.text.Levels.{rank}
 use Rattle.gcl_parse.specs.inner.Pushdown.{Symbol, phrase, more, take_word, run, stops, goes_on, after_operand, arm_and_more, after_start}
 use Rattle.gcl_parse.specs.inner.Parses.{operator_at, if_of, is_row, leaf_at, Passes, Fails, Parses, ParsesBlock, ParsesElse, ParsesAs, draw, start_at}
 
-other_key : (a b : Key) → b ≢ a → (key_code b == key_code a) ≡ false
-other_key k.Skip k.Skip h = absurd (h refl)
-other_key k.If k.If h = absurd (h refl)
-other_key k.Else k.Else h = absurd (h refl)
-other_key k.While k.While h = absurd (h refl)
-other_key k.Choice k.Choice h = absurd (h refl)
-other_key k.Choose k.Choose h = absurd (h refl)
-other_key k.Or k.Or h = absurd (h refl)
-other_key k.And k.And h = absurd (h refl)
-other_key k.Not k.Not h = absurd (h refl)
-other_key k.True k.True h = absurd (h refl)
-other_key k.False k.False h = absurd (h refl)
-other_key k.Uniform k.Uniform h = absurd (h refl)
-other_key k.Observe k.Observe h = absurd (h refl)
-other_key k.Return k.Return h = absurd (h refl)
-other_key _ _ h = refl
-
-other_sym : (a b : Sym) → b ≢ a → (sym_code b == sym_code a) ≡ false
-other_sym y.Assign y.Assign h = absurd (h refl)
-other_sym y.Tilde y.Tilde h = absurd (h refl)
-other_sym y.Semicolon y.Semicolon h = absurd (h refl)
-other_sym y.LeftBrace y.LeftBrace h = absurd (h refl)
-other_sym y.RightBrace y.RightBrace h = absurd (h refl)
-other_sym y.LeftParen y.LeftParen h = absurd (h refl)
-other_sym y.RightParen y.RightParen h = absurd (h refl)
-other_sym y.Plus y.Plus h = absurd (h refl)
-other_sym y.Minus y.Minus h = absurd (h refl)
-other_sym y.Star y.Star h = absurd (h refl)
-other_sym y.Slash y.Slash h = absurd (h refl)
-other_sym y.Percent y.Percent h = absurd (h refl)
-other_sym y.Equal y.Equal h = absurd (h refl)
-other_sym y.NotEqual y.NotEqual h = absurd (h refl)
-other_sym y.Less y.Less h = absurd (h refl)
-other_sym y.LessEqual y.LessEqual h = absurd (h refl)
-other_sym y.Greater y.Greater h = absurd (h refl)
-other_sym y.GreaterEqual y.GreaterEqual h = absurd (h refl)
-other_sym y.Colon y.Colon h = absurd (h refl)
-other_sym y.Bar y.Bar h = absurd (h refl)
-other_sym _ _ h = refl
-
-same_key : (a : Key) → (key_code a == key_code a) ≡ true
-same_key k.Skip = refl
-same_key _ = refl
-
-same_sym : (a : Sym) → (sym_code a == sym_code a) ≡ true
-same_sym y.Assign = refl
-same_sym _ = refl
-
 pub not_sym : (a : Sym) (v : Word) → Some v ≢ Some (w.Sym a) → is_sym a v ≡ false
 not_sym a (w.Number n) h = refl
 not_sym a (w.Name n) h = refl
 not_sym a (w.Key b) h = refl
-not_sym a (w.Sym b) h = other_sym a b (λ e. h (ap (λ x. Some (w.Sym x)) e))
+not_sym a (w.Sym b) h = false_same symbol.the_type tt b a (λ e. h (ap (λ x. Some (w.Sym x)) e))
 
 pub not_key : (a : Key) (v : Word) → Some v ≢ Some (w.Key a) → is_key a v ≡ false
 not_key a (w.Number n) h = refl
 not_key a (w.Name n) h = refl
 not_key a (w.Sym b) h = refl
-not_key a (w.Key b) h = other_key a b (λ e. h (ap (λ x. Some (w.Key x)) e))
+not_key a (w.Key b) h = false_same reserved.the_type tt b a (λ e. h (ap (λ x. Some (w.Key x)) e))
 
 pub row_of : (l : Level) → IsTrue (is_row l) → IsRow l
 row_of l.Or h = or_row
@@ -204,7 +159,7 @@ bracket_on {old} {new} h s = ap (λ x. run x (phrase l.Atom ∷ s)) h ∙ open_b
 
 sym_at : (a : Sym) (ts : List Word) (s : List Symbol) → run (w.Sym a ∷ ts) (m.sym a ∷ s) ≡ run ts s
 unfolding run take_word
-sym_at a ts s = rw (same_sym a)
+sym_at a ts s = rw (true_same symbol.the_type a a refl)
 
 pub sym_on : {a : Sym} {old new : List Word} → old ≡ w.Sym a ∷ new → (s : List Symbol) → run old (m.sym a ∷ s) ≡ run new s
 sym_on {a} {old} {new} h s = ap (λ x. run x (m.sym a ∷ s)) h ∙ sym_at a new s
@@ -269,7 +224,7 @@ unsigned_parses old (Err e) new n p = fails_through (phrase l.Sign ∷ []) (phra
 
 key_at : (a : Key) (ts : List Word) (s : List Symbol) → run (w.Key a ∷ ts) (m.key a ∷ s) ≡ run ts s
 unfolding run take_word
-key_at a ts s = rw (same_key a)
+key_at a ts s = rw (true_same reserved.the_type a a refl)
 
 pub key_on : {a : Key} {old new : List Word} → old ≡ w.Key a ∷ new → (s : List Symbol) → run old (m.key a ∷ s) ≡ run new s
 key_on {a} {old} {new} h s = ap (λ x. run x (m.key a ∷ s)) h ∙ key_at a new s

@@ -1,13 +1,16 @@
 -- Marks, of which a canonical text is written: words and blanks. A mark's bytes are a token, a space or a line feed. This project's
 -- own rule.
 use Rattle.std.specs.Prelude.{ℕ, List, [], ◌∷◌, flat_map, codes, decimal, slice_index_or}
+use denote.Enum.Bare.{sameb}
+use Rattle.gcl_core.specs.contracts.tokens.Key as reserved
+use Rattle.gcl_core.specs.contracts.tokens.Sym as symbol
 use Rattle.gcl_core.specs.declared.tokens.Key.{Key}
-use Rattle.gcl_core.specs.declared.tokens.Key.TheVariants as key
 use Rattle.gcl_core.specs.declared.tokens.Sym.{Sym}
-use Rattle.gcl_core.specs.declared.tokens.Sym.TheVariants as sym
 use Rattle.gcl_core.specs.declared.words.Word.{Word}
 use Rattle.gcl_core.specs.declared.words.Word.TheVariants as word
-use Rattle.gcl_core.specs.text.Names.{Name}
+use Rattle.gcl_core.specs.text.Names.{Name, name_where}
+use Rattle.gcl_core.specs.text.Pieces.{symbols}
+use Rattle.gcl_core.specs.text.Tokens.{reserved_names}
 
 pub data Mark : Type 0 where
   a_word : Word → Mark
@@ -26,42 +29,10 @@ words_among (a_line_feed ∷ ms) = words_among ms
 -- ---- bytes
 
 abbrev pub key_text : Key → List ℕ
-key_text key.Skip = codes "skip"
-key_text key.If = codes "if"
-key_text key.Else = codes "else"
-key_text key.While = codes "while"
-key_text key.Choice = codes "choice"
-key_text key.Choose = codes "choose"
-key_text key.Or = codes "or"
-key_text key.And = codes "and"
-key_text key.Not = codes "not"
-key_text key.True = codes "true"
-key_text key.False = codes "false"
-key_text key.Uniform = codes "uniform"
-key_text key.Observe = codes "observe"
-key_text key.Return = codes "return"
+key_text k = name_where (sameb reserved.the_type k) reserved_names
 
 abbrev pub symbol_text : Sym → List ℕ
-symbol_text sym.Assign = codes ":="
-symbol_text sym.Tilde = codes "~"
-symbol_text sym.Semicolon = codes ";"
-symbol_text sym.LeftBrace = codes "{"
-symbol_text sym.RightBrace = codes "}"
-symbol_text sym.LeftParen = codes "("
-symbol_text sym.RightParen = codes ")"
-symbol_text sym.Plus = codes "+"
-symbol_text sym.Minus = codes "-"
-symbol_text sym.Star = codes "*"
-symbol_text sym.Slash = codes "/"
-symbol_text sym.Percent = codes "%"
-symbol_text sym.Equal = codes "="
-symbol_text sym.NotEqual = codes "!="
-symbol_text sym.Less = codes "<"
-symbol_text sym.LessEqual = codes "<="
-symbol_text sym.Greater = codes ">"
-symbol_text sym.GreaterEqual = codes ">="
-symbol_text sym.Colon = codes ":"
-symbol_text sym.Bar = codes "|"
+symbol_text s = name_where (sameb symbol.the_type s) symbols
 
 -- a number by its digits, without leading zeros; a name by its bytes, and by none where there is no name of its number
 abbrev pub word_text : List Name → Word → List ℕ

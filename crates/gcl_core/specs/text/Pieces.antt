@@ -1,11 +1,12 @@
 -- The pieces of a text: blanks, comments, numbers, names and symbols, each the longest that begins at its place.
 -- This project's own rule.
-use Rattle.std.specs.Prelude.{◌≡◌, ℕ, ◌<◌, ◌≤◌, ◌==◌, nat_le, Bool, false, ◌&&◌, ◌||◌, not, IsTrue, List, [], ◌∷◌, length, take, drop, Option, Some, None, is_some, if◌then◌else◌}
+use Rattle.std.specs.Prelude.{◌≡◌, ℕ, ◌<◌, ◌≤◌, ◌==◌, nat_le, Bool, false, ◌&&◌, ◌||◌, not, IsTrue, List, [], ◌∷◌, length, take, drop, Option, is_some, map}
 use Rattle.std.specs.List.{list_all}
 use Rattle.gcl_core.specs.declared.tokens.Sym.{Sym}
-use Rattle.gcl_core.specs.declared.tokens.Sym.TheVariants as y
+use Rattle.gcl_core.specs.declared.tokens.TheConstants.{SYMBOLS}
 use Rattle.gcl_core.specs.declared.tokens.PieceKind.{PieceKind}
 use Rattle.gcl_core.specs.declared.tokens.PieceKind.TheVariants as kind
+use Rattle.gcl_core.specs.text.Names.{Name, value_named}
 
 -- ---- bytes
 
@@ -26,30 +27,14 @@ goes_on_name b = is_letter b || is_digit b
 abbrev pub in_comment : ℕ → Bool
 in_comment b = not (b == 10)
 
--- ---- symbols: those of one byte, and those of two, whose second is `=`
+-- ---- symbols
 
-abbrev pub one_byte_symbols : List (ℕ × Sym)
-one_byte_symbols =
-    (126, y.Tilde) ∷ (59, y.Semicolon) ∷ (123, y.LeftBrace) ∷ (125, y.RightBrace) ∷ (40, y.LeftParen) ∷ (41, y.RightParen) ∷ (43, y.Plus) ∷ (45, y.Minus) ∷ (42, y.Star) ∷ (47, y.Slash)
-    ∷ (37, y.Percent) ∷ (61, y.Equal) ∷ (60, y.Less) ∷ (62, y.Greater) ∷ (58, y.Colon) ∷ (124, y.Bar) ∷ []
+abbrev pub symbols : List (Name × Sym)
+symbols = map (λ s. (s.0.now, s.1)) SYMBOLS
 
-abbrev pub symbols_before_equals : List (ℕ × Sym)
-symbols_before_equals = (58, y.Assign) ∷ (33, y.NotEqual) ∷ (60, y.LessEqual) ∷ (62, y.GreaterEqual) ∷ []
-
-abbrev pub symbol_among : ℕ → List (ℕ × Sym) → Option Sym
-symbol_among b [] = None
-symbol_among b (e ∷ es) = if b == e.0 then Some e.1 else symbol_among b es
-
-abbrev pub one_byte : ℕ → Option Sym
-one_byte b = symbol_among b one_byte_symbols
-
-abbrev pub two_bytes : ℕ → ℕ → Option Sym
-two_bytes b c = if c == 61 then symbol_among b symbols_before_equals else None
-
-abbrev pub symbol_of : List ℕ → Option Sym
-symbol_of (b ∷ []) = one_byte b
-symbol_of (b ∷ c ∷ []) = two_bytes b c
-symbol_of _ = None
+-- the symbol that these bytes are
+unfoldable pub symbol_of : List ℕ → Option Sym
+symbol_of bytes = value_named symbols bytes
 
 -- ---- pieces
 

@@ -1,32 +1,26 @@
 -- The tokens of pieces: a token for each piece that is no blank and no comment, with the bytes that it spans. This project's own rule.
-use Rattle.std.specs.Prelude.{ℕ, ◌+◌, List, [], ◌∷◌, length, Option, Some, None, option_map, codes, if◌then◌else◌}
+use Rattle.std.specs.Prelude.{ℕ, ◌+◌, List, [], ◌∷◌, length, Option, Some, None, option_map, map}
 use Rattle.std.specs.List.{cons_option}
 use Rattle.std.specs.Str.Parse.{digits_value}
 use Rattle.gcl_core.specs.declared.tokens.Key.{Key}
-use Rattle.gcl_core.specs.declared.tokens.Key.TheVariants as reserved
 use Rattle.gcl_core.specs.declared.tokens.PieceKind.{PieceKind}
 use Rattle.gcl_core.specs.declared.tokens.PieceKind.TheVariants as kind
 use Rattle.gcl_core.specs.declared.tokens.TokenKind.{TokenKind}
 use Rattle.gcl_core.specs.declared.tokens.TokenKind.TheVariants as token
 use Rattle.gcl_core.specs.declared.tokens.Token.{Token}
-use Rattle.gcl_core.specs.text.Names.{Name, same_name}
+use Rattle.gcl_core.specs.declared.tokens.TheConstants.{KEYWORDS}
+use Rattle.gcl_core.specs.text.Names.{Name, value_named}
 use Rattle.gcl_core.specs.text.Pieces.{symbol_of, Piece}
 
 -- ---- reserved names
 
+-- the reserved names
 abbrev pub reserved_names : List (Name × Key)
-reserved_names =
-    (codes "skip", reserved.Skip) ∷ (codes "if", reserved.If) ∷ (codes "else", reserved.Else) ∷ (codes "while", reserved.While) ∷ (codes "choice", reserved.Choice)
-    ∷ (codes "choose", reserved.Choose) ∷ (codes "or", reserved.Or) ∷ (codes "and", reserved.And) ∷ (codes "not", reserved.Not) ∷ (codes "true", reserved.True)
-    ∷ (codes "false", reserved.False) ∷ (codes "uniform", reserved.Uniform) ∷ (codes "observe", reserved.Observe) ∷ (codes "return", reserved.Return) ∷ []
-
-abbrev pub key_among : List (Name × Key) → Name → Option Key
-key_among [] name = None
-key_among (e ∷ es) name = if same_name name e.0 then Some e.1 else key_among es name
+reserved_names = map (λ k. (k.0.now, k.1)) KEYWORDS
 
 -- the reserved name that this is
 unfoldable pub key_of : Name → Option Key
-key_of name = key_among reserved_names name
+key_of name = value_named reserved_names name
 
 -- ---- tokens
 

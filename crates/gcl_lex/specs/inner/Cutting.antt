@@ -1,10 +1,21 @@
 -- The piece at the front of a text, found by its first byte.
-use Rattle.std.specs.Prelude.{ℕ, suc, ◌==◌, ◌||◌, List, [], ◌∷◌, Option, Some, None, is_some, if◌then◌else◌}
+use Rattle.std.specs.Prelude.{ℕ, Bool, suc, ◌==◌, ◌||◌, List, [], ◌∷◌, Option, Some, None, is_some, if◌then◌else◌}
 use Rattle.std.specs.List.{prefix_len}
 use Rattle.gcl_core.specs.declared.tokens.PieceKind.{PieceKind}
 use Rattle.gcl_core.specs.declared.tokens.PieceKind.TheVariants as kind
+use Rattle.gcl_core.specs.declared.tokens.Sym.{Sym}
 use Rattle.gcl_lex.specs.declared.cutting.Front.{Front}
-use Rattle.gcl_core.specs.text.Pieces.{is_blank, is_digit, is_letter, goes_on_name, in_comment, symbols_before_equals, symbol_among, one_byte, two_bytes}
+use Rattle.gcl_core.specs.text.Pieces.{is_blank, is_digit, is_letter, goes_on_name, in_comment, symbol_of}
+
+abbrev pub one_byte : ℕ → Option Sym
+one_byte b = symbol_of (b ∷ [])
+
+abbrev pub two_bytes : ℕ → ℕ → Option Sym
+two_bytes b c = symbol_of (b ∷ c ∷ [])
+
+-- the byte is a symbol, or one with `=` behind it
+abbrev pub begins_symbol : ℕ → Bool
+begins_symbol b = is_some (one_byte b) || is_some (two_bytes b 61)
 
 -- the kind of the piece that begins with this byte
 unfoldable pub kind_begun : ℕ → Option PieceKind
@@ -12,7 +23,7 @@ kind_begun b =
     if is_blank b then Some kind.Blank
     else (if b == 35 then Some kind.Comment
     else (if is_digit b then Some kind.Number
-    else (if is_letter b then Some kind.Name else (if is_some (one_byte b) || is_some (symbol_among b symbols_before_equals) then Some kind.Symbol else None))))
+    else (if is_letter b then Some kind.Name else (if begins_symbol b then Some kind.Symbol else None))))
 
 abbrev pub long : PieceKind → ℕ → Option Front
 long c n = Some (record { kind = c; len = n })
