@@ -1,5 +1,5 @@
 -- Single steps of the pushdown, as the parser makes them.
-use Rattle.std.proofs.Common.{◌≡◌, ◌≢◌, ℕ, zero, suc, ◌<◌, ◌∙◌, refl, ap, sym, subst, arith, Bool, true, false, IsTrue, List, [], ◌∷◌, ◌++◌, length, Option, Some, None, Result, Ok, Err}
+use Rattle.std.proofs.Common.{◌≡◌, ◌≢◌, ℕ, zero, suc, ◌<◌, ◌∙◌, refl, ap, sym, subst, arith, Bool, true, false, IsTrue, ◌==◌, List, [], ◌∷◌, ◌++◌, length, Option, Some, None, Result, Ok, Err}
 use denote.Enum.Bare.{true_same, false_same}
 use Rattle.gcl_core.specs.contracts.tokens.Key as reserved
 use Rattle.gcl_core.specs.contracts.tokens.Sym as symbol
