@@ -19,20 +19,20 @@ pub after_same : {A B : Type 0} (x : Reading A) (f g : A → List Bool → Readi
 after_same (gives a w) f g h = h a w
 after_same more_bits f g h = refl
 
-pub end_same : {A : Type 0} (stop : End → A) (e : End) (f g : State → A) → ((s : State) → f s ≡ g s) → by_end stop e f ≡ by_end stop e g
+pub end_same : {A : Type 0} (stop : End → A) (e : End) (f g : State → A) → ((s : State) → f s ≡ g s) → by_end e stop f ≡ by_end e stop g
 end_same stop (on s) f g h = h s
 end_same stop failed f g h = refl
 end_same stop (fault x) f g h = refl
 end_same stop (limit x) f g h = refl
 
-pub value_same : {A : Type 0} (stop : Fault → A) (v : Value) (f g : ℤ → A) → ((z : ℤ) → f z ≡ g z) → by_value stop v f ≡ by_value stop v g
+pub value_same : {A : Type 0} (stop : Fault → A) (v : Value) (f g : ℤ → A) → ((z : ℤ) → f z ≡ g z) → by_value v stop f ≡ by_value v stop g
 value_same stop (Ok z) f g h = h z
 value_same stop (Err x) f g h = refl
 
 pub truth_same : {A : Type 0} (z : ℤ) (a b c d : A) → a ≡ c → b ≡ d → by_truth z a b ≡ by_truth z c d
 truth_same z a b c d p q = ap (λ x. by_truth z x b) p ∙ ap (by_truth z c) q
 
-pub class_same : {A : Type 0} (stop : A) (o : Option ℕ) (f g : ℕ → A) → ((i : ℕ) → f i ≡ g i) → by_class stop o f ≡ by_class stop o g
+pub class_same : {A : Type 0} (stop : A) (o : Option ℕ) (f g : ℕ → A) → ((i : ℕ) → f i ≡ g i) → by_class o stop f ≡ by_class o stop g
 class_same stop None f g h = refl
 class_same stop (Some i) f g h = h i
 
@@ -46,7 +46,7 @@ loop_same guard f g zero s w h = refl
 loop_same guard f g (suc t) s w h =
     value_same (λ x. gives (fault x) w) (guard s) _ _ (λ v.
     truth_same v _ _ _ _
-    (ap (λ x. after x (λ e rest. by_end (λ e. gives e rest) e (λ s. loop_on guard f t s rest))) (h s w)
+    (ap (λ x. after x (λ e rest. by_end e (λ e. gives e rest) (λ s. loop_on guard f t s rest))) (h s w)
     ∙ after_same (g s w) _ _ (λ e rest. end_same (λ e. gives e rest) e _ _ (λ s. loop_same guard f g t s rest h)))
     refl)
 
@@ -57,7 +57,7 @@ module _ (n r : ℕ) where
   member_on (Some t) s w = choice_tree_on n r t s w
 
   row_in_front : (o : Option ChoiceTree) (ts : ChoiceTrees) (s : State) (w : List Bool) →
-      choice_row_on n r (in_front o ts) s w ≡ after (member_on o s w) (λ e rest. by_end (λ e. gives e rest) e (λ s. choice_row_on n r ts s rest))
+      choice_row_on n r (in_front o ts) s w ≡ after (member_on o s w) (λ e rest. by_end e (λ e. gives e rest) (λ s. choice_row_on n r ts s rest))
   row_in_front None ts s w = refl
   row_in_front (Some t) ts s w = refl
 
@@ -80,7 +80,7 @@ module _ (n r : ℕ) where
     members_mean done s w = refl
     members_mean (st ▸ b) s w =
         row_in_front (member_of st) (members_of b) s w
-        ∙ ap (λ x. after x (λ e rest. by_end (λ e. gives e rest) e (λ s. choice_row_on n r (members_of b) s rest))) (member_means st s w)
+        ∙ ap (λ x. after x (λ e rest. by_end e (λ e. gives e rest) (λ s. choice_row_on n r (members_of b) s rest))) (member_means st s w)
         ∙ after_same (statement_on n r st s w) _ _ (λ e rest. end_same (λ e. gives e rest) e _ _ (λ s. members_mean b s rest))
 
     arm_means : (arms : ArmList) (i : ℕ) (s : State) (w : List Bool) → choice_arm_on n r (arm_trees arms) i s w ≡ arm_on n r arms i s w

@@ -15,22 +15,22 @@ module _ (n r : ℕ) where
   abbrev mutual
     pub choice_tree_on : ChoiceTree → State → List Bool → Reading End
     choice_tree_on Fail s w = gives failed w
-    choice_tree_on (Set x e) s w = by_value (λ f. gives (fault f) w) (value_of e s) (λ v. gives (on (slice_set s x v)) w)
+    choice_tree_on (Set x e) s w = by_value (value_of e s) (λ f. gives (fault f) w) (λ v. gives (on (slice_set s x v)) w)
     choice_tree_on (Test e a c) s w =
-        by_value (λ f. gives (fault f) w) (value_of e s) (λ v. by_truth v (choice_tree_on a s w) (choice_tree_on c s w))
+        by_value (value_of e s) (λ f. gives (fault f) w) (λ v. by_truth v (choice_tree_on a s w) (choice_tree_on c s w))
     choice_tree_on (Choice p a c) s w =
         after (draw_on (choice_ends p) r w)
-        (λ class rest. by_class (gives (limit Attempts) rest) class (λ i. by_side i (choice_tree_on a s rest) (choice_tree_on c s rest)))
+        (λ class rest. by_class class (gives (limit Attempts) rest) (λ i. by_side i (choice_tree_on a s rest) (choice_tree_on c s rest)))
     choice_tree_on (Choose ps ts) s w =
         after (draw_on (partial_sums ps) r w)
-        (λ class rest. by_class (gives (limit Attempts) rest) class (λ i. choice_arm_on ts i s rest))
-    choice_tree_on (Uniform x e) s w = by_value (λ f. gives (fault f) w) (value_of e s) (λ v. uniform_on r x v s w)
+        (λ class rest. by_class class (gives (limit Attempts) rest) (λ i. choice_arm_on ts i s rest))
+    choice_tree_on (Uniform x e) s w = by_value (value_of e s) (λ f. gives (fault f) w) (λ v. uniform_on r x v s w)
     choice_tree_on (Row ts) s w = choice_row_on ts s w
     choice_tree_on (Fix e a) s w = loop_on (value_of e) (choice_tree_on a) n s w
 
     pub choice_row_on : ChoiceTrees → State → List Bool → Reading End
     choice_row_on no_tree s w = gives (on s) w
-    choice_row_on (t ▹ ts) s w = after (choice_tree_on t s w) (λ e rest. by_end (λ e. gives e rest) e (λ s. choice_row_on ts s rest))
+    choice_row_on (t ▹ ts) s w = after (choice_tree_on t s w) (λ e rest. by_end e (λ e. gives e rest) (λ s. choice_row_on ts s rest))
 
     -- the arm with a number; there is one for each class of the draw
     pub choice_arm_on : ChoiceTrees → ℕ → State → List Bool → Reading End

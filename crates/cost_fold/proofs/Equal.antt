@@ -85,7 +85,7 @@ pub none_more : (w0 w1 x0 x1 a0 a1 : ℕ) → x0 * a1 ≡ a0 * x1 → x0 * (w1 *
 none_more w0 w1 x0 x1 a0 a1 e = let z = ap (λ z. z * w1) e in omega arith
 
 -- the entries that go on
-pub average_going : (m : Weighted End) (g : State → Fraction) → IsEqual (on_average (going_on m) g) (on_average m (λ e. by_end (λ e. zero_share) e g))
+pub average_going : (m : Weighted End) (g : State → Fraction) → IsEqual (on_average (going_on m) g) (on_average m (λ e. by_end e (λ e. zero_share) g))
 average_going [] g = refl
 average_going ((w, on s) ∷ m) g = equal_plus (times w (g s)) (times w (g s)) _ _ refl (average_going m g)
 average_going ((w, failed) ∷ m) g = none_more w.0 w.1 _ _ _ _ (average_going m g)
@@ -95,7 +95,7 @@ average_going ((w, limit l) ∷ m) g = none_more w.0 w.1 _ _ _ _ (average_going 
 -- by a guard
 module _ (v : State → Value) (f g : State → Fraction) where
   abbrev guarded : Value → State → Fraction
-  guarded o s = by_value (λ e. zero_share) o (λ z. by_truth z (f s) (g s))
+  guarded o s = by_value o (λ e. zero_share) (λ z. by_truth z (f s) (g s))
 
   pub average_guard : (I : Table) → IsEqual (on_average I (λ s. guarded (v s) s)) (plus (on_average (only (holds v) I) f) (on_average (only (fails v) I) g))
   average_guard [] = refl

@@ -67,7 +67,7 @@ wholes_bound N v (e ∷ I) h = wholes_append N _ (drawn_bound v I) (by_state (v 
     by_sign (pos (suc m)) = (h.0, tt)
     by_sign (negsuc m) = tt
 
-    by_state : (o : Value) → Wholes N (by_value (λ f. []) o (λ z. by_bound z [] (λ m. (e.0, uniform_ends m) ∷ [])))
+    by_state : (o : Value) → Wholes N (by_value o (λ f. []) (λ z. by_bound z [] (λ m. (e.0, uniform_ends m) ∷ [])))
     by_state (Ok z) = by_sign z
     by_state (Err f) = tt
 
@@ -105,7 +105,7 @@ module _ (r N M : ℕ) where
   most_bound e [] f a w p = none_most 0 (63 * r)
   most_bound e (d ∷ I) f a w p =
       let v = value_of e in
-      let one : Reached = by_value (λ f. []) (v d.1) (λ z. by_bound z [] (λ m. (d.0, uniform_ends m) ∷ [])) in
+      let one : Reached = by_value (v d.1) (λ f. []) (λ z. by_bound z [] (λ m. (d.0, uniform_ends m) ∷ [])) in
       let i = most_bound e I f a.1 w.1 (priced_second (Some r) M one (drawn_bound v I) p) in
       let h : amount N (price (Some r) M) one ≤ U * (M * (63 * r)) = by_state (v d.1) refl (priced_first (Some r) M one (drawn_bound v I) p) in
       let x : amount N (price (Some r) M) (drawn_bound v (d ∷ I)) ≡ amount N (price (Some r) M) one + amount N (price (Some r) M) (drawn_bound v I) = amount_append N (price (Some r) M) one (drawn_bound v I) in
@@ -129,7 +129,7 @@ module _ (r N M : ℕ) where
           omega arith
       by_sign (negsuc m) f k = omega arith
 
-      by_state : (o : Value) → value_of e d.1 ≡ o → Priced (Some r) M (by_value (λ f. []) o (λ z. by_bound z [] (λ m. (d.0, uniform_ends m) ∷ []))) → amount N (price (Some r) M) (by_value (λ f. []) o (λ z. by_bound z [] (λ m. (d.0, uniform_ends m) ∷ []))) ≤ U * (M * (63 * r))
+      by_state : (o : Value) → value_of e d.1 ≡ o → Priced (Some r) M (by_value o (λ f. []) (λ z. by_bound z [] (λ m. (d.0, uniform_ends m) ∷ []))) → amount N (price (Some r) M) (by_value o (λ f. []) (λ z. by_bound z [] (λ m. (d.0, uniform_ends m) ∷ []))) ≤ U * (M * (63 * r))
       by_state (Ok z) q k = by_sign z (value_fits e d.1 z f a.0 q) k
       by_state (Err g) q k = omega arith
 

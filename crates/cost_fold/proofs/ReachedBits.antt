@@ -36,7 +36,7 @@ average_each : (g : List ℕ → Fraction) (ends : List ℕ) (I : Table) → on_
 average_each g ends [] = refl
 average_each g ends (e ∷ I) = ap (plus (times e.0 (g ends))) (average_each g ends I)
 
-average_bound : (g : List ℕ → Fraction) (v : State → Value) (I : Table) → IsEqual (on_average (drawn_bound v I) g) (on_average I (λ s. by_value (λ f. zero_share) (v s) (λ z. by_bound z zero_share (λ m. g (uniform_ends m)))))
+average_bound : (g : List ℕ → Fraction) (v : State → Value) (I : Table) → IsEqual (on_average (drawn_bound v I) g) (on_average I (λ s. by_value (v s) (λ f. zero_share) (λ z. by_bound z zero_share (λ m. g (uniform_ends m)))))
 average_bound g v [] = refl
 average_bound g v (e ∷ I) = by_state (v e.1) (average_bound g v I)
   where
@@ -44,19 +44,19 @@ average_bound g v (e ∷ I) = by_state (v e.1) (average_bound g v I)
     X = on_average (drawn_bound v I) g
 
     A : Fraction
-    A = on_average I (λ s. by_value (λ f. zero_share) (v s) (λ z. by_bound z zero_share (λ m. g (uniform_ends m))))
+    A = on_average I (λ s. by_value (v s) (λ f. zero_share) (λ z. by_bound z zero_share (λ m. g (uniform_ends m))))
 
     by_sign : (z : ℤ) → IsEqual X A → IsEqual (on_average (by_bound z [] (λ m. (e.0, uniform_ends m) ∷ []) ++ drawn_bound v I) g) (plus (times e.0 (by_bound z zero_share (λ m. g (uniform_ends m)))) A)
     by_sign (pos zero) i = none_more e.0.0 e.0.1 X.0 X.1 A.0 A.1 i
     by_sign (pos (suc m)) i = equal_plus (times e.0 (g (uniform_ends (suc m)))) (times e.0 (g (uniform_ends (suc m)))) X A refl i
     by_sign (negsuc m) i = none_more e.0.0 e.0.1 X.0 X.1 A.0 A.1 i
 
-    by_state : (o : Value) → IsEqual X A → IsEqual (on_average (by_value (λ f. []) o (λ z. by_bound z [] (λ m. (e.0, uniform_ends m) ∷ [])) ++ drawn_bound v I) g) (plus (times e.0 (by_value (λ f. zero_share) o (λ z. by_bound z zero_share (λ m. g (uniform_ends m))))) A)
+    by_state : (o : Value) → IsEqual X A → IsEqual (on_average (by_value o (λ f. []) (λ z. by_bound z [] (λ m. (e.0, uniform_ends m) ∷ [])) ++ drawn_bound v I) g) (plus (times e.0 (by_value o (λ f. zero_share) (λ z. by_bound z zero_share (λ m. g (uniform_ends m))))) A)
     by_state (Ok z) i = by_sign z i
     by_state (Err f) i = none_more e.0.0 e.0.1 X.0 X.1 A.0 A.1 i
 
 -- ---- second numbers
-by_value_positive : (v : Value) (go : ℤ → Fraction) → ((z : ℤ) → 0 < (go z).1) → 0 < (by_value (λ f. zero_share) v go).1
+by_value_positive : (v : Value) (go : ℤ → Fraction) → ((z : ℤ) → 0 < (go z).1) → 0 < (by_value v (λ f. zero_share) go).1
 by_value_positive (Ok z) go h = h z
 by_value_positive (Err f) go h = omega arith
 
@@ -72,13 +72,13 @@ by_bound_positive (pos zero) g h = omega arith
 by_bound_positive (pos (suc m)) g h = h (suc m)
 by_bound_positive (negsuc m) g h = omega arith
 
-by_end_positive : (e : End) (g : State → Fraction) → ((s : State) → 0 < (g s).1) → 0 < (by_end (λ e. zero_share) e g).1
+by_end_positive : (e : End) (g : State → Fraction) → ((s : State) → 0 < (g s).1) → 0 < (by_end e (λ e. zero_share) g).1
 by_end_positive (on s) g h = h s
 by_end_positive failed g h = omega arith
 by_end_positive (fault f) g h = omega arith
 by_end_positive (limit l) g h = omega arith
 
-by_class_positive : (class : Option ℕ) (g : ℕ → Fraction) → ((i : ℕ) → 0 < (g i).1) → 0 < (by_class zero_share class g).1
+by_class_positive : (class : Option ℕ) (g : ℕ → Fraction) → ((i : ℕ) → 0 < (g i).1) → 0 < (by_class class zero_share g).1
 by_class_positive None g h = omega arith
 by_class_positive (Some i) g h = h i
 
@@ -93,8 +93,8 @@ module _ (n r : ℕ) where
   turns_positive v b w h zero s = omega arith
   turns_positive v b w h (suc t) s =
       let more = loop_bits v (block_bits n r b) (weighted_ends n (Some r) b) t in
-      let X = on_average (weighted_ends n (Some r) b s) (λ e. by_end (λ e. zero_share) e more) in
-      let pX = average_positive (weighted_ends n (Some r) b s) (λ e. by_end (λ e. zero_share) e more) (ends_positive n (Some r) b s w) (λ e. by_end_positive e more (turns_positive v b w h t)) in
+      let X = on_average (weighted_ends n (Some r) b s) (λ e. by_end e (λ e. zero_share) more) in
+      let pX = average_positive (weighted_ends n (Some r) b s) (λ e. by_end e (λ e. zero_share) more) (ends_positive n (Some r) b s w) (λ e. by_end_positive e more (turns_positive v b w h t)) in
       by_value_positive (v s) (λ z. by_truth z (plus (block_bits n r b s) X) zero_share) (λ z. by_truth_positive z (plus (block_bits n r b s) X) zero_share (plus_positive (block_bits n r b s) X (h s) pX) (omega arith))
 
   mutual
@@ -116,7 +116,7 @@ module _ (n r : ℕ) where
         (plus_positive o zero_share (product_pos (no_class_weight p.den (Some r)).1 1 (no_class_pos p.den (Some r)) (omega arith)) (omega arith))))
     statement_bits_positive (Choose arms) w s =
         let ends = partial_sums (parts_of arms) in
-        let go = λ (class : Option ℕ). by_class zero_share class (λ i. arm_bits n r arms i s) in
+        let go = λ (class : Option ℕ). by_class class zero_share (λ i. arm_bits n r arms i s) in
         let h : 0 < last_end ends = let o = w.0.positive in let e = last_is (parts_of arms) in omega arith in
         plus_positive (c ends) (on_average (weighted_classes ends (Some r)) go) (draw_bits_pos ends r)
         (average_positive (weighted_classes ends (Some r)) go (p_draw ends (Some r) h) (λ class. by_class_positive class (λ i. arm_bits n r arms i s) (λ i. arm_bits_positive arms w.1 i s)))
@@ -126,7 +126,7 @@ module _ (n r : ℕ) where
     pub block_bits_positive : (b : Statements) → BlockIsWeighed b → (s : State) → 0 < (block_bits n r b s).1
     block_bits_positive done w s = omega arith
     block_bits_positive (st ▸ b) w s =
-        let go = λ (e : End). by_end (λ e. zero_share) e (block_bits n r b) in
+        let go = λ (e : End). by_end e (λ e. zero_share) (block_bits n r b) in
         plus_positive (statement_bits n r st s) (on_average (statement_weighted n (Some r) st s) go) (statement_bits_positive st w.0 s)
         (average_positive (statement_weighted n (Some r) st s) go (statement_positive n (Some r) st s w.0) (λ e. by_end_positive e (block_bits n r b) (block_bits_positive b w.1)))
 
@@ -148,20 +148,20 @@ module _ (n r : ℕ) where
 
   -- classes that are numbered from one more
   classes_shifted : (weight : ℕ → Fraction) (i d : ℕ) (ends : List ℕ) (k : ℕ → Fraction) →
-      on_average (classes_from weight (i + 1) d ends) (λ class. by_class zero_share class k) ≡ on_average (classes_from weight i d ends) (λ class. by_class zero_share class (λ j. k (suc j)))
+      on_average (classes_from weight (i + 1) d ends) (λ class. by_class class zero_share k) ≡ on_average (classes_from weight i d ends) (λ class. by_class class zero_share (λ j. k (suc j)))
   classes_shifted weight i d [] k = refl
   classes_shifted weight i d (e ∷ ends) k =
       let next : i + 1 ≡ suc i = omega arith in
-      ap (λ j. plus (times (weight (e - d)) (k j)) (on_average (classes_from weight (i + 1 + 1) e ends) (λ class. by_class zero_share class k))) next
+      ap (λ j. plus (times (weight (e - d)) (k j)) (on_average (classes_from weight (i + 1 + 1) e ends) (λ class. by_class class zero_share k))) next
       ∙ ap (plus (times (weight (e - d)) (k (suc i)))) (classes_shifted weight (i + 1) e ends k)
 
   arm_by_arm : (b d : ℕ) (arms : ArmList) (s : State) →
-      on_average (classes_from (class_weight b (Some r)) 0 d (sums_from d (parts_of arms))) (λ class. by_class zero_share class (λ i. arm_bits n r arms i s)) ≡ bits_of_arms b arms s
+      on_average (classes_from (class_weight b (Some r)) 0 d (sums_from d (parts_of arms))) (λ class. by_class class zero_share (λ i. arm_bits n r arms i s)) ≡ bits_of_arms b arms s
   arm_by_arm b d no_arm s = refl
   arm_by_arm b d (arm p a arms) s =
       let size : d + p - d ≡ p = omega arith in
       let rest = classes_shifted (class_weight b (Some r)) 0 (d + p) (sums_from (d + p) (parts_of arms)) (λ i. arm_bits n r (arm p a arms) i s) in
-      ap (λ k. plus (times (class_weight b (Some r) k) (block_bits n r a s)) (on_average (classes_from (class_weight b (Some r)) 1 (d + p) (sums_from (d + p) (parts_of arms))) (λ class. by_class zero_share class (λ i. arm_bits n r (arm p a arms) i s)))) size
+      ap (λ k. plus (times (class_weight b (Some r) k) (block_bits n r a s)) (on_average (classes_from (class_weight b (Some r)) 1 (d + p) (sums_from (d + p) (parts_of arms))) (λ class. by_class class zero_share (λ i. arm_bits n r (arm p a arms) i s)))) size
       ∙ ap (plus (times (class_weight b (Some r) p) (block_bits n r a s))) (rest ∙ arm_by_arm b (d + p) arms s)
 
   -- with what no attempt decides, which reads nothing more
@@ -169,7 +169,7 @@ module _ (n r : ℕ) where
   choose_bits arms s =
       let ends = partial_sums (parts_of arms) in
       let b = sum (parts_of arms) in
-      let go = λ (class : Option ℕ). by_class zero_share class (λ i. arm_bits n r arms i s) in
+      let go = λ (class : Option ℕ). by_class class zero_share (λ i. arm_bits n r arms i s) in
       let X = bits_of_arms b arms s in
       let o = no_class_weight b (Some r) in
       let all : on_average (weighted_classes ends (Some r)) go ≡ plus X (plus (times o zero_share) zero_share)
@@ -200,9 +200,9 @@ module _ (n r : ℕ) where
       let f = block_flow n (Some r) b A in
       let more = loop_bits v (block_bits n r b) (weighted_ends n (Some r) b) t in
       let pm = turns_positive v b w (block_bits_positive b w) t in
-      let rest = λ (s : State). on_average (weighted_ends n (Some r) b s) (λ e. by_end (λ e. zero_share) e more) in
+      let rest = λ (s : State). on_average (weighted_ends n (Some r) b s) (λ e. by_end e (λ e. zero_share) more) in
       let first = λ (s : State). plus (block_bits n r b s) (rest s) in
-      let prest = λ (s : State). average_positive (weighted_ends n (Some r) b s) (λ e. by_end (λ e. zero_share) e more) (ends_positive n (Some r) b s w) (λ e. by_end_positive e more pm) in
+      let prest = λ (s : State). average_positive (weighted_ends n (Some r) b s) (λ e. by_end e (λ e. zero_share) more) (ends_positive n (Some r) b s w) (λ e. by_end_positive e more pm) in
       let pf = (p_all n (Some r) b A w pa).next in
       let D = block_draws n (Some r) b A in
       let E = loop_draws v (block_draws n (Some r) b) (block_flow n (Some r) b) t f.next in
@@ -323,8 +323,8 @@ module _ (n r : ℕ) where
         let pf = (p_one n (Some r) st I w.0 p).next in
         let more = block_bits n r b in
         let pm = block_bits_positive b w.1 in
-        let rest = λ (s : State). on_average (statement_weighted n (Some r) st s) (λ e. by_end (λ e. zero_share) e more) in
-        let prest = λ (s : State). average_positive (statement_weighted n (Some r) st s) (λ e. by_end (λ e. zero_share) e more) (statement_positive n (Some r) st s w.0) (λ e. by_end_positive e more pm) in
+        let rest = λ (s : State). on_average (statement_weighted n (Some r) st s) (λ e. by_end e (λ e. zero_share) more) in
+        let prest = λ (s : State). average_positive (statement_weighted n (Some r) st s) (λ e. by_end e (λ e. zero_share) more) (statement_positive n (Some r) st s w.0) (λ e. by_end_positive e more pm) in
         let D = statement_draws n (Some r) st I in
         let E = block_draws n (Some r) b f.next in
         let y = equal_trans (on_average E c) (on_average f.next more) (on_average I rest) (average_positive f.next more pf pm) (block_reached b w.1 f.next pf) (next_statement n (Some r) I p more pm st w.0) in

@@ -90,7 +90,7 @@ module _ (N : ℕ) (G : State → ℕ) where
 
 module _ (n : ℕ) (r : Option ℕ) (I : Table) (p : Positive I) (g : State → Fraction) (pg : (s : State) → 0 < (g s).1) where
   abbrev ongoing : End → Fraction
-  ongoing e = by_end (λ e. zero_share) e g
+  ongoing e = by_end e (λ e. zero_share) g
 
   ongoing_positive : (e : End) → 0 < (ongoing e).1
   ongoing_positive (on s) = pg s
@@ -105,12 +105,12 @@ module _ (n : ℕ) (r : Option ℕ) (I : Table) (p : Positive I) (g : State → 
       equal_trans (on_average f.next g) (on_average (going_on (taken_on I k)) g) (on_average I (λ s. on_average (k s) ongoing)) (average_positive (going_on (taken_on I k)) g (p_going (taken_on I k) t) pg) a
       (equal_trans (on_average (going_on (taken_on I k)) g) (on_average (taken_on I k) ongoing) (on_average I (λ s. on_average (k s) ongoing)) (average_positive (taken_on I k) ongoing t ongoing_positive) (average_going (taken_on I k) g) (average_taken I k ongoing))
 
-  pub next_statement : (st : Statement) → StatementIsWeighed st → IsEqual (on_average (statement_flow n r st I).next g) (on_average I (λ s. on_average (statement_weighted n r st s) (λ e. by_end (λ e. zero_share) e g)))
+  pub next_statement : (st : Statement) → StatementIsWeighed st → IsEqual (on_average (statement_flow n r st I).next g) (on_average I (λ s. on_average (statement_weighted n r st s) (λ e. by_end e (λ e. zero_share) g)))
   next_statement st w =
       along (statement_flow n r st I) (statement_weighted n r st) (p_one n r st I w p).next (λ s. statement_positive n r st s w)
       (λ N G. goes_on N G (statement_flow n r st I) I (statement_weighted n r st) (no_one n r st I) (flow_statement n r st (at N G) I (at_zero N G)))
 
-  pub next_block : (b : Statements) → BlockIsWeighed b → IsEqual (on_average (block_flow n r b I).next g) (on_average I (λ s. on_average (weighted_ends n r b s) (λ e. by_end (λ e. zero_share) e g)))
+  pub next_block : (b : Statements) → BlockIsWeighed b → IsEqual (on_average (block_flow n r b I).next g) (on_average I (λ s. on_average (weighted_ends n r b s) (λ e. by_end e (λ e. zero_share) g)))
   next_block b w =
       along (block_flow n r b I) (weighted_ends n r b) (p_all n r b I w p).next (λ s. ends_positive n r b s w)
       (λ N G. goes_on N G (block_flow n r b I) I (weighted_ends n r b) (no_all n r b I) (flow_paths n r b (at N G) I (at_zero N G)))

@@ -36,7 +36,7 @@ abbrev Reader : Type 0
 Reader = List Bool → Reading End
 
 -- ---- going on by cases
-value_costs : (d : ℕ) (v : Value) (go : ℤ → Reader) (k : ℤ → Fraction) → ((z : ℤ) → v ≡ Ok z → Costs d (go z) (k z)) → Costs d (λ w. by_value (λ f. gives (fault f) w) v (λ z. go z w)) (by_value (λ f. zero_share) v k)
+value_costs : (d : ℕ) (v : Value) (go : ℤ → Reader) (k : ℤ → Fraction) → ((z : ℤ) → v ≡ Ok z → Costs d (go z) (k z)) → Costs d (λ w. by_value v (λ f. gives (fault f) w) (λ z. go z w)) (by_value v (λ f. zero_share) k)
 value_costs d (Ok z) go k h = h z refl
 value_costs d (Err f) go k h = costs_none d (fault f)
 
@@ -48,14 +48,14 @@ truth_costs d z a c m n p q = by_test (is_zero z)
     by_test false = p
 
 end_costs : (d : ℕ) (e : End) (go : State → Reader) (k : State → Fraction) → end_fits e ≡ true → ((s : State) → state_fits s ≡ true → Costs d (go s) (k s)) →
-    Costs d (λ w. by_end (λ x. gives x w) e (λ s. go s w)) (by_end (λ x. zero_share) e k)
+    Costs d (λ w. by_end e (λ x. gives x w) (λ s. go s w)) (by_end e (λ x. zero_share) k)
 end_costs d (on s) go k p h = h s p
 end_costs d failed go k p h = costs_none d failed
 end_costs d (fault f) go k p h = costs_none d (fault f)
 end_costs d (limit l) go k p h = costs_none d (limit l)
 
 class_costs : (d : ℕ) (o : Option ℕ) (go : ℕ → Reader) (k : ℕ → Fraction) → ((i : ℕ) → Costs d (go i) (k i)) →
-    Costs d (λ w. by_class (gives (limit Attempts) w) o (λ i. go i w)) (by_class zero_share o k)
+    Costs d (λ w. by_class o (gives (limit Attempts) w) (λ i. go i w)) (by_class o zero_share k)
 class_costs d None go k h = costs_none d (limit Attempts)
 class_costs d (Some i) go k h = h i
 
@@ -69,7 +69,7 @@ loop_costs : (d : ℕ) (guard : State → Value) (body : State → Reader) (bits
     (t : ℕ) (s : State) → state_fits s ≡ true → Costs (t * d) (loop_on guard body t s) (loop_bits guard bits m t s)
 loop_costs d guard body bits m h g zero s p = at_once (guard s)
   where
-    at_once : (v : Value) → Costs (0 * d) (λ w. by_value (λ f. gives (fault f) w) v (λ z. by_truth z (gives (limit Turns) w) (gives (on s) w))) zero_share
+    at_once : (v : Value) → Costs (0 * d) (λ w. by_value v (λ f. gives (fault f) w) (λ z. by_truth z (gives (limit Turns) w) (gives (on s) w))) zero_share
     at_once (Ok z) = by_test (is_zero z)
       where
         by_test : (b : Bool) → Costs (0 * d) (λ w. cond b (gives (on s) w) (gives (limit Turns) w)) zero_share
@@ -88,13 +88,13 @@ pub draw_costs : (ends : List ℕ) (r : ℕ) → Ascends 0 ends → Costs (bits_
 draw_costs ends r up = record { tree = draw_tree ends r; runs = draw_runs ends r; within = draw_within ends r; share = draw_share ends r up; some = draw_bits_pos ends r }
 
 drawn_costs : (r m x : ℕ) (s : State) → m < 2 ^ 63 →
-    Costs (63 * r) (λ w. after (draw_on (uniform_ends m) r w) (λ class rest. by_class (gives (limit Attempts) rest) class (λ i. gives (on (slice_set s x (pos i))) rest))) (draw_bits (uniform_ends m) r)
+    Costs (63 * r) (λ w. after (draw_on (uniform_ends m) r w) (λ class rest. by_class class (gives (limit Attempts) rest) (λ i. gives (on (slice_set s x (pos i))) rest))) (draw_bits (uniform_ends m) r)
 drawn_costs r m x s small =
     let d = bits_for (last_end (uniform_ends m)) in
     let b : last_end (uniform_ends m) ≤ 2 ^ 63 = omega (arith, last_of_equal m) in
     let few : d ≤ 63 = bits_le (last_end (uniform_ends m)) 63 b in
     costs_up (d * r) (63 * r) _ _ (mul-le-mul_right r few)
-    (costs_same (d * r) (draw_on (uniform_ends m) r) (draw_bits (uniform_ends m) r) _ (λ o. by_class (limit Attempts) o (λ i. on (slice_set s x (pos i))))
+    (costs_same (d * r) (draw_on (uniform_ends m) r) (draw_bits (uniform_ends m) r) _ (λ o. by_class o (limit Attempts) (λ i. on (slice_set s x (pos i))))
     (draw_costs (uniform_ends m) r (range_ascends 0 m)) (elim [ Some i ↦ λ w. refl | None ↦ λ w. refl ]))
 
 uniform_costs : (r x : ℕ) (z : ℤ) (s : State) → fits_64 z ≡ true → Costs (63 * r) (uniform_on r x z s) (by_bound z zero_share (λ m. draw_bits (uniform_ends m) r))
@@ -104,7 +104,7 @@ uniform_costs r x (negsuc m) s f = costs_none (63 * r) (fault BadBound)
 
 -- ---- statements
 module _ (n r : ℕ) where
-  none_value : (v : Value) (go : ℤ → End) → Costs 0 (λ w. by_value (λ f. gives (fault f) w) v (λ z. gives (go z) w)) zero_share
+  none_value : (v : Value) (go : ℤ → End) → Costs 0 (λ w. by_value v (λ f. gives (fault f) w) (λ z. gives (go z) w)) zero_share
   none_value (Ok z) go = costs_none 0 (go z)
   none_value (Err f) go = costs_none 0 (fault f)
 
@@ -114,7 +114,7 @@ module _ (n r : ℕ) where
     statement_costs (Set x e) ok f s p = none_value (value_of e s) (λ z. on (slice_set s x z))
     statement_costs (Observe e) ok f s p = observed (value_of e s)
       where
-        observed : (v : Value) → Costs 0 (λ w. by_value (λ f. gives (fault f) w) v (λ z. by_truth z (gives (on s) w) (gives failed w))) zero_share
+        observed : (v : Value) → Costs 0 (λ w. by_value v (λ f. gives (fault f) w) (λ z. by_truth z (gives (on s) w) (gives failed w))) zero_share
         observed (Ok z) = by_test (is_zero z)
           where
             by_test : (b : Bool) → Costs 0 (λ w. cond b (gives failed w) (gives (on s) w)) zero_share

@@ -63,7 +63,7 @@ draw_below ends (suc r) w =
 abbrev Fits : Reading End → Type 0
 Fits x = OnAnswer (λ e. end_fits e ≡ true) x
 
-by_value_fits : (v : Value) (w : List Bool) (go : ℤ → Reading End) → ValueFits v → ((z : ℤ) → fits_64 z ≡ true → Fits (go z)) → Fits (by_value (λ f. gives (fault f) w) v go)
+by_value_fits : (v : Value) (w : List Bool) (go : ℤ → Reading End) → ValueFits v → ((z : ℤ) → fits_64 z ≡ true → Fits (go z)) → Fits (by_value v (λ f. gives (fault f) w) go)
 by_value_fits (Ok z) w go h next = next z h
 by_value_fits (Err f) w go h next = refl
 
@@ -75,13 +75,13 @@ by_truth_fits z a c h i = by_test (is_zero z)
     by_test false = h
 
 then_fits : (x : Reading End) (go : State → List Bool → Reading End) → Fits x → ((s : State) (rest : List Bool) → state_fits s ≡ true → Fits (go s rest)) →
-    Fits (after x (λ e rest. by_end (λ e. gives e rest) e (λ s. go s rest)))
+    Fits (after x (λ e rest. by_end e (λ e. gives e rest) (λ s. go s rest)))
 then_fits x go h next =
     after_on (λ e. end_fits e ≡ true) (λ e. end_fits e ≡ true) x _ h
     (elim [ on s ↦ λ rest p. next s rest p | failed ↦ λ rest p. refl | fault f ↦ λ rest p. refl | limit l ↦ λ rest p. refl ])
 
 drawn_fits : (ends : List ℕ) (r : ℕ) (w : List Bool) (go : ℕ → List Bool → Reading End) → ((i : ℕ) (rest : List Bool) → i < length ends → Fits (go i rest)) →
-    Fits (after (draw_on ends r w) (λ class rest. by_class (gives (limit Attempts) rest) class (λ i. go i rest)))
+    Fits (after (draw_on ends r w) (λ class rest. by_class class (gives (limit Attempts) rest) (λ i. go i rest)))
 drawn_fits ends r w go next =
     after_on (ClassBelow (length ends)) (λ e. end_fits e ≡ true) (draw_on ends r w) _ (draw_below ends r w) (elim [ Some i ↦ λ rest lt. next i rest lt | None ↦ λ rest h. refl ])
 

@@ -44,14 +44,14 @@ class_above b (Some (suc r)) h = let p = power_pos (bits_for b * r) in omega ari
 
 module _ (x : ℕ) (r : Option ℕ) (s : State) where
   abbrev pub AddedAt : Value → Entries → Entries → Fraction → Type 0
-  AddedAt o fs fs' f = AddedBy (by_value (λ f. one) o (λ z. by_bound z one (λ m. class_weight m r 1))) fs fs' f (λ G. by_value (λ f. 0) o (λ z. by_bound z 0 (λ m. sum_below m (λ i. G (slice_set s x (pos i))))))
+  AddedAt o fs fs' f = AddedBy (by_value o (λ f. one) (λ z. by_bound z one (λ m. class_weight m r 1))) fs fs' f (λ G. by_value o (λ f. 0) (λ z. by_bound z 0 (λ m. sum_below m (λ i. G (slice_set s x (pos i))))))
 
   abbrev pub StoppedAt : Value → Ended → Ended → Fraction → Type 0
-  StoppedAt o F F' f = StoppedBy (by_value (λ f. one) o (λ z. by_bound z one (λ m. no_class_weight m r))) F F' f (λ G. by_value (λ f. G (fault f)) o (λ z. by_bound z (G (fault BadBound)) (λ m. G (limit Attempts))))
+  StoppedAt o F F' f = StoppedBy (by_value o (λ f. one) (λ z. by_bound z one (λ m. no_class_weight m r))) F F' f (λ G. by_value o (λ f. G (fault f)) (λ z. by_bound z (G (fault BadBound)) (λ m. G (limit Attempts))))
 
   abbrev pub BlamedAt : Value → Entries → Ended → Fraction → MassError → Type 0
-  BlamedAt o fs F f e = BlamedBy (by_value (λ f. one) o (λ z. by_bound z one (λ m. class_weight m r 1))) (by_value (λ f. one) o (λ z. by_bound z one (λ m. no_class_weight m r))) fs F f
-      (λ G. by_value (λ f. 0) o (λ z. by_bound z 0 (λ m. sum_below m (λ i. G (slice_set s x (pos i)))))) (λ G. by_value (λ f. G (fault f)) o (λ z. by_bound z (G (fault BadBound)) (λ m. G (limit Attempts)))) e
+  BlamedAt o fs F f e = BlamedBy (by_value o (λ f. one) (λ z. by_bound z one (λ m. class_weight m r 1))) (by_value o (λ f. one) (λ z. by_bound z one (λ m. no_class_weight m r))) fs F f
+      (λ G. by_value o (λ f. 0) (λ z. by_bound z 0 (λ m. sum_below m (λ i. G (slice_set s x (pos i)))))) (λ G. by_value o (λ f. G (fault f)) (λ z. by_bound z (G (fault BadBound)) (λ m. G (limit Attempts)))) e
 
   pub fault_added : (o : Value) (fl : Fault) (fs : Entries) (f : Fraction) → o ≡ Err fl → AddedAt o fs fs f
   fault_added o fl fs f e = subst (λ o. AddedAt o fs fs f) (sym e) (added_none one fs f)

@@ -165,11 +165,11 @@ module _ (n : ℕ) (r : Option ℕ) where
   fold_skip es E = fold_each Skip (statement_weighted n r Skip) (λ s. on s) (λ I. []) all_kept none_stopped es E es E (λ s. refl) (λ G s. refl) (λ G s. refl)
       (λ N Np a b w. record { kept = b; ended = w; going = λ G. omega arith; stopping = λ G. let z = held_none N es in omega arith })
 
-  set_on : (x : ℕ) (G : State → ℕ) (v : Value) (s : State) → at_on G (set_end x v s) ≡ by_value (λ f. 0) v (λ z. G (slice_set s x z))
+  set_on : (x : ℕ) (G : State → ℕ) (v : Value) (s : State) → at_on G (set_end x v s) ≡ by_value v (λ f. 0) (λ z. G (slice_set s x z))
   set_on x G (Ok z) s = refl
   set_on x G (Err f) s = refl
 
-  set_gone : (x : ℕ) (G : End → ℕ) (v : Value) (s : State) → at_gone G (set_end x v s) ≡ by_value (λ f. G (fault f)) v (λ z. 0)
+  set_gone : (x : ℕ) (G : End → ℕ) (v : Value) (s : State) → at_gone G (set_end x v s) ≡ by_value v (λ f. G (fault f)) (λ z. 0)
   set_gone x G (Ok z) s = refl
   set_gone x G (Err f) s = refl
 
@@ -208,7 +208,7 @@ module _ (n : ℕ) (r : Option ℕ) where
       held_sum N X Y [] = refl
       held_sum N X Y (e ∷ es) = let i = held_sum N X Y es in omega arith
 
-      by_on : (H : State → ℕ) (v : Value) (s : State) → at_on H (seen_end v s) ≡ cond (by_value (λ f. false) v (λ z. not (is_zero z))) (H s) 0
+      by_on : (H : State → ℕ) (v : Value) (s : State) → at_on H (seen_end v s) ≡ cond (by_value v (λ f. false) (λ z. not (is_zero z))) (H s) 0
       by_on H (Ok z) s = by_zero (is_zero z)
         where
           by_zero : (b : Bool) → at_on H (cond b failed (on s)) ≡ cond (not b) (H s) 0
@@ -216,7 +216,7 @@ module _ (n : ℕ) (r : Option ℕ) where
           by_zero false = refl
       by_on H (Err f) s = refl
 
-      by_gone : (H : End → ℕ) (v : Value) (s : State) → at_gone H (seen_end v s) ≡ by_value (λ f. H (fault f)) v (λ z. 0) + cond (by_value (λ f. false) v is_zero) (H failed) 0
+      by_gone : (H : End → ℕ) (v : Value) (s : State) → at_gone H (seen_end v s) ≡ by_value v (λ f. H (fault f)) (λ z. 0) + cond (by_value v (λ f. false) is_zero) (H failed) 0
       by_gone H (Ok z) s = by_zero (is_zero z)
         where
           by_zero : (b : Bool) → at_gone H (cond b failed (on s)) ≡ 0 + cond b (H failed) 0

@@ -54,14 +54,14 @@ draw_counts r ends b l es m m' N M I Np Mp s k x =
 bound_priced : (r : Option ℕ) (M : ℕ) (v : State → Value) (I : Table) → Priced r M (drawn_bound v I) → EachIn (IsBoundPriced v r M) I
 bound_priced r M v [] k = tt
 bound_priced r M v (e ∷ I) k =
-    (by_state (v e.1) (priced_first r M _ (drawn_bound v I) k), bound_priced r M v I (priced_second r M (by_value (λ f. []) (v e.1) (λ v. by_bound v [] (λ m. (e.0, uniform_ends m) ∷ []))) (drawn_bound v I) k))
+    (by_state (v e.1) (priced_first r M _ (drawn_bound v I) k), bound_priced r M v I (priced_second r M (by_value (v e.1) (λ f. []) (λ v. by_bound v [] (λ m. (e.0, uniform_ends m) ∷ []))) (drawn_bound v I) k))
   where
     by_sign : (z : ℤ) → Priced r M (by_bound z [] (λ m. (e.0, uniform_ends m) ∷ [])) → IsValuePriced r M (Ok z)
     by_sign (pos zero) k = tt
     by_sign (pos (suc m)) k = subst (IsPriced r M) (last_of_equal (suc m)) k.0
     by_sign (negsuc m) k = tt
 
-    by_state : (o : Value) → Priced r M (by_value (λ f. []) o (λ v. by_bound v [] (λ m. (e.0, uniform_ends m) ∷ []))) → IsValuePriced r M o
+    by_state : (o : Value) → Priced r M (by_value o (λ f. []) (λ v. by_bound v [] (λ m. (e.0, uniform_ends m) ∷ []))) → IsValuePriced r M o
     by_state (Ok z) k = by_sign z k
     by_state (Err f) k = tt
 

@@ -10,16 +10,16 @@ use Rattle.mass_fold.specs.Ended.{end_of, fault_end}
 use Rattle.mass_tables.specs.Counts.{moved, stopped, kept_if}
 
 pub moved_ok : (x : ℕ) (v : State → Value) (s s' t : State) (z : ℤ) → Ok z ≡ v s' → s' ≡ s → t ≡ slice_set s x z → (G : State → ℕ) → moved x v G s ≡ G t
-moved_ok x v s s' t z p q r G = ap (λ o. by_value (λ f. 0) o (λ z. G (slice_set s x z))) (ap v (sym q) ∙ sym p) ∙ ap G (sym r)
+moved_ok x v s s' t z p q r G = ap (λ o. by_value o (λ f. 0) (λ z. G (slice_set s x z))) (ap v (sym q) ∙ sym p) ∙ ap G (sym r)
 
 pub stopped_ok : (v : State → Value) (s s' : State) (z : ℤ) → Ok z ≡ v s' → s' ≡ s → (G : End → ℕ) → stopped v G s ≡ 0
-stopped_ok v s s' z p q G = ap (λ o. by_value (λ f. G (fault_end f)) o (λ z. 0)) (ap v (sym q) ∙ sym p)
+stopped_ok v s s' z p q G = ap (λ o. by_value o (λ f. G (fault_end f)) (λ z. 0)) (ap v (sym q) ∙ sym p)
 
 pub moved_err : (x : ℕ) (v : State → Value) (s s' : State) (f : Fault) → Err f ≡ v s' → s' ≡ s → (G : State → ℕ) → moved x v G s ≡ 0
-moved_err x v s s' f p q G = ap (λ o. by_value (λ f. 0) o (λ z. G (slice_set s x z))) (ap v (sym q) ∙ sym p)
+moved_err x v s s' f p q G = ap (λ o. by_value o (λ f. 0) (λ z. G (slice_set s x z))) (ap v (sym q) ∙ sym p)
 
 pub stopped_err : (v : State → Value) (s s' : State) (f : Fault) (k : Gone) → Err f ≡ v s' → s' ≡ s → end_of k ≡ fault_end f → (G : End → ℕ) → stopped v G s ≡ G (end_of k)
-stopped_err v s s' f k p q r G = ap (λ o. by_value (λ f. G (fault_end f)) o (λ z. 0)) (ap v (sym q) ∙ sym p) ∙ ap G (sym r)
+stopped_err v s s' f k p q r G = ap (λ o. by_value o (λ f. G (fault_end f)) (λ z. 0)) (ap v (sym q) ∙ sym p) ∙ ap G (sym r)
 
 pub reads_at : (e : Expression) (m : ℕ) (s' : State) → length s' ≡ m → ExpressionBelow e m → ExpressionBelow e (length s')
 reads_at e m s' p h = subst (ExpressionBelow e) (sym p) h
@@ -36,10 +36,10 @@ kept_most test G s = by (test s)
 
 -- what a guard's value says
 pub holds_ok : (v : State → Value) (s s' : State) (z : ℤ) → Ok z ≡ v s' → s' ≡ s → (holds v s ≡ not (is_zero z)) × (fails v s ≡ is_zero z)
-holds_ok v s s' z p q = (ap (λ o. by_value (λ f. false) o (λ v. not (is_zero v))) (ap v (sym q) ∙ sym p), ap (λ o. by_value (λ f. false) o is_zero) (ap v (sym q) ∙ sym p))
+holds_ok v s s' z p q = (ap (λ o. by_value o (λ f. false) (λ v. not (is_zero v))) (ap v (sym q) ∙ sym p), ap (λ o. by_value o (λ f. false) is_zero) (ap v (sym q) ∙ sym p))
 
 pub holds_err : (v : State → Value) (s s' : State) (f : Fault) → Err f ≡ v s' → s' ≡ s → (holds v s ≡ false) × (fails v s ≡ false)
-holds_err v s s' f p q = (ap (λ o. by_value (λ f. false) o (λ v. not (is_zero v))) (ap v (sym q) ∙ sym p), ap (λ o. by_value (λ f. false) o is_zero) (ap v (sym q) ∙ sym p))
+holds_err v s s' f p q = (ap (λ o. by_value o (λ f. false) (λ v. not (is_zero v))) (ap v (sym q) ∙ sym p), ap (λ o. by_value o (λ f. false) is_zero) (ap v (sym q) ∙ sym p))
 
 zero_yes : (z : ℤ) → z ≡ pos 0 → is_zero z ≡ true
 zero_yes z e = ap is_zero e

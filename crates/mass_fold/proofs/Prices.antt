@@ -40,7 +40,7 @@ module _ (ends : List ℕ) (b : ℕ) (l : last_end ends ≡ b) (r : Option ℕ) 
 module _ (v : State → Value) (r : Option ℕ) (s : State) where
   at_bound : (M m : ℕ) → v s ≡ Ok (pos (suc m)) → IsBoundPriced v r M s → IsPriced r M (suc m) × (bound_price v r M s ≡ (attempt_bits (uniform_ends (suc m))).0 * whole M (class_weight (suc m) r 1))
   at_bound M m e k =
-      (subst (IsValuePriced r M) e k, ap (λ o. by_value (λ f. 0) o (λ z. by_bound z 0 (λ m. price r M (uniform_ends m)))) e ∙ ap (λ b. (attempt_bits (uniform_ends (suc m))).0 * whole M (class_weight b r 1)) (last_of_equal (suc m)))
+      (subst (IsValuePriced r M) e k, ap (λ o. by_value o (λ f. 0) (λ z. by_bound z 0 (λ m. price r M (uniform_ends m)))) e ∙ ap (λ b. (attempt_bits (uniform_ends (suc m))).0 * whole M (class_weight b r 1)) (last_of_equal (suc m)))
 
   module _ (m k u : ℕ) (e : v s ≡ Ok (pos (suc m))) (c : k ≡ suc m) (d : u ≡ (attempt_bits (uniform_ends k)).0) where
     here : u ≡ (attempt_bits (uniform_ends (suc m))).0

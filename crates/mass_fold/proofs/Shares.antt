@@ -194,7 +194,7 @@ part_above v r s = by_state (v s)
     by_sign (pos (suc m)) = class_pos (suc m) r 1 (omega arith)
     by_sign (negsuc m) = omega arith
 
-    by_state : (o : Value) → 0 < (by_value (λ f. one) o (λ z. by_bound z one (λ m. class_weight m r 1))).1
+    by_state : (o : Value) → 0 < (by_value o (λ f. one) (λ z. by_bound z one (λ m. class_weight m r 1))).1
     by_state (Ok z) = by_sign z
     by_state (Err f) = omega arith
 
@@ -206,20 +206,20 @@ rest_above v r s = by_state (v s)
     by_sign (pos (suc m)) = no_class_pos (suc m) r
     by_sign (negsuc m) = omega arith
 
-    by_state : (o : Value) → 0 < (by_value (λ f. one) o (λ z. by_bound z one (λ m. no_class_weight m r))).1
+    by_state : (o : Value) → 0 < (by_value o (λ f. one) (λ z. by_bound z one (λ m. no_class_weight m r))).1
     by_state (Ok z) = by_sign z
     by_state (Err f) = omega arith
 
 pub draws_in : (N : ℕ) (v : State → Value) (r : Option ℕ) (I : Table) → AllWhole N (bound_draws v r I) → EachIn (BothWhole N (part_at v r) (rest_at v r)) I
 draws_in N v r [] h = tt
-draws_in N v r (e ∷ I) h = (by_state (v e.1) (all_first N _ (bound_draws v r I) h), draws_in N v r I (all_second N (by_value (λ f. []) (v e.1) (λ v. by_bound v [] (λ m. draw_weights m r))) (bound_draws v r I) h))
+draws_in N v r (e ∷ I) h = (by_state (v e.1) (all_first N _ (bound_draws v r I) h), draws_in N v r I (all_second N (by_value (v e.1) (λ f. []) (λ v. by_bound v [] (λ m. draw_weights m r))) (bound_draws v r I) h))
   where
     by_sign : (z : ℤ) → AllWhole N (by_bound z [] (λ m. draw_weights m r)) → Whole N (by_bound z one (λ m. class_weight m r 1)) × Whole N (by_bound z one (λ m. no_class_weight m r))
     by_sign (pos zero) k = (whole_one N, whole_one N)
     by_sign (pos (suc m)) k = (k.0, k.1.0)
     by_sign (negsuc m) k = (whole_one N, whole_one N)
 
-    by_state : (o : Value) → AllWhole N (by_value (λ f. []) o (λ v. by_bound v [] (λ m. draw_weights m r))) →
-        Whole N (by_value (λ f. one) o (λ z. by_bound z one (λ m. class_weight m r 1))) × Whole N (by_value (λ f. one) o (λ z. by_bound z one (λ m. no_class_weight m r)))
+    by_state : (o : Value) → AllWhole N (by_value o (λ f. []) (λ v. by_bound v [] (λ m. draw_weights m r))) →
+        Whole N (by_value o (λ f. one) (λ z. by_bound z one (λ m. class_weight m r 1))) × Whole N (by_value o (λ f. one) (λ z. by_bound z one (λ m. no_class_weight m r)))
     by_state (Ok z) k = by_sign z k
     by_state (Err f) k = (whole_one N, whole_one N)

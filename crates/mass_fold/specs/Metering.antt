@@ -57,7 +57,7 @@ price r M ends = (attempt_bits ends).0 * whole M (class_weight (last_end ends) r
 
 -- those of the draw that a value bounds
 abbrev pub bound_price : (State → Value) → Option ℕ → ℕ → State → ℕ
-bound_price v r M s = by_value (λ f. 0) (v s) (λ z. by_bound z 0 (λ m. price r M (uniform_ends m)))
+bound_price v r M s = by_value (v s) (λ f. 0) (λ z. by_bound z 0 (λ m. price r M (uniform_ends m)))
 
 abbrev pub IsValuePriced : Option ℕ → ℕ → Value → Type 0
 IsValuePriced r M (Ok (pos zero)) = Unit {0}

@@ -17,11 +17,11 @@ taken_append (e ∷ m) n k = ap (λ z. scaled e.0 (k e.1) ++ z) (taken_append m 
 
 -- classes that are numbered from one more
 classes_shifted : (stop : Weighted End) (weight : ℕ → Fraction) (i c : ℕ) (ends : List ℕ) (k : ℕ → Weighted End) →
-    taken_on (classes_from weight (i + 1) c ends) (λ class. by_class stop class k) ≡ taken_on (classes_from weight i c ends) (λ class. by_class stop class (λ j. k (suc j)))
+    taken_on (classes_from weight (i + 1) c ends) (λ class. by_class class stop k) ≡ taken_on (classes_from weight i c ends) (λ class. by_class class stop (λ j. k (suc j)))
 classes_shifted stop weight i c [] k = refl
 classes_shifted stop weight i c (d ∷ ends) k =
     let next : i + 1 ≡ suc i = omega arith in
-    ap (λ j. scaled (weight (d - c)) (k j) ++ taken_on (classes_from weight (i + 1 + 1) d ends) (λ class. by_class stop class k)) next
+    ap (λ j. scaled (weight (d - c)) (k j) ++ taken_on (classes_from weight (i + 1 + 1) d ends) (λ class. by_class class stop k)) next
     ∙ ap (λ m. scaled (weight (d - c)) (k (suc i)) ++ m) (classes_shifted stop weight (i + 1) d ends k)
 
 module _ (n : ℕ) (r : Option ℕ) where
@@ -31,12 +31,12 @@ module _ (n : ℕ) (r : Option ℕ) where
   arm_ends b (arm p a arms) s = scaled (class_weight b r p) (weighted_ends n r a s) ++ arm_ends b arms s
 
   arm_by_arm : (stop : Weighted End) (b c : ℕ) (arms : ArmList) (s : State) →
-      taken_on (classes_from (class_weight b r) 0 c (sums_from c (parts_of arms))) (λ class. by_class stop class (λ i. arm_weighted n r arms i s)) ≡ arm_ends b arms s
+      taken_on (classes_from (class_weight b r) 0 c (sums_from c (parts_of arms))) (λ class. by_class class stop (λ i. arm_weighted n r arms i s)) ≡ arm_ends b arms s
   arm_by_arm stop b c no_arm s = refl
   arm_by_arm stop b c (arm p a arms) s =
       let size : c + p - c ≡ p = omega arith in
       let rest = classes_shifted stop (class_weight b r) 0 (c + p) (sums_from (c + p) (parts_of arms)) (λ i. arm_weighted n r (arm p a arms) i s) in
-      ap (λ k. scaled (class_weight b r k) (weighted_ends n r a s) ++ taken_on (classes_from (class_weight b r) 1 (c + p) (sums_from (c + p) (parts_of arms))) (λ class. by_class stop class (λ i. arm_weighted n r (arm p a arms) i s))) size
+      ap (λ k. scaled (class_weight b r k) (weighted_ends n r a s) ++ taken_on (classes_from (class_weight b r) 1 (c + p) (sums_from (c + p) (parts_of arms))) (λ class. by_class class stop (λ i. arm_weighted n r (arm p a arms) i s))) size
       ∙ ap (λ m. scaled (class_weight b r p) (weighted_ends n r a s) ++ m) (rest ∙ arm_by_arm stop b (c + p) arms s)
 
   -- and of what no attempt decides
@@ -44,7 +44,7 @@ module _ (n : ℕ) (r : Option ℕ) where
   choose_weighted arms s =
       let stop = sure (limit Attempts) in
       let ends = partial_sums (parts_of arms) in
-      let go : Option ℕ → Weighted End = λ class. by_class stop class (λ i. arm_weighted n r arms i s) in
+      let go : Option ℕ → Weighted End = λ class. by_class class stop (λ i. arm_weighted n r arms i s) in
       let b = sum (parts_of arms) in
       ap (λ b. taken_on (classes_from (class_weight b r) 0 0 ends ++ (no_class_weight b r, None) ∷ []) go) (last_is (parts_of arms))
       ∙ taken_append (classes_from (class_weight b r) 0 0 ends) ((no_class_weight b r, None) ∷ []) go

@@ -80,20 +80,20 @@ both_weight N x f g =
     omega arith
 
 abbrev pub set_end : ℕ → Value → State → End
-set_end x v s = by_value (λ f. fault f) v (λ z. on (slice_set s x z))
+set_end x v s = by_value v (λ f. fault f) (λ z. on (slice_set s x z))
 
-pub set_sure : (x : ℕ) (v : Value) (s : State) → by_value (λ f. sure (fault f)) v (λ z. sure (on (slice_set s x z))) ≡ sure (set_end x v s)
+pub set_sure : (x : ℕ) (v : Value) (s : State) → by_value v (λ f. sure (fault f)) (λ z. sure (on (slice_set s x z))) ≡ sure (set_end x v s)
 set_sure x (Ok z) s = refl
 set_sure x (Err f) s = refl
 
 abbrev pub seen_end : Value → State → End
-seen_end v s = by_value (λ f. fault f) v (λ z. cond (is_zero z) failed (on s))
+seen_end v s = by_value v (λ f. fault f) (λ z. cond (is_zero z) failed (on s))
 
 side_sure : (b : Bool) (s : State) → cond b (sure failed) (sure (on s)) ≡ sure (cond b failed (on s))
 side_sure true s = refl
 side_sure false s = refl
 
-pub seen_sure : (v : Value) (s : State) → by_value (λ f. sure (fault f)) v (λ z. cond (is_zero z) (sure failed) (sure (on s))) ≡ sure (seen_end v s)
+pub seen_sure : (v : Value) (s : State) → by_value v (λ f. sure (fault f)) (λ z. cond (is_zero z) (sure failed) (sure (on s))) ≡ sure (seen_end v s)
 seen_sure (Ok z) s = side_sure (is_zero z) s
 seen_sure (Err f) s = refl
 
@@ -161,9 +161,9 @@ state_kept N x v r w s h k l = by_state (v s) k l
     by_sign (pos (suc m)) k l = let a = draw_kept N (suc m) r w (omega arith) h k l in let b = ap (λ n. whole N (times w (class_weight (suc m) r 1)) * n) (sum_ones (suc m)) in omega arith
     by_sign (negsuc m) k l = alone
 
-    by_state : (o : Value) → Whole N (times w (by_value (λ f. one) o (λ z. by_bound z one (λ m. class_weight m r 1)))) → Whole N (times w (by_value (λ f. one) o (λ z. by_bound z one (λ m. no_class_weight m r)))) →
-        whole N (times w (by_value (λ f. one) o (λ z. by_bound z one (λ m. class_weight m r 1)))) * by_value (λ f. 0) o (λ z. by_bound z 0 (λ m. sum_below m (λ i. 1)))
-        + whole N (times w (by_value (λ f. one) o (λ z. by_bound z one (λ m. no_class_weight m r)))) * by_value (λ f. 1) o (λ z. by_bound z 1 (λ m. 1)) ≡ whole N w
+    by_state : (o : Value) → Whole N (times w (by_value o (λ f. one) (λ z. by_bound z one (λ m. class_weight m r 1)))) → Whole N (times w (by_value o (λ f. one) (λ z. by_bound z one (λ m. no_class_weight m r)))) →
+        whole N (times w (by_value o (λ f. one) (λ z. by_bound z one (λ m. class_weight m r 1)))) * by_value o (λ f. 0) (λ z. by_bound z 0 (λ m. sum_below m (λ i. 1)))
+        + whole N (times w (by_value o (λ f. one) (λ z. by_bound z one (λ m. no_class_weight m r)))) * by_value o (λ f. 1) (λ z. by_bound z 1 (λ m. 1)) ≡ whole N w
     by_state (Ok z) k l = by_sign z k l
     by_state (Err f) k l = alone
 

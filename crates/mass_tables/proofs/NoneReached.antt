@@ -22,13 +22,13 @@ amount_drawn_each N H ends [] = refl
 amount_drawn_each N H ends (e ∷ I) = let i = amount_drawn_each N H ends I in omega arith
 
 abbrev pub at_bound : (State → Value) → (List ℕ → ℕ) → State → ℕ
-at_bound v H s = by_value (λ f. 0) (v s) (λ z. by_bound z 0 (λ m. H (uniform_ends m)))
+at_bound v H s = by_value (v s) (λ f. 0) (λ z. by_bound z 0 (λ m. H (uniform_ends m)))
 
 pub amount_drawn_bound : (N : ℕ) (H : List ℕ → ℕ) (v : State → Value) (I : Table) → amount N H (drawn_bound v I) ≡ amount N (at_bound v H) I
 amount_drawn_bound N H v [] = refl
 amount_drawn_bound N H v (e ∷ I) =
     let i = amount_drawn_bound N H v I in
-    let a = amount_append N H (by_value (λ f. []) (v e.1) (λ z. by_bound z [] (λ m. (e.0, uniform_ends m) ∷ []))) (drawn_bound v I) in
+    let a = amount_append N H (by_value (v e.1) (λ f. []) (λ z. by_bound z [] (λ m. (e.0, uniform_ends m) ∷ []))) (drawn_bound v I) in
     let b = by_state (v e.1) in
     omega arith
   where
@@ -37,7 +37,7 @@ amount_drawn_bound N H v (e ∷ I) =
     by_sign (pos (suc m)) = omega arith
     by_sign (negsuc m) = omega arith
 
-    by_state : (o : Value) → amount N H (by_value (λ f. []) o (λ z. by_bound z [] (λ m. (e.0, uniform_ends m) ∷ []))) ≡ whole N e.0 * by_value (λ f. 0) o (λ z. by_bound z 0 (λ m. H (uniform_ends m)))
+    by_state : (o : Value) → amount N H (by_value o (λ f. []) (λ z. by_bound z [] (λ m. (e.0, uniform_ends m) ∷ []))) ≡ whole N e.0 * by_value o (λ f. 0) (λ z. by_bound z 0 (λ m. H (uniform_ends m)))
     by_state (Ok z) = by_sign z
     by_state (Err f) = omega arith
 

@@ -15,7 +15,7 @@ use Rattle.frac128.proofs.Divisors.{product_pos}
 use Rattle.gcl_core.proofs.PartialSums.{last_is}
 use Rattle.mass_tables.proofs.Positive.{Positive, p_taken, p_sure, p_draw, p_set, p_seen, p_drawn, alone}
 
-go_on : (e : End) (k : State → Weighted End) → ((s : State) → Positive (k s)) → Positive (by_end sure e k)
+go_on : (e : End) (k : State → Weighted End) → ((s : State) → Positive (k s)) → Positive (by_end e sure k)
 go_on (on s) k h = h s
 go_on failed k h = alone
 go_on (fault f) k h = alone
@@ -25,7 +25,7 @@ by_test : (b : Bool) (m o : Weighted End) → Positive m → Positive o → Posi
 by_test true m o h k = k
 by_test false m o h k = h
 
-by_guard : (v : Value) (m o : Weighted End) → Positive m → Positive o → Positive (by_value (λ f. sure (fault f)) v (λ z. by_truth z m o))
+by_guard : (v : Value) (m o : Weighted End) → Positive m → Positive o → Positive (by_value v (λ f. sure (fault f)) (λ z. by_truth z m o))
 by_guard (Ok z) m o h k = by_test (is_zero z) m o h k
 by_guard (Err f) m o h k = alone
 
@@ -33,7 +33,7 @@ by_number : (i : ℕ) (m o : Weighted End) → Positive m → Positive o → Pos
 by_number zero m o h k = h
 by_number (suc i) m o h k = k
 
-by_classes : (class : Option ℕ) (k : ℕ → Weighted End) → ((i : ℕ) → Positive (k i)) → Positive (by_class (sure (limit Attempts)) class k)
+by_classes : (class : Option ℕ) (k : ℕ → Weighted End) → ((i : ℕ) → Positive (k i)) → Positive (by_class class (sure (limit Attempts)) k)
 by_classes None k h = alone
 by_classes (Some i) k h = h i
 

@@ -81,7 +81,7 @@ p_faults : (v : State → Value) (I : Table) → Positive I → Positive (faults
 p_faults v [] h = tt
 p_faults v (e ∷ I) h = at_head (v e.1) (p_faults v I h.1)
   where
-    at_head : (o : Value) → Positive (faults v I) → Positive (by_value (λ f. (e.0, fault f) ∷ faults v I) o (λ z. faults v I))
+    at_head : (o : Value) → Positive (faults v I) → Positive (by_value o (λ f. (e.0, fault f) ∷ faults v I) (λ z. faults v I))
     at_head (Ok z) i = i
     at_head (Err f) i = (h.0, i)
 
@@ -125,7 +125,7 @@ bound_positive v r (e ∷ I) = a_append _ (bound_draws v r I) (by_state (v e.1))
     by_sign (pos (suc m)) = draws_positive (suc m) r (omega arith)
     by_sign (negsuc m) = tt
 
-    by_state : (o : Value) → AllPositive (by_value (λ f. []) o (λ v. by_bound v [] (λ m. draw_weights m r)))
+    by_state : (o : Value) → AllPositive (by_value o (λ f. []) (λ v. by_bound v [] (λ m. draw_weights m r)))
     by_state (Ok z) = by_sign z
     by_state (Err f) = tt
 
@@ -133,7 +133,7 @@ pub alone : (0 < 1) × Unit {0}
 alone = (omega arith, tt)
 
 module _ (n : ℕ) (r : Option ℕ) where
-  pub p_set : (x : ℕ) (v : Value) (s : State) → Positive (by_value (λ f. sure (fault f)) v (λ z. sure (on (slice_set s x z))))
+  pub p_set : (x : ℕ) (v : Value) (s : State) → Positive (by_value v (λ f. sure (fault f)) (λ z. sure (on (slice_set s x z))))
   p_set x (Ok z) s = alone
   p_set x (Err f) s = alone
 
@@ -141,11 +141,11 @@ module _ (n : ℕ) (r : Option ℕ) where
   p_truth true s = alone
   p_truth false s = alone
 
-  pub p_seen : (v : Value) (s : State) → Positive (by_value (λ f. sure (fault f)) v (λ z. by_truth z (sure (on s)) (sure failed)))
+  pub p_seen : (v : Value) (s : State) → Positive (by_value v (λ f. sure (fault f)) (λ z. by_truth z (sure (on s)) (sure failed)))
   p_seen (Ok z) s = p_truth (is_zero z) s
   p_seen (Err f) s = alone
 
-  p_class : (x : ℕ) (s : State) (class : Option ℕ) → Positive (by_class (sure (limit Attempts)) class (λ i. sure (on (slice_set s x (pos i)))))
+  p_class : (x : ℕ) (s : State) (class : Option ℕ) → Positive (by_class class (sure (limit Attempts)) (λ i. sure (on (slice_set s x (pos i)))))
   p_class x s None = alone
   p_class x s (Some i) = alone
 
@@ -155,7 +155,7 @@ module _ (n : ℕ) (r : Option ℕ) where
       p_taken (weighted_classes (uniform_ends (suc m)) r) _ (p_draw (uniform_ends (suc m)) r (subst (λ k. 0 < k) (sym (last_of_equal (suc m))) (omega arith))) (p_class x s)
   p_uniform x (negsuc m) s = alone
 
-  pub p_drawn : (x : ℕ) (v : Value) (s : State) → Positive (by_value (λ f. sure (fault f)) v (λ z. uniform_weighted r x z s))
+  pub p_drawn : (x : ℕ) (v : Value) (s : State) → Positive (by_value v (λ f. sure (fault f)) (λ z. uniform_weighted r x z s))
   p_drawn x (Ok z) s = p_uniform x z s
   p_drawn x (Err f) s = alone
 

@@ -54,7 +54,7 @@ class_spread F weight k c (suc m) =
 
 module _ (x : ℕ) (r : Option ℕ) where
   abbrev drawn_on : State → Option ℕ → Weighted End
-  drawn_on s class = by_class (sure (limit Attempts)) class (λ i. sure (on (slice_set s x (pos i))))
+  drawn_on s class = by_class class (sure (limit Attempts)) (λ i. sure (on (slice_set s x (pos i))))
 
   -- a draw of bound m in a state
   pub draw_sum : (F : Fraction → End → ℕ) (m : ℕ) (s : State) → Zero F →
@@ -83,7 +83,7 @@ sum_none (suc m) = let i = sum_none m in omega arith
 -- what a uniform draw makes of a table
 module _ (x : ℕ) (v : State → Value) (r : Option ℕ) where
   abbrev pub drawing : State → Weighted End
-  drawing s = by_value (λ f. sure (fault f)) (v s) (λ z. uniform_weighted r x z s)
+  drawing s = by_value (v s) (λ f. sure (fault f)) (λ z. uniform_weighted r x z s)
 
   one_entry : (N : ℕ) (H : End → ℕ) (w : Fraction) (s : State) →
       sum_of_all (after_weight w (counted N H)) (drawing s) ≡ whole N (times w (part_at v r s)) * drawn x v (λ s. H (on s)) s + whole N (times w (rest_at v r s)) * undrawn v H s
@@ -101,9 +101,9 @@ module _ (x : ℕ) (v : State → Value) (r : Option ℕ) where
           a ∙ ap (λ y. y + whole N (times w (no_class_weight (suc m) r)) * H (limit Attempts)) b
       by_sign (negsuc m) = omega arith
 
-      by_state : (o : Value) → sum_of_all F (by_value (λ f. sure (fault f)) o (λ z. uniform_weighted r x z s))
-          ≡ whole N (times w (by_value (λ f. one) o (λ z. by_bound z one (λ m. class_weight m r 1)))) * by_value (λ f. 0) o (λ z. by_bound z 0 (λ m. sum_below m (λ i. H (on (slice_set s x (pos i))))))
-          + whole N (times w (by_value (λ f. one) o (λ z. by_bound z one (λ m. no_class_weight m r)))) * by_value (λ f. H (fault f)) o (λ z. by_bound z (H (fault BadBound)) (λ m. H (limit Attempts)))
+      by_state : (o : Value) → sum_of_all F (by_value o (λ f. sure (fault f)) (λ z. uniform_weighted r x z s))
+          ≡ whole N (times w (by_value o (λ f. one) (λ z. by_bound z one (λ m. class_weight m r 1)))) * by_value o (λ f. 0) (λ z. by_bound z 0 (λ m. sum_below m (λ i. H (on (slice_set s x (pos i))))))
+          + whole N (times w (by_value o (λ f. one) (λ z. by_bound z one (λ m. no_class_weight m r)))) * by_value o (λ f. H (fault f)) (λ z. by_bound z (H (fault BadBound)) (λ m. H (limit Attempts)))
       by_state (Ok z) = by_sign z
       by_state (Err f) = omega arith
 
@@ -124,7 +124,7 @@ module _ (x : ℕ) (v : State → Value) (r : Option ℕ) where
       by_sign (pos (suc m)) = refl
       by_sign (negsuc m) = refl
 
-      by_state : (o : Value) → by_value (λ f. at_on G (fault f)) o (λ z. by_bound z (at_on G (fault BadBound)) (λ m. at_on G (limit Attempts))) ≡ 0
+      by_state : (o : Value) → by_value o (λ f. at_on G (fault f)) (λ z. by_bound z (at_on G (fault BadBound)) (λ m. at_on G (limit Attempts))) ≡ 0
       by_state (Ok z) = by_sign z
       by_state (Err f) = refl
 
@@ -136,7 +136,7 @@ module _ (x : ℕ) (v : State → Value) (r : Option ℕ) where
       by_sign (pos (suc m)) = sum_none (suc m)
       by_sign (negsuc m) = refl
 
-      by_state : (o : Value) → by_value (λ f. 0) o (λ z. by_bound z 0 (λ m. sum_below m (λ i. 0))) ≡ 0
+      by_state : (o : Value) → by_value o (λ f. 0) (λ z. by_bound z 0 (λ m. sum_below m (λ i. 0))) ≡ 0
       by_state (Ok z) = by_sign z
       by_state (Err f) = refl
 
@@ -148,7 +148,7 @@ module _ (x : ℕ) (v : State → Value) (r : Option ℕ) where
       by_sign (pos (suc m)) = refl
       by_sign (negsuc m) = refl
 
-      by_state : (o : Value) → by_value (λ f. at_gone G (fault f)) o (λ z. by_bound z (at_gone G (fault BadBound)) (λ m. at_gone G (limit Attempts))) ≡ by_value (λ f. G (fault f)) o (λ z. by_bound z (G (fault BadBound)) (λ m. G (limit Attempts)))
+      by_state : (o : Value) → by_value o (λ f. at_gone G (fault f)) (λ z. by_bound z (at_gone G (fault BadBound)) (λ m. at_gone G (limit Attempts))) ≡ by_value o (λ f. G (fault f)) (λ z. by_bound z (G (fault BadBound)) (λ m. G (limit Attempts)))
       by_state (Ok z) = by_sign z
       by_state (Err f) = refl
 
@@ -234,8 +234,8 @@ module _ (x : ℕ) (v : State → Value) (r : Option ℕ) where
       by_sign (pos (suc m)) b = draw_whole N w m s h.positive b
       by_sign (negsuc m) b = alone
 
-      by_state : (o : Value) → Both N (scaled w (by_value (λ f. sure (fault f)) o (λ z. uniform_weighted r x z s))) →
-          Whole N (times w (by_value (λ f. one) o (λ z. by_bound z one (λ m. class_weight m r 1)))) × Whole N (times w (by_value (λ f. one) o (λ z. by_bound z one (λ m. no_class_weight m r))))
+      by_state : (o : Value) → Both N (scaled w (by_value o (λ f. sure (fault f)) (λ z. uniform_weighted r x z s))) →
+          Whole N (times w (by_value o (λ f. one) (λ z. by_bound z one (λ m. class_weight m r 1)))) × Whole N (times w (by_value o (λ f. one) (λ z. by_bound z one (λ m. no_class_weight m r))))
       by_state (Ok z) b = by_sign z b
       by_state (Err f) b = alone
 

@@ -22,7 +22,7 @@ drawn_each ends I = map (λ e. (e.0, ends)) I
 -- one uniform draw for each entry that an expression's value bounds
 abbrev pub drawn_bound : (State → Value) → Table → Reached
 drawn_bound bound [] = []
-drawn_bound bound (e ∷ I) = by_value (λ f. []) (bound e.1) (λ v. by_bound v [] (λ m. (e.0, uniform_ends m) ∷ [])) ++ drawn_bound bound I
+drawn_bound bound (e ∷ I) = by_value (bound e.1) (λ f. []) (λ v. by_bound v [] (λ m. (e.0, uniform_ends m) ∷ [])) ++ drawn_bound bound I
 
 -- at most t turns of a loop, from the table J on
 abbrev pub loop_draws : (State → Value) → (Table → Reached) → (Table → Flow) → ℕ → Table → Reached

@@ -45,10 +45,10 @@ gone ((w, limit l) ∷ m) = (w, limit l) ∷ gone m
 
 -- whether a guard holds in a state, or does not; neither where it is a fault
 abbrev pub holds : (State → Value) → State → Bool
-holds guard s = by_value (λ f. false) (guard s) (λ v. not (is_zero v))
+holds guard s = by_value (guard s) (λ f. false) (λ v. not (is_zero v))
 
 abbrev pub fails : (State → Value) → State → Bool
-fails guard s = by_value (λ f. false) (guard s) is_zero
+fails guard s = by_value (guard s) (λ f. false) is_zero
 
 abbrev pub only : (State → Bool) → Table → Table
 only test I = filter (λ e. test e.1) I
@@ -56,7 +56,7 @@ only test I = filter (λ e. test e.1) I
 -- the faults of a guard
 abbrev pub faults : (State → Value) → Table → Weighted End
 faults guard [] = []
-faults guard (e ∷ I) = by_value (λ f. (e.0, fault f) ∷ faults guard I) (guard e.1) (λ v. faults guard I)
+faults guard (e ∷ I) = by_value (guard e.1) (λ f. (e.0, fault f) ∷ faults guard I) (λ v. faults guard I)
 
 -- all entries end in this way
 abbrev pub all_end : End → Table → Weighted End
@@ -76,7 +76,7 @@ draws_each ws (e ∷ I) = ws ++ draws_each ws I
 -- those of the draws that an expression's values bound
 abbrev pub bound_draws : (State → Value) → Option ℕ → Table → List Fraction
 bound_draws bound r [] = []
-bound_draws bound r (e ∷ I) = by_value (λ f. []) (bound e.1) (λ v. by_bound v [] (λ m. draw_weights m r)) ++ bound_draws bound r I
+bound_draws bound r (e ∷ I) = by_value (bound e.1) (λ f. []) (λ v. by_bound v [] (λ m. draw_weights m r)) ++ bound_draws bound r I
 
 -- ---- statements
 

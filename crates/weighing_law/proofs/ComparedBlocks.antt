@@ -61,7 +61,7 @@ module _ (bad : Limit → Type 0) where
   Spares G = (e : End) → BadEnd e → G e ≡ 0
 
   -- ---- going on by cases
-  pair_value : (N : ℕ) (v : Value) (k k' : ℤ → Weighted End) → ((z : ℤ) → v ≡ Ok z → Pair N (k z) (k' z)) → Pair N (by_value (λ f. sure (fault f)) v k) (by_value (λ f. sure (fault f)) v k')
+  pair_value : (N : ℕ) (v : Value) (k k' : ℤ → Weighted End) → ((z : ℤ) → v ≡ Ok z → Pair N (k z) (k' z)) → Pair N (by_value v (λ f. sure (fault f)) k) (by_value v (λ f. sure (fault f)) k')
   pair_value N (Ok z) k k' h = h z refl
   pair_value N (Err f) k k' h = pair_sure N (fault f) refl
 
@@ -72,7 +72,7 @@ module _ (bad : Limit → Type 0) where
       by_test true = q
       by_test false = p
 
-  abbrev pair_end : (N : ℕ) (e : End) (k k' : State → Weighted End) → ((s : State) → state_fits s ≡ true → Pair N (k s) (k' s)) → end_fits e ≡ true → Pair N (by_end sure e k) (by_end sure e k')
+  abbrev pair_end : (N : ℕ) (e : End) (k k' : State → Weighted End) → ((s : State) → state_fits s ≡ true → Pair N (k s) (k' s)) → end_fits e ≡ true → Pair N (by_end e sure k) (by_end e sure k')
   pair_end N (on s) k k' h p = h s p
   pair_end N failed k k' h p = pair_sure N failed p
   pair_end N (fault f) k k' h p = pair_sure N (fault f) p
@@ -86,11 +86,11 @@ module _ (bad : Limit → Type 0) where
 
   -- a list of ends, and what follows its states
   pair_then : (N M : ℕ) (m m' : Weighted End) (k k' : State → Weighted End) → Pair N m m' → ((s : State) → state_fits s ≡ true → Pair M (k s) (k' s)) →
-      Pair (N * M) (taken_on m (λ e. by_end sure e k)) (taken_on m' (λ e. by_end sure e k'))
+      Pair (N * M) (taken_on m (λ e. by_end e sure k)) (taken_on m' (λ e. by_end e sure k'))
   pair_then N M m m' k k' l h =
-      cmp_then end_fits end_fits N M BadEnd BadEnd m m' (λ e. by_end sure e k) (λ e. by_end sure e k') l (λ e q. pair_end M e k k' h q) (λ e q b. dead_end M e k k' h q b)
+      cmp_then end_fits end_fits N M BadEnd BadEnd m m' (λ e. by_end e sure k) (λ e. by_end e sure k') l (λ e q. pair_end M e k k' h q) (λ e q b. dead_end M e k k' h q b)
 
-  abbrev pair_class : (N n : ℕ) (o : Option ℕ) (k k' : ℕ → Weighted End) → ((i : ℕ) → i < n → Pair N (k i) (k' i)) → class_below n o ≡ true → Pair N (by_class (sure (limit Attempts)) o k) (by_class (sure (limit Attempts)) o k')
+  abbrev pair_class : (N n : ℕ) (o : Option ℕ) (k k' : ℕ → Weighted End) → ((i : ℕ) → i < n → Pair N (k i) (k' i)) → class_below n o ≡ true → Pair N (by_class o (sure (limit Attempts)) k) (by_class o (sure (limit Attempts)) k')
   pair_class N n None k k' h p = pair_sure N (limit Attempts) refl
   pair_class N n (Some i) k k' h p = h i (ltb-true i n p)
 
@@ -110,7 +110,7 @@ module _ (bad : Limit → Type 0) where
   pair_loop S guard m m' h (suc t') zero le lost s p =
       let M = loop_scale S t' in
       pair_value (S * M) (guard s) _ _ (λ z e. pair_truth (S * M) z _ _ _ _
-      (pair_turns (S * M) (taken_on (m s) (λ e. by_end sure e (loop_weighted guard m 0))) _ (lost (omega arith))
+      (pair_turns (S * M) (taken_on (m s) (λ e. by_end e sure (loop_weighted guard m 0))) _ (lost (omega arith))
       (pair_then S M (m s) (m' s) (loop_weighted guard m 0) (loop_weighted guard m' t') (h s p) (λ s' q. pair_loop S guard m m' h t' 0 (omega arith) (λ lt. lost (omega arith)) s' q)))
       (pair_sure (S * M) (on s) p))
   pair_loop S guard m m' h (suc t') (suc t) le lost s p =

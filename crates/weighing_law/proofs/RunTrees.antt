@@ -37,7 +37,7 @@ abbrev Reader : Type 0
 Reader = List Bool → Reading End
 
 -- ---- going on by cases
-value_tree : (v : Value) (go : ℤ → Reader) → ((z : ℤ) → HasTree (go z)) → HasTree (λ w. by_value (λ f. gives (fault f) w) v (λ z. go z w))
+value_tree : (v : Value) (go : ℤ → Reader) → ((z : ℤ) → HasTree (go z)) → HasTree (λ w. by_value v (λ f. gives (fault f) w) (λ z. go z w))
 value_tree (Ok z) go h = h z
 value_tree (Err f) go h = answer_tree (fault f)
 
@@ -49,15 +49,15 @@ truth_tree z a c h k = by_test (is_zero z)
     by_test false = h
 
 end_tree : (reader : Reader) (go : State → Reader) → HasTree reader → ((s : State) → HasTree (go s)) →
-    HasTree (λ w. after (reader w) (λ e rest. by_end (λ e. gives e rest) e (λ s. go s rest)))
+    HasTree (λ w. after (reader w) (λ e rest. by_end e (λ e. gives e rest) (λ s. go s rest)))
 end_tree reader go h next =
-    then_tree reader (λ e rest. by_end (λ e. gives e rest) e (λ s. go s rest)) h
+    then_tree reader (λ e rest. by_end e (λ e. gives e rest) (λ s. go s rest)) h
     (elim [ on s ↦ next s | failed ↦ answer_tree failed | fault f ↦ answer_tree (fault f) | limit l ↦ answer_tree (limit l) ])
 
 class_tree : (ends : List ℕ) (r : ℕ) (go : ℕ → Reader) → ((i : ℕ) → HasTree (go i)) →
-    HasTree (λ w. after (draw_on ends r w) (λ class rest. by_class (gives (limit Attempts) rest) class (λ i. go i rest)))
+    HasTree (λ w. after (draw_on ends r w) (λ class rest. by_class class (gives (limit Attempts) rest) (λ i. go i rest)))
 class_tree ends r go next =
-    then_tree (draw_on ends r) (λ class rest. by_class (gives (limit Attempts) rest) class (λ i. go i rest))
+    then_tree (draw_on ends r) (λ class rest. by_class class (gives (limit Attempts) rest) (λ i. go i rest))
     (record { tree = draw_tree ends r; runs = draw_runs ends r })
     (elim [ Some i ↦ next i | None ↦ answer_tree (limit Attempts) ])
 

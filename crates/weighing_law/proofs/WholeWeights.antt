@@ -59,7 +59,7 @@ whole_draw ends K c2 up e =
     subst (λ n. Whole n (weighted_classes ends None)) e (whole_more b c2 (weighted_classes ends None) (subst (Counts b (λ o. 1) (weighted_classes ends None)) p (counts_unlimited ends (λ o. 1))))
 
 -- ---- going on by cases
-whole_value : (N : ℕ) (v : Value) (k : ℤ → Weighted End) → ((z : ℤ) → v ≡ Ok z → Whole N (k z)) → Whole N (by_value (λ f. sure (fault f)) v k)
+whole_value : (N : ℕ) (v : Value) (k : ℤ → Weighted End) → ((z : ℤ) → v ≡ Ok z → Whole N (k z)) → Whole N (by_value v (λ f. sure (fault f)) k)
 whole_value N (Ok z) k h = h z refl
 whole_value N (Err f) k h = whole_sure N (fault f)
 
@@ -70,13 +70,13 @@ whole_truth N z m n p q = by_test (is_zero z)
     by_test true = q
     by_test false = p
 
-whole_end : (N : ℕ) (e : End) (k : State → Weighted End) → ((s : State) → state_fits s ≡ true → Whole N (k s)) → end_fits e ≡ true → Whole N (by_end sure e k)
+whole_end : (N : ℕ) (e : End) (k : State → Weighted End) → ((s : State) → state_fits s ≡ true → Whole N (k s)) → end_fits e ≡ true → Whole N (by_end e sure k)
 whole_end N (on s) k h p = h s p
 whole_end N failed k h p = whole_sure N failed
 whole_end N (fault f) k h p = whole_sure N (fault f)
 whole_end N (limit l) k h p = whole_sure N (limit l)
 
-whole_class : (N : ℕ) (o : Option ℕ) (k : ℕ → Weighted End) → ((i : ℕ) → Whole N (k i)) → Whole N (by_class (sure (limit Attempts)) o k)
+whole_class : (N : ℕ) (o : Option ℕ) (k : ℕ → Weighted End) → ((i : ℕ) → Whole N (k i)) → Whole N (by_class o (sure (limit Attempts)) k)
 whole_class N None k h = whole_sure N (limit Attempts)
 whole_class N (Some i) k h = h i
 
@@ -102,7 +102,7 @@ module _ (n r K : ℕ) (scale : Scale r K) where
       let small : suc m < 2 ^ 63 = ltb-true _ _ f in
       let c = scale (last_end (uniform_ends (suc m))) (omega arith) (omega arith) in
       let stored : ℕ → Weighted End = λ i. sure (on (slice_set s x (pos i))) in
-      whole_then (class_below (length (uniform_ends (suc m)))) K 1 (weighted_classes (uniform_ends (suc m)) None) (λ o. by_class (sure (limit Attempts)) o stored) (draw_entries (uniform_ends (suc m)) None)
+      whole_then (class_below (length (uniform_ends (suc m)))) K 1 (weighted_classes (uniform_ends (suc m)) None) (λ o. by_class o (sure (limit Attempts)) stored) (draw_entries (uniform_ends (suc m)) None)
       (whole_draw (uniform_ends (suc m)) K c.1 (range_ascends 0 (suc m)) c.3) (λ o q. whole_class 1 o stored (λ i. whole_sure 1 (on (slice_set s x (pos i)))))
 
   mutual

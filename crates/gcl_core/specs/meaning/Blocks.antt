@@ -23,8 +23,8 @@ pub data End : Type 0 where
 
 -- with a value; a fault stops
 abbrev pub by_value : {A : Type 0} → (Fault → A) → Value → (ℤ → A) → A
-by_value stop (Ok v) go = go v
-by_value stop (Err f) go = stop f
+by_value (Ok v) stop go = go v
+by_value (Err f) stop go = stop f
 
 -- the first where a number is not 0, the second where it is
 abbrev pub by_truth : {A : Type 0} → ℤ → A → A → A
@@ -38,8 +38,8 @@ by_bound (negsuc m) stop go = stop
 
 -- with a class; where no attempt gave one it stops
 abbrev pub by_class : {A : Type 0} → A → Option ℕ → (ℕ → A) → A
-by_class stop None go = stop
-by_class stop (Some i) go = go i
+by_class None stop go = stop
+by_class (Some i) stop go = go i
 
 -- the first at class 0, else the second
 abbrev pub by_side : {A : Type 0} → ℕ → A → A → A
@@ -48,10 +48,10 @@ by_side (suc i) a c = c
 
 -- with a state; every other end stops
 abbrev pub by_end : {A : Type 0} → (End → A) → End → (State → A) → A
-by_end stop (on s) go = go s
-by_end stop failed go = stop failed
-by_end stop (fault f) go = stop (fault f)
-by_end stop (limit l) go = stop (limit l)
+by_end (on s) stop go = go s
+by_end failed stop go = stop failed
+by_end (fault f) stop go = stop (fault f)
+by_end (limit l) stop go = stop (limit l)
 
 -- ---- statements
 
@@ -60,36 +60,36 @@ abbrev pub uniform_on : ℕ → ℕ → ℤ → State → List Bool → Reading 
 uniform_on r x v s w =
     by_bound v (gives (fault BadBound) w)
     (λ m. after (draw_on (uniform_ends m) r w)
-    (λ class rest. by_class (gives (limit Attempts) rest) class (λ i. gives (on (slice_set s x (pos i))) rest)))
+    (λ class rest. by_class class (gives (limit Attempts) rest) (λ i. gives (on (slice_set s x (pos i))) rest)))
 
 -- At most t turns of a loop: its guard is evaluated before each, and where it is found true once more the turns have run out.
 abbrev pub loop_on : (State → Value) → (State → List Bool → Reading End) → ℕ → State → List Bool → Reading End
-loop_on guard body zero s w = by_value (λ f. gives (fault f) w) (guard s) (λ v. by_truth v (gives (limit Turns) w) (gives (on s) w))
+loop_on guard body zero s w = by_value (guard s) (λ f. gives (fault f) w) (λ v. by_truth v (gives (limit Turns) w) (gives (on s) w))
 loop_on guard body (suc t) s w =
-    by_value (λ f. gives (fault f) w) (guard s)
-    (λ v. by_truth v (after (body s w) (λ e rest. by_end (λ e. gives e rest) e (λ s. loop_on guard body t s rest))) (gives (on s) w))
+    by_value (guard s) (λ f. gives (fault f) w)
+    (λ v. by_truth v (after (body s w) (λ e rest. by_end e (λ e. gives e rest) (λ s. loop_on guard body t s rest))) (gives (on s) w))
 
 -- under limits of n turns for each entry of a loop and r attempts for each draw
 module _ (n r : ℕ) where
   abbrev mutual
     pub statement_on : Statement → State → List Bool → Reading End
     statement_on Skip s w = gives (on s) w
-    statement_on (Set x e) s w = by_value (λ f. gives (fault f) w) (value_of e s) (λ v. gives (on (slice_set s x v)) w)
-    statement_on (Observe e) s w = by_value (λ f. gives (fault f) w) (value_of e s) (λ v. by_truth v (gives (on s) w) (gives failed w))
+    statement_on (Set x e) s w = by_value (value_of e s) (λ f. gives (fault f) w) (λ v. gives (on (slice_set s x v)) w)
+    statement_on (Observe e) s w = by_value (value_of e s) (λ f. gives (fault f) w) (λ v. by_truth v (gives (on s) w) (gives failed w))
     statement_on (If e a c) s w =
-        by_value (λ f. gives (fault f) w) (value_of e s) (λ v. by_truth v (block_on a s w) (block_on c s w))
+        by_value (value_of e s) (λ f. gives (fault f) w) (λ v. by_truth v (block_on a s w) (block_on c s w))
     statement_on (Choice p a c) s w =
         after (draw_on (choice_ends p) r w)
-        (λ class rest. by_class (gives (limit Attempts) rest) class (λ i. by_side i (block_on a s rest) (block_on c s rest)))
+        (λ class rest. by_class class (gives (limit Attempts) rest) (λ i. by_side i (block_on a s rest) (block_on c s rest)))
     statement_on (Choose arms) s w =
         after (draw_on (partial_sums (parts_of arms)) r w)
-        (λ class rest. by_class (gives (limit Attempts) rest) class (λ i. arm_on arms i s rest))
-    statement_on (Uniform x e) s w = by_value (λ f. gives (fault f) w) (value_of e s) (λ v. uniform_on r x v s w)
+        (λ class rest. by_class class (gives (limit Attempts) rest) (λ i. arm_on arms i s rest))
+    statement_on (Uniform x e) s w = by_value (value_of e s) (λ f. gives (fault f) w) (λ v. uniform_on r x v s w)
     statement_on (While e a) s w = loop_on (value_of e) (block_on a) n s w
 
     pub block_on : Statements → State → List Bool → Reading End
     block_on done s w = gives (on s) w
-    block_on (st ▸ b) s w = after (statement_on st s w) (λ e rest. by_end (λ e. gives e rest) e (λ s. block_on b s rest))
+    block_on (st ▸ b) s w = after (statement_on st s w) (λ e rest. by_end e (λ e. gives e rest) (λ s. block_on b s rest))
 
     -- the arm with this number; a draw gives no number that none has
     pub arm_on : ArmList → ℕ → State → List Bool → Reading End
