@@ -8,7 +8,7 @@ use Rattle.gcl_core.specs.meaning.Value.{State, Value, value_of}
 use Rattle.gcl_core.specs.meaning.Reading.{Reading, gives, more_bits, after}
 use Rattle.gcl_core.specs.meaning.Draw.{draw_on, choice_ends}
 use Rattle.gcl_core.specs.meaning.Parts.{partial_sums}
-use Rattle.gcl_core.specs.meaning.Blocks.{End, on, failed, fault, limit, by_value, by_truth, by_class, by_side, by_end, loop_on, statement_on, block_on, arm_on}
+use Rattle.gcl_core.specs.meaning.Blocks.{End, on, failed, fault, limit, by_value, by_truth, by_class, by_side, by_end, loop_on, statement_on, block_on, arm_on, end_on}
 use Rattle.choice_tree.specs.Tree.{ChoiceTree, ChoiceTrees}
 use Rattle.choice_tree.specs.TreeOf.{in_front, member_of, members_of, arm_trees, tree_of}
 use Rattle.choice_tree.specs.Meaning.{choice_tree_on, choice_row_on, choice_arm_on}
@@ -46,7 +46,7 @@ loop_same guard f g zero s w h = refl
 loop_same guard f g (suc t) s w h =
     value_same (λ x. gives (fault x) w) (guard s) _ _ (λ v.
     truth_same v _ _ _ _
-    (ap (λ x. after x (λ e rest. by_end e (λ e. gives e rest) (λ s. loop_on guard f t s rest))) (h s w)
+    (ap (λ x. end_on x (loop_on guard f t)) (h s w)
     ∙ after_same (g s w) _ _ (λ e rest. end_same (λ e. gives e rest) e _ _ (λ s. loop_same guard f g t s rest h)))
     refl)
 
@@ -57,7 +57,7 @@ module _ (n r : ℕ) where
   member_on (Some t) s w = choice_tree_on n r t s w
 
   row_in_front : (o : Option ChoiceTree) (ts : ChoiceTrees) (s : State) (w : List Bool) →
-      choice_row_on n r (in_front o ts) s w ≡ after (member_on o s w) (λ e rest. by_end e (λ e. gives e rest) (λ s. choice_row_on n r ts s rest))
+      choice_row_on n r (in_front o ts) s w ≡ end_on (member_on o s w) (choice_row_on n r ts)
   row_in_front None ts s w = refl
   row_in_front (Some t) ts s w = refl
 
@@ -80,7 +80,7 @@ module _ (n r : ℕ) where
     members_mean done s w = refl
     members_mean (st ▸ b) s w =
         row_in_front (member_of st) (members_of b) s w
-        ∙ ap (λ x. after x (λ e rest. by_end e (λ e. gives e rest) (λ s. choice_row_on n r (members_of b) s rest))) (member_means st s w)
+        ∙ ap (λ x. end_on x (choice_row_on n r (members_of b))) (member_means st s w)
         ∙ after_same (statement_on n r st s w) _ _ (λ e rest. end_same (λ e. gives e rest) e _ _ (λ s. members_mean b s rest))
 
     arm_means : (arms : ArmList) (i : ℕ) (s : State) (w : List Bool) → choice_arm_on n r (arm_trees arms) i s w ≡ arm_on n r arms i s w

@@ -11,9 +11,9 @@ use Rattle.gcl_core.specs.meaning.Arms.{parts_of}
 use Rattle.gcl_core.specs.meaning.Parts.{partial_sums}
 use Rattle.gcl_core.specs.meaning.Syntax.{Statement, Skip, Set, If, While, Choice, Choose, Uniform, Observe, Statements, done, ◌▸◌, ArmList, no_arm, arm}
 use Rattle.gcl_core.specs.meaning.Value.{State, Value, value_of, is_zero, fits_64}
-use Rattle.gcl_core.specs.meaning.Reading.{Reading, gives, after}
+use Rattle.gcl_core.specs.meaning.Reading.{Reading, gives}
 use Rattle.gcl_core.specs.meaning.Draw.{bits_for, last_end, draw_on, choice_ends, uniform_ends}
-use Rattle.gcl_core.specs.meaning.Blocks.{End, on, failed, fault, limit, by_value, by_truth, by_bound, by_class, by_side, by_end, uniform_on, loop_on, statement_on, block_on, arm_on}
+use Rattle.gcl_core.specs.meaning.Blocks.{End, on, failed, fault, limit, by_value, by_truth, by_bound, by_class, by_side, by_end, uniform_on, loop_on, statement_on, block_on, arm_on, class_on, value_on}
 use Rattle.gcl_core.specs.weighing.Fractions.{Fraction, zero_share}
 use Rattle.gcl_core.specs.weighing.LongestReading.{longest_statement, longest, longest_arm}
 use Rattle.gcl_core.specs.weighing.OneDraw.{Ascends}
@@ -36,7 +36,7 @@ abbrev Reader : Type 0
 Reader = List Bool → Reading End
 
 -- ---- going on by cases
-value_costs : (d : ℕ) (v : Value) (go : ℤ → Reader) (k : ℤ → Fraction) → ((z : ℤ) → v ≡ Ok z → Costs d (go z) (k z)) → Costs d (λ w. by_value v (λ f. gives (fault f) w) (λ z. go z w)) (by_value v (λ f. zero_share) k)
+value_costs : (d : ℕ) (v : Value) (go : ℤ → Reader) (k : ℤ → Fraction) → ((z : ℤ) → v ≡ Ok z → Costs d (go z) (k z)) → Costs d (λ w. value_on v w (λ z. go z w)) (by_value v (λ f. zero_share) k)
 value_costs d (Ok z) go k h = h z refl
 value_costs d (Err f) go k h = costs_none d (fault f)
 
@@ -69,7 +69,7 @@ loop_costs : (d : ℕ) (guard : State → Value) (body : State → Reader) (bits
     (t : ℕ) (s : State) → state_fits s ≡ true → Costs (t * d) (loop_on guard body t s) (loop_bits guard bits m t s)
 loop_costs d guard body bits m h g zero s p = at_once (guard s)
   where
-    at_once : (v : Value) → Costs (0 * d) (λ w. by_value v (λ f. gives (fault f) w) (λ z. by_truth z (gives (limit Turns) w) (gives (on s) w))) zero_share
+    at_once : (v : Value) → Costs (0 * d) (λ w. value_on v w (λ z. by_truth z (gives (limit Turns) w) (gives (on s) w))) zero_share
     at_once (Ok z) = by_test (is_zero z)
       where
         by_test : (b : Bool) → Costs (0 * d) (λ w. cond b (gives (on s) w) (gives (limit Turns) w)) zero_share
@@ -88,7 +88,7 @@ pub draw_costs : (ends : List ℕ) (r : ℕ) → Ascends 0 ends → Costs (bits_
 draw_costs ends r up = record { tree = draw_tree ends r; runs = draw_runs ends r; within = draw_within ends r; share = draw_share ends r up; some = draw_bits_pos ends r }
 
 drawn_costs : (r m x : ℕ) (s : State) → m < 2 ^ 63 →
-    Costs (63 * r) (λ w. after (draw_on (uniform_ends m) r w) (λ class rest. by_class class (gives (limit Attempts) rest) (λ i. gives (on (slice_set s x (pos i))) rest))) (draw_bits (uniform_ends m) r)
+    Costs (63 * r) (λ w. class_on (draw_on (uniform_ends m) r w) (λ i rest. gives (on (slice_set s x (pos i))) rest)) (draw_bits (uniform_ends m) r)
 drawn_costs r m x s small =
     let d = bits_for (last_end (uniform_ends m)) in
     let b : last_end (uniform_ends m) ≤ 2 ^ 63 = omega (arith, last_of_equal m) in
@@ -104,7 +104,7 @@ uniform_costs r x (negsuc m) s f = costs_none (63 * r) (fault BadBound)
 
 -- ---- statements
 module _ (n r : ℕ) where
-  none_value : (v : Value) (go : ℤ → End) → Costs 0 (λ w. by_value v (λ f. gives (fault f) w) (λ z. gives (go z) w)) zero_share
+  none_value : (v : Value) (go : ℤ → End) → Costs 0 (λ w. value_on v w (λ z. gives (go z) w)) zero_share
   none_value (Ok z) go = costs_none 0 (go z)
   none_value (Err f) go = costs_none 0 (fault f)
 
@@ -114,7 +114,7 @@ module _ (n r : ℕ) where
     statement_costs (Set x e) ok f s p = none_value (value_of e s) (λ z. on (slice_set s x z))
     statement_costs (Observe e) ok f s p = observed (value_of e s)
       where
-        observed : (v : Value) → Costs 0 (λ w. by_value v (λ f. gives (fault f) w) (λ z. by_truth z (gives (on s) w) (gives failed w))) zero_share
+        observed : (v : Value) → Costs 0 (λ w. value_on v w (λ z. by_truth z (gives (on s) w) (gives failed w))) zero_share
         observed (Ok z) = by_test (is_zero z)
           where
             by_test : (b : Bool) → Costs 0 (λ w. cond b (gives failed w) (gives (on s) w)) zero_share

@@ -5,7 +5,6 @@ use Rattle.std.specs.Int.{w64}
 use Rattle.std.proofs.lemmas.Bool.{ltb-true}
 use Rattle.std.proofs.lemmas.List.FromFn.{length-range_with_len}
 use Rattle.gcl_core.specs.declared.answers.Answer.TheVariants.{Ended}
-use Rattle.gcl_core.specs.declared.answers.Limit.TheVariants.{Attempts}
 use Rattle.gcl_core.specs.declared.answers.Limits.{Limits}
 use Rattle.gcl_core.specs.declared.answers.Outcome.{Outcome}
 use Rattle.gcl_core.specs.declared.answers.Outcome.TheVariants as outcome
@@ -16,7 +15,7 @@ use Rattle.gcl_core.specs.meaning.Syntax.{Statement, Skip, Set, If, While, Choic
 use Rattle.gcl_core.specs.meaning.Value.{State, Value, value_of, is_zero, fits_64}
 use Rattle.gcl_core.specs.meaning.Reading.{Reading, gives, more_bits, after}
 use Rattle.gcl_core.specs.meaning.Draw.{class_of, first_of, decides, bits_for, last_end, attempt_from, attempt_on, draw_on, choice_ends, uniform_ends}
-use Rattle.gcl_core.specs.meaning.Blocks.{End, on, failed, fault, limit, by_value, by_truth, by_class, by_side, by_end, uniform_on, loop_on, statement_on, block_on, arm_on}
+use Rattle.gcl_core.specs.meaning.Blocks.{End, on, failed, fault, limit, by_truth, by_side, uniform_on, loop_on, statement_on, block_on, arm_on, class_on, end_on, value_on}
 use Rattle.gcl_core.specs.meaning.Fitting.{state_fits}
 use Rattle.gcl_core.specs.meaning.Keeping.{IsChecked}
 use Rattle.gcl_core.specs.meaning.Runs.{rounds_on, answer_of, run_on}
@@ -63,7 +62,7 @@ draw_below ends (suc r) w =
 abbrev Fits : Reading End → Type 0
 Fits x = OnAnswer (λ e. end_fits e ≡ true) x
 
-by_value_fits : (v : Value) (w : List Bool) (go : ℤ → Reading End) → ValueFits v → ((z : ℤ) → fits_64 z ≡ true → Fits (go z)) → Fits (by_value v (λ f. gives (fault f) w) go)
+by_value_fits : (v : Value) (w : List Bool) (go : ℤ → Reading End) → ValueFits v → ((z : ℤ) → fits_64 z ≡ true → Fits (go z)) → Fits (value_on v w go)
 by_value_fits (Ok z) w go h next = next z h
 by_value_fits (Err f) w go h next = refl
 
@@ -75,13 +74,13 @@ by_truth_fits z a c h i = by_test (is_zero z)
     by_test false = h
 
 then_fits : (x : Reading End) (go : State → List Bool → Reading End) → Fits x → ((s : State) (rest : List Bool) → state_fits s ≡ true → Fits (go s rest)) →
-    Fits (after x (λ e rest. by_end e (λ e. gives e rest) (λ s. go s rest)))
+    Fits (end_on x go)
 then_fits x go h next =
     after_on (λ e. end_fits e ≡ true) (λ e. end_fits e ≡ true) x _ h
     (elim [ on s ↦ λ rest p. next s rest p | failed ↦ λ rest p. refl | fault f ↦ λ rest p. refl | limit l ↦ λ rest p. refl ])
 
 drawn_fits : (ends : List ℕ) (r : ℕ) (w : List Bool) (go : ℕ → List Bool → Reading End) → ((i : ℕ) (rest : List Bool) → i < length ends → Fits (go i rest)) →
-    Fits (after (draw_on ends r w) (λ class rest. by_class class (gives (limit Attempts) rest) (λ i. go i rest)))
+    Fits (class_on (draw_on ends r w) go)
 drawn_fits ends r w go next =
     after_on (ClassBelow (length ends)) (λ e. end_fits e ≡ true) (draw_on ends r w) _ (draw_below ends r w) (elim [ Some i ↦ λ rest lt. next i rest lt | None ↦ λ rest h. refl ])
 

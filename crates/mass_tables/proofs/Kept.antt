@@ -10,7 +10,7 @@ use Rattle.gcl_core.specs.meaning.Parts.{AreParts}
 use Rattle.gcl_core.specs.meaning.Value.{State, Value, value_of, is_zero}
 use Rattle.gcl_core.specs.meaning.Blocks.{End, on, failed, fault, limit, by_value, by_bound}
 use Rattle.gcl_core.specs.weighing.Fractions.{Fraction, times, one}
-use Rattle.gcl_core.specs.weighing.WeightedEnds.{Weighted, sure, scaled, taken_on, class_weight, no_class_weight, statement_weighted}
+use Rattle.gcl_core.specs.weighing.WeightedEnds.{Weighted, sure, scaled, taken_on, class_weight, no_class_weight, statement_weighted, value_weighted}
 use Rattle.mass_tables.specs.Tables.{Table, Flow, going_on, gone, holds, fails, only, faults, all_end, both, loop_flow, statement_flow, block_flow, arms_flow, draws_each, draw_weights}
 use Rattle.mass_tables.specs.Scale.{amount, weight, whole, Whole, Wholes, Within, TablesWithin}
 use Rattle.mass_tables.specs.Counts.{sum_below, part_at, rest_at, drawn, undrawn, multiplied}
@@ -82,7 +82,7 @@ both_weight N x f g =
 abbrev pub set_end : ℕ → Value → State → End
 set_end x v s = by_value v (λ f. fault f) (λ z. on (slice_set s x z))
 
-pub set_sure : (x : ℕ) (v : Value) (s : State) → by_value v (λ f. sure (fault f)) (λ z. sure (on (slice_set s x z))) ≡ sure (set_end x v s)
+pub set_sure : (x : ℕ) (v : Value) (s : State) → value_weighted v (λ z. sure (on (slice_set s x z))) ≡ sure (set_end x v s)
 set_sure x (Ok z) s = refl
 set_sure x (Err f) s = refl
 
@@ -93,7 +93,7 @@ side_sure : (b : Bool) (s : State) → cond b (sure failed) (sure (on s)) ≡ su
 side_sure true s = refl
 side_sure false s = refl
 
-pub seen_sure : (v : Value) (s : State) → by_value v (λ f. sure (fault f)) (λ z. cond (is_zero z) (sure failed) (sure (on s))) ≡ sure (seen_end v s)
+pub seen_sure : (v : Value) (s : State) → value_weighted v (λ z. cond (is_zero z) (sure failed) (sure (on s))) ≡ sure (seen_end v s)
 seen_sure (Ok z) s = side_sure (is_zero z) s
 seen_sure (Err f) s = refl
 

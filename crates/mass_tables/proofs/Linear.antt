@@ -8,7 +8,7 @@ use Rattle.gcl_core.specs.meaning.Value.{State, Value, value_of, is_zero}
 use Rattle.gcl_core.specs.meaning.Blocks.{End, on, failed, fault, limit, by_value, by_truth, by_end}
 use Rattle.mass_tables.specs.Scale.{Wholes, whole, amount}
 use Rattle.gcl_core.specs.weighing.Fractions.{Fraction, plus, one, times}
-use Rattle.gcl_core.specs.weighing.WeightedEnds.{Weighted, sure, scaled, taken_on, class_weight, no_class_weight, statement_weighted, weighted_ends, loop_weighted}
+use Rattle.gcl_core.specs.weighing.WeightedEnds.{Weighted, sure, scaled, taken_on, class_weight, no_class_weight, statement_weighted, weighted_ends, loop_weighted, end_weighted, value_weighted}
 use Rattle.gcl_core.specs.weighing.Mass.{sum_of}
 use Rattle.mass_tables.specs.Tables.{Table, Flow, going_on, gone, holds, fails, only, faults, all_end, each, both, loop_flow, statement_flow, block_flow, arms_flow}
 use Rattle.mass_tables.proofs.ArmEnds.{arm_ends, choose_weighted}
@@ -132,22 +132,22 @@ onward_next : (F : Fraction → End → ℕ) (k : State → Weighted End) (m : T
 onward_next F k [] = refl
 onward_next F k (e ∷ m) = ap (λ x. sum_of_all (after_weight e.0 F) (k e.1) + x) (onward_next F k m)
 
-onward_taken : (F : Fraction → End → ℕ) (k : State → Weighted End) (w : Fraction) (m : Weighted End) → Zero F → sum_of_all (after_weight w F) (taken_on m (λ e. by_end e sure k)) ≡ sum_of_all (after_weight w (onward F k)) m
+onward_taken : (F : Fraction → End → ℕ) (k : State → Weighted End) (w : Fraction) (m : Weighted End) → Zero F → sum_of_all (after_weight w F) (end_weighted m k) ≡ sum_of_all (after_weight w (onward F k)) m
 onward_taken F k w [] z = refl
 onward_taken F k w (e ∷ m) z =
-    let a = sum_append (after_weight w F) (scaled e.0 (by_end e.1 sure k)) (taken_on m (λ e. by_end e sure k)) in
+    let a = sum_append (after_weight w F) (scaled e.0 (by_end e.1 sure k)) (end_weighted m k) in
     let b = sum_scaled (after_weight w F) e.0 (by_end e.1 sure k) (zero_after F w z) in
     let c = sum_ext (after_weight e.0 (after_weight w F)) (after_weight (times w e.0) F) (by_end e.1 sure k) (λ v x. ap (λ u. F u x) (sym (times_assoc w e.0 v))) in
     let i = onward_taken F k w m z in
     omega arith
 
-spread_onward : (F : Fraction → End → ℕ) (k : State → Weighted End) (step : State → Weighted End) (I : Table) → Zero F → spread (onward F k) I step ≡ spread F I (λ s. taken_on (step s) (λ e. by_end e sure k))
+spread_onward : (F : Fraction → End → ℕ) (k : State → Weighted End) (step : State → Weighted End) (I : Table) → Zero F → spread (onward F k) I step ≡ spread F I (λ s. end_weighted (step s) k)
 spread_onward F k step [] z = refl
 spread_onward F k step (e ∷ I) z = let a = onward_taken F k e.0 (step e.1) z in let i = spread_onward F k step I z in omega arith
 
 pub flow_joined : (F : Fraction → End → ℕ) (k : State → Weighted End) (step : State → Weighted End) (I next : Table) (ended : Weighted End) → Zero F → NoOn ended →
     ((G : Fraction → End → ℕ) → Zero G → sum_of_all (λ w s. G w (on s)) next + sum_of_all G ended ≡ spread G I step) →
-    spread F next k + sum_of_all F ended ≡ spread F I (λ s. taken_on (step s) (λ e. by_end e sure k))
+    spread F next k + sum_of_all F ended ≡ spread F I (λ s. end_weighted (step s) k)
 flow_joined F k step I next ended z clear h =
     let a = h (onward F k) (onward_zero F k z) in
     let b = onward_next F k next in
@@ -157,18 +157,18 @@ flow_joined F k step I next ended z clear h =
 
 -- a guard's parts
 spread_guard : (F : Fraction → End → ℕ) (v : State → Value) (a c : State → Weighted End) (I : Table) → Zero F →
-    sum_of_all F (faults v I) + (spread F (only (holds v) I) a + spread F (only (fails v) I) c) ≡ spread F I (λ s. by_value (v s) (λ f. sure (fault f)) (λ z. by_truth z (a s) (c s)))
+    sum_of_all F (faults v I) + (spread F (only (holds v) I) a + spread F (only (fails v) I) c) ≡ spread F I (λ s. value_weighted (v s) (λ z. by_truth z (a s) (c s)))
 spread_guard F v a c [] z = refl
 spread_guard F v a c (e ∷ I) z = at_head (v e.1) refl (spread_guard F v a c I z)
   where
-    at_head : (o : Value) → v e.1 ≡ o → sum_of_all F (faults v I) + (spread F (only (holds v) I) a + spread F (only (fails v) I) c) ≡ spread F I (λ s. by_value (v s) (λ f. sure (fault f)) (λ z. by_truth z (a s) (c s))) →
-        sum_of_all F (faults v (e ∷ I)) + (spread F (only (holds v) (e ∷ I)) a + spread F (only (fails v) (e ∷ I)) c) ≡ spread F (e ∷ I) (λ s. by_value (v s) (λ f. sure (fault f)) (λ z. by_truth z (a s) (c s)))
+    at_head : (o : Value) → v e.1 ≡ o → sum_of_all F (faults v I) + (spread F (only (holds v) I) a + spread F (only (fails v) I) c) ≡ spread F I (λ s. value_weighted (v s) (λ z. by_truth z (a s) (c s))) →
+        sum_of_all F (faults v (e ∷ I)) + (spread F (only (holds v) (e ∷ I)) a + spread F (only (fails v) (e ∷ I)) c) ≡ spread F (e ∷ I) (λ s. value_weighted (v s) (λ z. by_truth z (a s) (c s)))
     at_head (Err f) p i = rw p (let q = ap (λ u. F u (fault f)) (times_one e.0) in omega arith)
     at_head (Ok n) p i = rw p (by_zero (is_zero n) i)
       where
-        by_zero : (b : Bool) → sum_of_all F (faults v I) + (spread F (only (holds v) I) a + spread F (only (fails v) I) c) ≡ spread F I (λ s. by_value (v s) (λ f. sure (fault f)) (λ z. by_truth z (a s) (c s))) →
+        by_zero : (b : Bool) → sum_of_all F (faults v I) + (spread F (only (holds v) I) a + spread F (only (fails v) I) c) ≡ spread F I (λ s. value_weighted (v s) (λ z. by_truth z (a s) (c s))) →
             sum_of_all F (faults v I) + (spread F (cond (not b) (e ∷ only (holds v) I) (only (holds v) I)) a + spread F (cond b (e ∷ only (fails v) I) (only (fails v) I)) c)
-            ≡ sum_of_all (after_weight e.0 F) (cond b (c e.1) (a e.1)) + spread F I (λ s. by_value (v s) (λ f. sure (fault f)) (λ z. by_truth z (a s) (c s)))
+            ≡ sum_of_all (after_weight e.0 F) (cond b (c e.1) (a e.1)) + spread F I (λ s. value_weighted (v s) (λ z. by_truth z (a s) (c s)))
         by_zero true i = omega arith
         by_zero false i = omega arith
 
@@ -308,7 +308,7 @@ module _ (n : ℕ) (r : Option ℕ) where
       let k = loop_weighted v (weighted_ends n r b) t in
       let A = only (holds v) J in
       let f = block_flow n r b A in
-      let a = spread_guard F v (λ s. taken_on (weighted_ends n r b s) (λ e. by_end e sure k)) (λ s. sure (on s)) J z in
+      let a = spread_guard F v (λ s. end_weighted (weighted_ends n r b s) k) (λ s. sure (on s)) J z in
       let c = flow_joined F k (weighted_ends n r b) A f.next f.ended z (no_all n r b A) (λ G zg. h G A zg) in
       let g = flow_loop v b h t F f.next z in
       let o = sum_append (λ w s. F w (on s)) (only (fails v) J) (loop_flow v (block_flow n r b) t f.next).next in

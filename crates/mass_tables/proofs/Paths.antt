@@ -7,10 +7,10 @@ use Rattle.gcl_core.specs.meaning.Arms.{parts_of}
 use Rattle.gcl_core.specs.meaning.Draw.{last_end, choice_ends}
 use Rattle.gcl_core.specs.meaning.Parts.{partial_sums}
 use Rattle.gcl_core.specs.meaning.Value.{State, Value, value_of, is_zero}
-use Rattle.gcl_core.specs.meaning.Blocks.{End, on, failed, fault, limit, by_value, by_truth, by_class, by_side, by_end}
+use Rattle.gcl_core.specs.meaning.Blocks.{End, on, failed, fault, limit, by_truth, by_class, by_side, by_end}
 use Rattle.gcl_core.specs.weighing.Fractions.{plus}
 use Rattle.gcl_core.specs.weighing.Mass.{sum_of}
-use Rattle.gcl_core.specs.weighing.WeightedEnds.{Weighted, sure, weighted_classes, loop_weighted, statement_weighted, weighted_ends, arm_weighted}
+use Rattle.gcl_core.specs.weighing.WeightedEnds.{Weighted, sure, weighted_classes, loop_weighted, statement_weighted, weighted_ends, arm_weighted, value_weighted}
 use Rattle.frac128.proofs.Divisors.{product_pos}
 use Rattle.gcl_core.proofs.PartialSums.{last_is}
 use Rattle.mass_tables.proofs.Positive.{Positive, p_taken, p_sure, p_draw, p_set, p_seen, p_drawn, alone}
@@ -25,7 +25,7 @@ by_test : (b : Bool) (m o : Weighted End) → Positive m → Positive o → Posi
 by_test true m o h k = k
 by_test false m o h k = h
 
-by_guard : (v : Value) (m o : Weighted End) → Positive m → Positive o → Positive (by_value v (λ f. sure (fault f)) (λ z. by_truth z m o))
+by_guard : (v : Value) (m o : Weighted End) → Positive m → Positive o → Positive (value_weighted v (λ z. by_truth z m o))
 by_guard (Ok z) m o h k = by_test (is_zero z) m o h k
 by_guard (Err f) m o h k = alone
 

@@ -9,7 +9,7 @@ use Rattle.gcl_core.specs.meaning.Value.{State, Value, value_of, is_zero}
 use Rattle.gcl_core.specs.meaning.Draw.{last_end, uniform_ends}
 use Rattle.gcl_core.specs.meaning.Blocks.{End, on, failed, fault, limit, by_value, by_bound, by_truth, by_class}
 use Rattle.gcl_core.specs.weighing.Fractions.{Fraction}
-use Rattle.gcl_core.specs.weighing.WeightedEnds.{Weighted, sure, scaled, taken_on, class_weight, no_class_weight, classes_from, weighted_classes, statement_weighted, uniform_weighted}
+use Rattle.gcl_core.specs.weighing.WeightedEnds.{Weighted, sure, scaled, taken_on, class_weight, no_class_weight, classes_from, weighted_classes, statement_weighted, uniform_weighted, value_weighted}
 use Rattle.gcl_core.proofs.EqualClasses.{last_of_equal}
 use Rattle.frac128.proofs.Divisors.{product_pos}
 use Rattle.mass_tables.specs.Tables.{Table, Flow, going_on, gone, holds, fails, only, faults, all_end, each, both, loop_flow, statement_flow, block_flow, arms_flow, draws_each, draw_weights, bound_draws}
@@ -133,7 +133,7 @@ pub alone : (0 < 1) × Unit {0}
 alone = (omega arith, tt)
 
 module _ (n : ℕ) (r : Option ℕ) where
-  pub p_set : (x : ℕ) (v : Value) (s : State) → Positive (by_value v (λ f. sure (fault f)) (λ z. sure (on (slice_set s x z))))
+  pub p_set : (x : ℕ) (v : Value) (s : State) → Positive (value_weighted v (λ z. sure (on (slice_set s x z))))
   p_set x (Ok z) s = alone
   p_set x (Err f) s = alone
 
@@ -141,7 +141,7 @@ module _ (n : ℕ) (r : Option ℕ) where
   p_truth true s = alone
   p_truth false s = alone
 
-  pub p_seen : (v : Value) (s : State) → Positive (by_value v (λ f. sure (fault f)) (λ z. by_truth z (sure (on s)) (sure failed)))
+  pub p_seen : (v : Value) (s : State) → Positive (value_weighted v (λ z. by_truth z (sure (on s)) (sure failed)))
   p_seen (Ok z) s = p_truth (is_zero z) s
   p_seen (Err f) s = alone
 
@@ -155,7 +155,7 @@ module _ (n : ℕ) (r : Option ℕ) where
       p_taken (weighted_classes (uniform_ends (suc m)) r) _ (p_draw (uniform_ends (suc m)) r (subst (λ k. 0 < k) (sym (last_of_equal (suc m))) (omega arith))) (p_class x s)
   p_uniform x (negsuc m) s = alone
 
-  pub p_drawn : (x : ℕ) (v : Value) (s : State) → Positive (by_value v (λ f. sure (fault f)) (λ z. uniform_weighted r x z s))
+  pub p_drawn : (x : ℕ) (v : Value) (s : State) → Positive (value_weighted v (λ z. uniform_weighted r x z s))
   p_drawn x (Ok z) s = p_uniform x z s
   p_drawn x (Err f) s = alone
 

@@ -7,7 +7,7 @@ use Rattle.gcl_core.specs.meaning.Value.{State, Value}
 use Rattle.gcl_core.specs.meaning.Blocks.{End, on, failed, fault, limit, by_value, by_bound, by_class}
 use Rattle.gcl_core.specs.meaning.Draw.{uniform_ends}
 use Rattle.gcl_core.specs.weighing.Fractions.{Fraction, one, times}
-use Rattle.gcl_core.specs.weighing.WeightedEnds.{Weighted, sure, scaled, taken_on, class_weight, no_class_weight, classes_from, weighted_classes, uniform_weighted}
+use Rattle.gcl_core.specs.weighing.WeightedEnds.{Weighted, sure, scaled, taken_on, class_weight, no_class_weight, classes_from, weighted_classes, uniform_weighted, value_weighted}
 use Rattle.gcl_core.proofs.EqualClasses.{last_of_equal}
 use Rattle.mass_tables.specs.Tables.{Table, going_on, gone}
 use Rattle.mass_tables.specs.Scale.{whole, Whole, Wholes, amount}
@@ -83,7 +83,7 @@ sum_none (suc m) = let i = sum_none m in omega arith
 -- what a uniform draw makes of a table
 module _ (x : ℕ) (v : State → Value) (r : Option ℕ) where
   abbrev pub drawing : State → Weighted End
-  drawing s = by_value (v s) (λ f. sure (fault f)) (λ z. uniform_weighted r x z s)
+  drawing s = value_weighted (v s) (λ z. uniform_weighted r x z s)
 
   one_entry : (N : ℕ) (H : End → ℕ) (w : Fraction) (s : State) →
       sum_of_all (after_weight w (counted N H)) (drawing s) ≡ whole N (times w (part_at v r s)) * drawn x v (λ s. H (on s)) s + whole N (times w (rest_at v r s)) * undrawn v H s
@@ -101,7 +101,7 @@ module _ (x : ℕ) (v : State → Value) (r : Option ℕ) where
           a ∙ ap (λ y. y + whole N (times w (no_class_weight (suc m) r)) * H (limit Attempts)) b
       by_sign (negsuc m) = omega arith
 
-      by_state : (o : Value) → sum_of_all F (by_value o (λ f. sure (fault f)) (λ z. uniform_weighted r x z s))
+      by_state : (o : Value) → sum_of_all F (value_weighted o (λ z. uniform_weighted r x z s))
           ≡ whole N (times w (by_value o (λ f. one) (λ z. by_bound z one (λ m. class_weight m r 1)))) * by_value o (λ f. 0) (λ z. by_bound z 0 (λ m. sum_below m (λ i. H (on (slice_set s x (pos i))))))
           + whole N (times w (by_value o (λ f. one) (λ z. by_bound z one (λ m. no_class_weight m r)))) * by_value o (λ f. H (fault f)) (λ z. by_bound z (H (fault BadBound)) (λ m. H (limit Attempts)))
       by_state (Ok z) = by_sign z
@@ -234,7 +234,7 @@ module _ (x : ℕ) (v : State → Value) (r : Option ℕ) where
       by_sign (pos (suc m)) b = draw_whole N w m s h.positive b
       by_sign (negsuc m) b = alone
 
-      by_state : (o : Value) → Both N (scaled w (by_value o (λ f. sure (fault f)) (λ z. uniform_weighted r x z s))) →
+      by_state : (o : Value) → Both N (scaled w (value_weighted o (λ z. uniform_weighted r x z s))) →
           Whole N (times w (by_value o (λ f. one) (λ z. by_bound z one (λ m. class_weight m r 1)))) × Whole N (times w (by_value o (λ f. one) (λ z. by_bound z one (λ m. no_class_weight m r))))
       by_state (Ok z) b = by_sign z b
       by_state (Err f) b = alone

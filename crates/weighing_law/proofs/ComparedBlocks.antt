@@ -13,8 +13,8 @@ use Rattle.gcl_core.specs.meaning.Syntax.{Statement, Skip, Set, If, While, Choic
 use Rattle.gcl_core.specs.meaning.Value.{State, Value, value_of, is_zero, fits_64}
 use Rattle.gcl_core.specs.meaning.Draw.{last_end, choice_ends, uniform_ends}
 use Rattle.gcl_core.specs.weighing.OneDraw.{Ascends}
-use Rattle.gcl_core.specs.meaning.Blocks.{End, on, failed, fault, limit, by_value, by_truth, by_class, by_side, by_end}
-use Rattle.gcl_core.specs.weighing.WeightedEnds.{Weighted, sure, taken_on, weighted_classes, uniform_weighted, loop_weighted, statement_weighted, weighted_ends, arm_weighted}
+use Rattle.gcl_core.specs.meaning.Blocks.{End, on, failed, fault, limit, by_truth, by_class, by_side, by_end}
+use Rattle.gcl_core.specs.weighing.WeightedEnds.{Weighted, sure, weighted_classes, uniform_weighted, loop_weighted, statement_weighted, weighted_ends, arm_weighted, end_weighted, value_weighted}
 use Rattle.gcl_core.specs.meaning.Fitting.{state_fits}
 use Rattle.gcl_core.proofs.FittingValues.{end_fits, value_fits, set_fits}
 use Rattle.gcl_core.proofs.PartialSums.{last_is, sums_ascend}
@@ -61,7 +61,7 @@ module _ (bad : Limit → Type 0) where
   Spares G = (e : End) → BadEnd e → G e ≡ 0
 
   -- ---- going on by cases
-  pair_value : (N : ℕ) (v : Value) (k k' : ℤ → Weighted End) → ((z : ℤ) → v ≡ Ok z → Pair N (k z) (k' z)) → Pair N (by_value v (λ f. sure (fault f)) k) (by_value v (λ f. sure (fault f)) k')
+  pair_value : (N : ℕ) (v : Value) (k k' : ℤ → Weighted End) → ((z : ℤ) → v ≡ Ok z → Pair N (k z) (k' z)) → Pair N (value_weighted v k) (value_weighted v k')
   pair_value N (Ok z) k k' h = h z refl
   pair_value N (Err f) k k' h = pair_sure N (fault f) refl
 
@@ -86,7 +86,7 @@ module _ (bad : Limit → Type 0) where
 
   -- a list of ends, and what follows its states
   pair_then : (N M : ℕ) (m m' : Weighted End) (k k' : State → Weighted End) → Pair N m m' → ((s : State) → state_fits s ≡ true → Pair M (k s) (k' s)) →
-      Pair (N * M) (taken_on m (λ e. by_end e sure k)) (taken_on m' (λ e. by_end e sure k'))
+      Pair (N * M) (end_weighted m k) (end_weighted m' k')
   pair_then N M m m' k k' l h =
       cmp_then end_fits end_fits N M BadEnd BadEnd m m' (λ e. by_end e sure k) (λ e. by_end e sure k') l (λ e q. pair_end M e k k' h q) (λ e q b. dead_end M e k k' h q b)
 
@@ -110,7 +110,7 @@ module _ (bad : Limit → Type 0) where
   pair_loop S guard m m' h (suc t') zero le lost s p =
       let M = loop_scale S t' in
       pair_value (S * M) (guard s) _ _ (λ z e. pair_truth (S * M) z _ _ _ _
-      (pair_turns (S * M) (taken_on (m s) (λ e. by_end e sure (loop_weighted guard m 0))) _ (lost (omega arith))
+      (pair_turns (S * M) (end_weighted (m s) (loop_weighted guard m 0)) _ (lost (omega arith))
       (pair_then S M (m s) (m' s) (loop_weighted guard m 0) (loop_weighted guard m' t') (h s p) (λ s' q. pair_loop S guard m m' h t' 0 (omega arith) (λ lt. lost (omega arith)) s' q)))
       (pair_sure (S * M) (on s) p))
   pair_loop S guard m m' h (suc t') (suc t) le lost s p =

@@ -10,7 +10,7 @@ use Rattle.gcl_core.specs.meaning.Syntax.{Statement, Skip, Set, If, While, Choic
 use Rattle.gcl_core.specs.meaning.Value.{State, Value, value_of, is_zero}
 use Rattle.gcl_core.specs.meaning.Reading.{Reading, gives, after}
 use Rattle.gcl_core.specs.meaning.Draw.{draw_on, choice_ends, uniform_ends}
-use Rattle.gcl_core.specs.meaning.Blocks.{End, on, failed, fault, limit, by_value, by_truth, by_class, by_side, by_end, uniform_on, loop_on, statement_on, block_on, arm_on}
+use Rattle.gcl_core.specs.meaning.Blocks.{End, on, failed, fault, limit, by_truth, by_class, by_side, by_end, uniform_on, loop_on, statement_on, block_on, arm_on, class_on, end_on, value_on}
 use Rattle.gcl_core.specs.meaning.Runs.{by_round, rounds_on}
 use Rattle.gcl_core.specs.meaning.Outcomes.{zeros, outcome_of}
 use Rattle.gcl_core.proofs.DrawTrees.{draw_tree, draw_runs}
@@ -37,7 +37,7 @@ abbrev Reader : Type 0
 Reader = List Bool → Reading End
 
 -- ---- going on by cases
-value_tree : (v : Value) (go : ℤ → Reader) → ((z : ℤ) → HasTree (go z)) → HasTree (λ w. by_value v (λ f. gives (fault f) w) (λ z. go z w))
+value_tree : (v : Value) (go : ℤ → Reader) → ((z : ℤ) → HasTree (go z)) → HasTree (λ w. value_on v w (λ z. go z w))
 value_tree (Ok z) go h = h z
 value_tree (Err f) go h = answer_tree (fault f)
 
@@ -49,13 +49,13 @@ truth_tree z a c h k = by_test (is_zero z)
     by_test false = h
 
 end_tree : (reader : Reader) (go : State → Reader) → HasTree reader → ((s : State) → HasTree (go s)) →
-    HasTree (λ w. after (reader w) (λ e rest. by_end e (λ e. gives e rest) (λ s. go s rest)))
+    HasTree (λ w. end_on (reader w) go)
 end_tree reader go h next =
     then_tree reader (λ e rest. by_end e (λ e. gives e rest) (λ s. go s rest)) h
     (elim [ on s ↦ next s | failed ↦ answer_tree failed | fault f ↦ answer_tree (fault f) | limit l ↦ answer_tree (limit l) ])
 
 class_tree : (ends : List ℕ) (r : ℕ) (go : ℕ → Reader) → ((i : ℕ) → HasTree (go i)) →
-    HasTree (λ w. after (draw_on ends r w) (λ class rest. by_class class (gives (limit Attempts) rest) (λ i. go i rest)))
+    HasTree (λ w. class_on (draw_on ends r w) go)
 class_tree ends r go next =
     then_tree (draw_on ends r) (λ class rest. by_class class (gives (limit Attempts) rest) (λ i. go i rest))
     (record { tree = draw_tree ends r; runs = draw_runs ends r })

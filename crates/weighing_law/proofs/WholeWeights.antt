@@ -11,9 +11,9 @@ use Rattle.gcl_core.specs.meaning.Parts.{partial_sums}
 use Rattle.gcl_core.specs.meaning.Syntax.{Statement, Skip, Set, If, While, Choice, Choose, Uniform, Observe, Statements, done, ◌▸◌, ArmList, no_arm, arm}
 use Rattle.gcl_core.specs.meaning.Value.{State, Value, value_of, is_zero, fits_64}
 use Rattle.gcl_core.specs.meaning.Draw.{last_from, last_end, choice_ends, uniform_ends}
-use Rattle.gcl_core.specs.meaning.Blocks.{End, on, failed, fault, limit, by_value, by_truth, by_class, by_side, by_end}
+use Rattle.gcl_core.specs.meaning.Blocks.{End, on, failed, fault, limit, by_truth, by_class, by_side, by_end}
 use Rattle.gcl_core.specs.weighing.OneDraw.{Ascends}
-use Rattle.gcl_core.specs.weighing.WeightedEnds.{Weighted, sure, taken_on, weighted_classes, uniform_weighted, loop_weighted, statement_weighted, weighted_ends, arm_weighted}
+use Rattle.gcl_core.specs.weighing.WeightedEnds.{Weighted, sure, taken_on, weighted_classes, uniform_weighted, loop_weighted, statement_weighted, weighted_ends, arm_weighted, value_weighted}
 use Rattle.gcl_core.specs.meaning.Fitting.{state_fits}
 use Rattle.gcl_core.proofs.DrawTrees.{class_sum}
 use Rattle.gcl_core.proofs.TreeWeights.{chi}
@@ -59,7 +59,7 @@ whole_draw ends K c2 up e =
     subst (λ n. Whole n (weighted_classes ends None)) e (whole_more b c2 (weighted_classes ends None) (subst (Counts b (λ o. 1) (weighted_classes ends None)) p (counts_unlimited ends (λ o. 1))))
 
 -- ---- going on by cases
-whole_value : (N : ℕ) (v : Value) (k : ℤ → Weighted End) → ((z : ℤ) → v ≡ Ok z → Whole N (k z)) → Whole N (by_value v (λ f. sure (fault f)) k)
+whole_value : (N : ℕ) (v : Value) (k : ℤ → Weighted End) → ((z : ℤ) → v ≡ Ok z → Whole N (k z)) → Whole N (value_weighted v k)
 whole_value N (Ok z) k h = h z refl
 whole_value N (Err f) k h = whole_sure N (fault f)
 

@@ -48,42 +48,51 @@ classes_from weight i c (d ∷ ends) = (weight (d - c), Some i) ∷ classes_from
 abbrev pub weighted_classes : List ℕ → Option ℕ → Weighted (Option ℕ)
 weighted_classes ends r = classes_from (class_weight (last_end ends) r) 0 0 ends ++ (no_class_weight (last_end ends) r, None) ∷ []
 
+-- ---- going on by cases
+
+-- with a value; a fault ends the block
+abbrev pub value_weighted : Value → (ℤ → Weighted End) → Weighted End
+value_weighted v go = by_value v (λ f. sure (fault f)) go
+
+-- with each class of a draw; where no attempt gave one, the limit of attempts ends the block
+abbrev pub class_weighted : Weighted (Option ℕ) → (ℕ → Weighted End) → Weighted End
+class_weighted m go = taken_on m (λ class. by_class class (sure (limit Attempts)) go)
+
+-- with each state in which a part of the block ends; every other end of it is the block's
+abbrev pub end_weighted : Weighted End → (State → Weighted End) → Weighted End
+end_weighted m go = taken_on m (λ e. by_end e sure go)
+
 -- ---- statements
 
 -- x is set to a number below the bound v, each with the same weight
-abbrev pub uniform_weighted : Option ℕ → ℕ → ℤ → State → Weighted End
+abbrev pub uniform_weighted : Option ℕ → (x : ℕ) (v : ℤ) → State → Weighted End
 uniform_weighted r x v s =
-    by_bound v (sure (fault BadBound))
-    (λ m. taken_on (weighted_classes (uniform_ends m) r) (λ class. by_class class (sure (limit Attempts)) (λ i. sure (on (slice_set s x (pos i))))))
+    by_bound v (sure (fault BadBound)) (λ m. class_weighted (weighted_classes (uniform_ends m) r) (λ i. sure (on (slice_set s x (pos i)))))
 
 -- at most t turns of a loop
 abbrev pub loop_weighted : (State → Value) → (State → Weighted End) → ℕ → State → Weighted End
-loop_weighted guard body zero s = by_value (guard s) (λ f. sure (fault f)) (λ v. by_truth v (sure (limit Turns)) (sure (on s)))
+loop_weighted guard body zero s = value_weighted (guard s) (λ v. by_truth v (sure (limit Turns)) (sure (on s)))
 loop_weighted guard body (suc t) s =
-    by_value (guard s) (λ f. sure (fault f))
-    (λ v. by_truth v (taken_on (body s) (λ e. by_end e sure (loop_weighted guard body t))) (sure (on s)))
+    value_weighted (guard s) (λ v. by_truth v (end_weighted (body s) (loop_weighted guard body t)) (sure (on s)))
 
 -- under a limit of n turns for each entry of a loop, and of r attempts for each draw or none
 module _ (n : ℕ) (r : Option ℕ) where
   abbrev mutual
     pub statement_weighted : Statement → State → Weighted End
     statement_weighted Skip s = sure (on s)
-    statement_weighted (Set x e) s = by_value (value_of e s) (λ f. sure (fault f)) (λ v. sure (on (slice_set s x v)))
-    statement_weighted (Observe e) s = by_value (value_of e s) (λ f. sure (fault f)) (λ v. by_truth v (sure (on s)) (sure failed))
-    statement_weighted (If e a c) s =
-        by_value (value_of e s) (λ f. sure (fault f)) (λ v. by_truth v (weighted_ends a s) (weighted_ends c s))
+    statement_weighted (Set x e) s = value_weighted (value_of e s) (λ v. sure (on (slice_set s x v)))
+    statement_weighted (Observe e) s = value_weighted (value_of e s) (λ v. by_truth v (sure (on s)) (sure failed))
+    statement_weighted (If e a c) s = value_weighted (value_of e s) (λ v. by_truth v (weighted_ends a s) (weighted_ends c s))
     statement_weighted (Choice p a c) s =
-        taken_on (weighted_classes (choice_ends p) r)
-        (λ class. by_class class (sure (limit Attempts)) (λ i. by_side i (weighted_ends a s) (weighted_ends c s)))
+        class_weighted (weighted_classes (choice_ends p) r) (λ i. by_side i (weighted_ends a s) (weighted_ends c s))
     statement_weighted (Choose arms) s =
-        taken_on (weighted_classes (partial_sums (parts_of arms)) r)
-        (λ class. by_class class (sure (limit Attempts)) (λ i. arm_weighted arms i s))
-    statement_weighted (Uniform x e) s = by_value (value_of e s) (λ f. sure (fault f)) (λ v. uniform_weighted r x v s)
+        class_weighted (weighted_classes (partial_sums (parts_of arms)) r) (λ i. arm_weighted arms i s)
+    statement_weighted (Uniform x e) s = value_weighted (value_of e s) (λ v. uniform_weighted r x v s)
     statement_weighted (While e a) s = loop_weighted (value_of e) (weighted_ends a) n s
 
     pub weighted_ends : Statements → State → Weighted End
     weighted_ends done s = sure (on s)
-    weighted_ends (st ▸ b) s = taken_on (statement_weighted st s) (λ e. by_end e sure (weighted_ends b))
+    weighted_ends (st ▸ b) s = end_weighted (statement_weighted st s) (weighted_ends b)
 
     pub arm_weighted : ArmList → ℕ → State → Weighted End
     arm_weighted no_arm i s = sure (on s)
