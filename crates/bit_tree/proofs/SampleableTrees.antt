@@ -1,6 +1,6 @@
 -- The tied tree of a program is sampleable.
 use Rattle.std.proofs.Common.{ℕ, length, Option, Some, None}
-use Rattle.gcl_core.specs.meaning.Syntax.{Statement, Skip, Set, If, While, Choice, Choose, Uniform, Observe, Statements, done, ◌▸◌, ArmList, no_arm, arm, Source}
+use Rattle.gcl_core.specs.meaning.Syntax.{Statement, Skip, Set, If, While, Choice, Choose, Uniform, Observe, Statements, done, ◌▸◌, ArmList, no_arm, arm, SourceProgram}
 use Rattle.gcl_core.specs.meaning.Bounds.{StatementBelow, BlockBelow, ArmsBelow, VariablesBelow, BlockIsWeighed}
 use Rattle.choice_tree.specs.Tree.{ChoiceTree, ChoiceTrees}
 use Rattle.choice_tree.specs.TreeOf.{in_front, member_of, members_of, arm_trees, tree_of}
@@ -37,7 +37,7 @@ module _ (vars : ℕ) where
     arms_below no_arm h = tt
     arms_below (arm p b arms) h = (members_below b h.0, arms_below arms h.1)
 
-pub sampleable_tied : (p : Source) → BlockIsWeighed p.body → VariablesBelow p → TiedIsSampleable (tied_tree p)
+pub sampleable_tied : (p : SourceProgram) → BlockIsWeighed p.body → VariablesBelow p → TiedIsSampleable (tied_tree p)
 sampleable_tied p weighed h = record {
   coalesced = debiased_coalesced (tree_of p.body);
   arms = debiased_arms (tree_of p.body) (members_well_formed p.body weighed);

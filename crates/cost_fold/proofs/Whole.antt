@@ -11,7 +11,7 @@ use Rattle.gcl_core.specs.weighing.LongestReading.{longest}
 use Rattle.gcl_core.specs.weighing.Mass.{is_failed, failed_mass}
 use Rattle.gcl_core.specs.meaning.Runs.{run_on}
 use Rattle.gcl_core.specs.meaning.Outcomes.{zeros}
-use Rattle.gcl_core.specs.meaning.Syntax.{Source}
+use Rattle.gcl_core.specs.meaning.Syntax.{SourceProgram}
 use Rattle.gcl_core.specs.weighing.WeightedEnds.{sure}
 use Rattle.gcl_core.proofs.Accepted.{checked_weights}
 use Rattle.gcl_core.proofs.FittingValues.{zeros_fit}
@@ -55,7 +55,7 @@ within_along p q X T pos e h = le_of_mul-le-mul_left {k = p.1} (joined p.0 p.1 q
     joined : (p0 p1 q0 q1 X T : ℕ) → p0 * q1 ≡ q0 * p1 → p1 * X ≤ p0 * T → p1 * (q1 * X) ≤ p1 * (q0 * T)
     joined p0 p1 q0 q1 X T e h = let x = mul-le-mul_left q1 h in let y = ap (λ z. z * T) e in omega arith
 
-costs_along : (run : List Bool → Answer) (p : Source) (l : Limits) (f g : Fraction) → 0 < f.1 → IsEqual g f → CostsExactly run p l g → CostsExactly run p l f
+costs_along : (run : List Bool → Answer) (p : SourceProgram) (l : Limits) (f g : Fraction) → 0 < f.1 → IsEqual g f → CostsExactly run p l g → CostsExactly run p l f
 costs_along run p l f g pos e c =
     let pg : 0 < g.1 = let z = c.fraction in omega arith in
     record {
@@ -87,7 +87,7 @@ shares_of : (r M : ℕ) (D : Reached) → Priced (Some r) M D → EachShare M (c
 shares_of r M [] k = tt
 shares_of r M (e ∷ D) k = (price_share e.1 r M k.0, shares_of r M D k.1)
 
-module _ (p : Source) (l : Limits) (ok : IsChecked p) where
+module _ (p : SourceProgram) (l : Limits) (ok : IsChecked p) where
   abbrev n : ℕ
   n = l.turns
 

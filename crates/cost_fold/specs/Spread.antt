@@ -3,7 +3,7 @@ use Rattle.std.specs.Prelude.{ℕ, ◌+◌, ◌-◌, ◌*◌, ◌^◌, max, [], 
 use Rattle.gcl_core.specs.declared.answers.Limits.{Limits}
 use Rattle.gcl_core.specs.weighing.LongestReading.{longest}
 use Rattle.gcl_core.specs.weighing.Mass.{failed_mass}
-use Rattle.gcl_core.specs.meaning.Syntax.{Source}
+use Rattle.gcl_core.specs.meaning.Syntax.{SourceProgram}
 use Rattle.cost_law.specs.ExpectedBits.{number_bits}
 use Rattle.mass_tables.specs.Reached.{Reached, draws_of}
 use Rattle.mass_tables.specs.Width.{denominator, round_width}
@@ -15,7 +15,7 @@ most_bits r (e ∷ m) = max (number_bits e.1 * r) (most_bits r m)
 
 -- The common denominator of a round, times 2 to the most bits of a draw that it reaches, times the denominator of a failed round for
 -- each further round, times what all rounds read at most.
-abbrev pub spread : Source → Limits → ℕ
+abbrev pub spread : SourceProgram → Limits → ℕ
 spread p l =
     round_width p l.turns (Some l.attempts) * 2 ^ most_bits l.attempts (draws_of p l.turns (Some l.attempts))
     * denominator (failed_mass p l.turns (Some l.attempts)) ^ (l.rounds - 1)

@@ -11,7 +11,7 @@ ghost use Rattle.cost_law.specs.ExpectedBits.{expected_bits};
 ghost use Rattle.mass_fold.specs.Refused.{RoundRefused};
 ghost use Rattle.cost_fold.specs.Refused.{CostRefused};
 ghost use Rattle.gcl_core.specs.declared.answers.Limits.{Limits};
-ghost use Rattle.gcl_core.specs.meaning.Syntax.{Source};
+ghost use Rattle.gcl_core.specs.meaning.Syntax.{SourceProgram};
 
 use crate::error::CostError;
 use frac128::Frac;
@@ -21,7 +21,7 @@ use std::alloc::Global;
 
 // Why one round is refused, as a cause of all rounds.
 fn refusal(error: MassError) -> CostError
-    ensures { (p : Source) (l : Limits) → IsChecked p → InRange l → RoundRefused error p l.turns (Some l.attempts) → CostRefused result p l }
+    ensures { (p : SourceProgram) (l : Limits) → IsChecked p → InRange l → RoundRefused error p l.turns (Some l.attempts) → CostRefused result p l }
 {
     match error {
         MassError::TooWide => CostError::TooWide,

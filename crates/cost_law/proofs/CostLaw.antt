@@ -12,7 +12,7 @@ use Rattle.gcl_core.specs.weighing.OneDraw.{Ascends}
 use Rattle.gcl_core.specs.meaning.Runs.{rounds_on, answer_of, run_on}
 use Rattle.gcl_core.specs.meaning.Outcomes.{zeros}
 use Rattle.gcl_core.specs.weighing.StringWeight.{reading_to, answer_in}
-use Rattle.gcl_core.specs.meaning.Syntax.{Source}
+use Rattle.gcl_core.specs.meaning.Syntax.{SourceProgram}
 use Rattle.gcl_core.specs.weighing.WeightedEnds.{weighted_ends}
 use Rattle.gcl_core.proofs.Accepted.{checked_weights}
 use Rattle.gcl_core.proofs.AttemptTrees.{attempt_runs, attempt_within}
@@ -55,7 +55,7 @@ draws_cost ends r up =
     }
 
 -- ---- a run
-module _ (p : Source) (l : Limits) (ok : IsChecked p) where
+module _ (p : SourceProgram) (l : Limits) (ok : IsChecked p) where
   body_costs : Costs (round_bits p l ok) (block_on l.turns l.attempts p.body (zeros (length p.names))) (block_bits l.turns l.attempts p.body (zeros (length p.names)))
   body_costs = block_costs l.turns l.attempts p.body (checked_weights p ok) ok.numbers.body (zeros (length p.names)) (zeros_fit (length p.names))
 
@@ -77,7 +77,7 @@ module _ (p : Source) (l : Limits) (ok : IsChecked p) where
       let some = sum_pos (2 ^ round_bits p l ok) is_failed (chi is_failed) (weighted_ends l.turns (Some l.attempts) p.body (zeros (length p.names))) _ (pow_pos (round_bits p l ok)) (m.counts (chi is_failed)) in
       product_pos _ _ c.some (power_sum_pos f some l.rounds)
 
-pub costs_exactly : (p : Source) (l : Limits) (answers : List Bool → Answer) → IsChecked p → ((w : List Bool) → answers w ≡ run_on p l w) → CostsExactly answers p l (expected_bits p l)
+pub costs_exactly : (p : SourceProgram) (l : Limits) (answers : List Bool → Answer) → IsChecked p → ((w : List Bool) → answers w ≡ run_on p l w) → CostsExactly answers p l (expected_bits p l)
 costs_exactly p l answers ok same =
     let t = run_tree p l ok in
     let any : Outcome → Bool = λ x. true in

@@ -5,7 +5,7 @@ use Rattle.gcl_core.specs.declared.answers.Answer.{Answer}
 use Rattle.gcl_core.specs.declared.answers.Limits.{Limits}
 use Rattle.gcl_core.specs.weighing.Fractions.{Fraction, IsShare, IsWithinShare}
 use Rattle.gcl_core.specs.weighing.LongestReading.{longest}
-use Rattle.gcl_core.specs.meaning.Syntax.{Source}
+use Rattle.gcl_core.specs.meaning.Syntax.{SourceProgram}
 use Rattle.weighing_law.specs.Weighing.{Suffices}
 use Rattle.cost_law.specs.SummedLengths.{attempt_lengths, draw_lengths, run_lengths}
 use Rattle.cost_law.specs.ExpectedBits.{number_bits, attempt_bits, draw_bits}
@@ -19,7 +19,7 @@ pub record DrawCosts (ends : List ℕ) (r : ℕ) : Type 0 where
 
 -- What answers on bits costs so many bits: never more, and exactly so at every length that suffices. Such a length is the limit of
 -- rounds times the longest reading of the body.
-pub record CostsExactly (run : List Bool → Answer) (p : Source) (l : Limits) (bits : Fraction) : Type 0 where
+pub record CostsExactly (run : List Bool → Answer) (p : SourceProgram) (l : Limits) (bits : Fraction) : Type 0 where
   pub within : (L : ℕ) → IsWithinShare (run_lengths run L) (2 ^ L) bits
   pub exact : (L : ℕ) → Suffices run L → IsShare (run_lengths run L) (2 ^ L) bits
   pub enough : Suffices run (l.rounds * longest l.turns l.attempts p.body)

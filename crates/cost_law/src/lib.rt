@@ -7,7 +7,7 @@ ghost use Rattle.gcl_core.specs.declared.answers.Limits.{Limits};
 ghost use Rattle.gcl_core.specs.meaning.Keeping.{IsChecked};
 ghost use Rattle.gcl_core.specs.weighing.OneDraw.{Ascends};
 ghost use Rattle.gcl_core.specs.meaning.Runs.{run_on};
-ghost use Rattle.gcl_core.specs.meaning.Syntax.{Source};
+ghost use Rattle.gcl_core.specs.meaning.Syntax.{SourceProgram};
 ghost use Rattle.cost_law.specs.Costing.{DrawCosts, CostsExactly};
 ghost use Rattle.cost_law.specs.ExpectedBits.{expected_bits};
 
@@ -22,5 +22,5 @@ pub fn draws_cost_exactly()
 /// expect, and exactly those at every length at which no string needs more bits. Such a length is the limit of rounds times the longest
 /// reading of the body.
 pub fn runs_cost_exactly()
-    ensures { (p : Source) (l : Limits) (run : List Bool → Answer) → IsChecked p → ((w : List Bool) → run w ≡ run_on p l w) → CostsExactly run p l (expected_bits p l) }
+    ensures { (p : SourceProgram) (l : Limits) (run : List Bool → Answer) → IsChecked p → ((w : List Bool) → run w ≡ run_on p l w) → CostsExactly run p l (expected_bits p l) }
 {}

@@ -6,7 +6,7 @@ use Rattle.gcl_core.specs.text.Acceptance.{Refusal, refusal_of}
 use Rattle.gcl_core.specs.text.Derivation.{Derives}
 use Rattle.gcl_core.specs.text.Lexing.{IsLexed, text_too_long, bad_byte, number_too_wide, name_too_long}
 use Rattle.gcl_core.specs.text.Nesting.{Nests}
-use Rattle.gcl_core.specs.meaning.Syntax.{Source}
+use Rattle.gcl_core.specs.meaning.Syntax.{SourceProgram}
 use Rattle.gcl_core.specs.text.Texts.{Spells}
 use Rattle.gcl_core.specs.text.Words.{kinds_of}
 use Rattle.gcl_lex.specs.declared.error.LexError.{LexError}
@@ -19,7 +19,7 @@ use Rattle.gcl_parse.specs.declared.error.ParseError.TheVariants as parsed
 pub by_error : {A E : Type 0} (r : Result A E) (e : E) (P : E → Type 0) → IsErrAnd r P → IsErrOf r e → P e
 by_error r e P known is = subst (λ s. IsErrAnd s P) is known
 
-module _ (text : List ℕ) (p : Source) (spells : Spells text p) where
+module _ (text : List ℕ) (p : SourceProgram) (spells : Spells text p) where
   -- its tokens are not refused but where memory runs out
   pub is_lexed : (e : LexError) → Refuses text e → e ≢ lexed.OutOfMemory → ⊥
   is_lexed lexed.TextTooLong h ne = h.no_tokens text_too_long refl spells.has.tokens spells.has.lexed
@@ -36,12 +36,12 @@ module _ (text : List ℕ) (p : Source) (spells : Spells text p) where
     nests = subst (λ ts. Nests (kinds_of ts)) (only spells.has.tokens spells.has.lexed) spells.has.nested
 
     -- nor is its program
-    pub is_parsed : (e : ParseError) → ((q : Source) (at : List ℕ) → Derives text tokens q at → Nests (kinds_of tokens) → e ≡ parsed.OutOfMemory)
+    pub is_parsed : (e : ParseError) → ((q : SourceProgram) (at : List ℕ) → Derives text tokens q at → Nests (kinds_of tokens) → e ≡ parsed.OutOfMemory)
         → e ≢ parsed.OutOfMemory → ⊥
     is_parsed e derived ne = ne (derived spells.written spells.places derives nests)
 
     -- nor has that a flaw
-    pub is_accepted : (q : Source) (at : List ℕ) → ((o : Source) (others : List ℕ) → Derives text tokens o others → (o ≡ q) × (others ≡ at))
+    pub is_accepted : (q : SourceProgram) (at : List ℕ) → ((o : SourceProgram) (others : List ℕ) → Derives text tokens o others → (o ≡ q) × (others ≡ at))
         → (r : Refusal) → refusal_of q ≡ Some r → ⊥
     is_accepted q at one r flawed =
         let same = (one spells.written spells.places derives).0 in

@@ -1,7 +1,7 @@
 // From a text to its program.
 
 ghost use Rattle.std.specs.Prelude.{IfOk, IsErrOf};
-ghost use Rattle.gcl_core.specs.meaning.Syntax.{Source};
+ghost use Rattle.gcl_core.specs.meaning.Syntax.{SourceProgram};
 ghost use Rattle.gcl_core.specs.text.Texts.{Spells};
 ghost use Rattle.gcl_core.specs.meaning.Views.{source_of};
 
@@ -15,7 +15,7 @@ use std::alloc::Global;
 /// The program that a text spells. `NoProgram` comes only where it spells none.
 pub fn program(alloc: Global, text: &[u8]) -> Result<Checked, ReadError>
     ensures spelled { IfOk result (λ p. Spells text.now (source_of p)) }
-    ensures none { IsErrOf result ReadError.NoProgram → (p : Source) → Spells text.now p → ⊥ }
+    ensures none { IsErrOf result ReadError.NoProgram → (p : SourceProgram) → Spells text.now p → ⊥ }
 {
     let tokens = lex(alloc, text)?;
     let parsed = parse(alloc, text, tokens.as_slice())?;

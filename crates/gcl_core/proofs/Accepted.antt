@@ -5,7 +5,7 @@ use Rattle.std.proofs.Math.Path.{fun_ext}
 use Rattle.gcl_core.specs.declared.rules.TheConstants.{GREATEST_DENOMINATOR}
 use Rattle.gcl_core.specs.declared.syntax.Weight.{Weight}
 use Rattle.gcl_core.specs.declared.kinds.Kind.TheVariants.{Number}
-use Rattle.gcl_core.specs.text.Acceptance.{Flaw, zero_denominator, weight_above_one, too_fine, Refusal, too_many_names, expression_flaw, weight_flaw, parts_flaw, statement_flaw, first_refusal, flaws_of, IsAccepted}
+use Rattle.gcl_core.specs.text.Acceptance.{Flaw, zero_denominator, weight_above_one, too_fine, ProgramRefusal, too_many_names, expression_flaw, weight_flaw, parts_flaw, statement_flaw, first_refusal, flaws_of, IsAccepted}
 use Rattle.gcl_core.specs.meaning.Bounds.{BlockBelow, StatementBelow, ArmsBelow, VariablesBelow, BlockFits, StatementFits, ArmsFit, NumbersFit, IsWeight, BlockWeights, StatementWeights, ArmsWeights, BlockIsWeighed, BlockCounted}
 use Rattle.gcl_core.specs.meaning.Arms.{parts_of}
 use Rattle.gcl_core.specs.meaning.Parts.{HaveArmCount, AreParts}
@@ -13,7 +13,7 @@ use Rattle.std.specs.List.{sum}
 use Rattle.gcl_core.specs.meaning.Keeping.{IsChecked}
 use Rattle.gcl_core.specs.text.ReadingOrder.{statement_listed, listed, arms_listed}
 use Rattle.gcl_core.specs.meaning.Lowest.{lowest_terms, common_divisor, lowest_parts, divided, lowest_arms, statement_in_lowest, block_in_lowest, arms_in_lowest, in_lowest}
-use Rattle.gcl_core.specs.meaning.Syntax.{Statement, Skip, Set, If, While, Choice, Choose, Uniform, Observe, Statements, done, ◌▸◌, ArmList, no_arm, arm, Source}
+use Rattle.gcl_core.specs.meaning.Syntax.{Statement, Skip, Set, If, While, Choice, Choose, Uniform, Observe, Statements, done, ◌▸◌, ArmList, no_arm, arm, SourceProgram}
 use Rattle.gcl_core.specs.text.Targets.{statement_sets, sets, arms_set}
 use Rattle.gcl_core.proofs.LowestTerms.{lowest_positive, lowest_at_most_one, lowest_again}
 use Rattle.gcl_core.proofs.LowestParts.{from_all, lowest_sum_positive, one_divides_left, divisor_left, parts_again, lowest_count}
@@ -294,11 +294,11 @@ module _
     arms_of_lowest (arm n b arms) p = (block_of_lowest b p.0, arms_of_lowest arms p.1)
 
 -- ---- a program
-by_names : (b : Bool) (r : Option Refusal) → (if b then Some too_many_names else r) ≡ None → (b ≡ false) × (r ≡ None)
+by_names : (b : Bool) (r : Option ProgramRefusal) → (if b then Some too_many_names else r) ≡ None → (b ≡ false) × (r ≡ None)
 by_names true r e = absurd (cc)
 by_names false r e = (refl, e)
 
-module _ (p : Source) (accepted : IsAccepted p) where
+module _ (p : SourceProgram) (accepted : IsAccepted p) where
   few : nat_lt 256 (length p.names) ≡ false
   few = (by_names (nat_lt 256 (length p.names)) (first_refusal 0 (flaws_of p)) accepted).0
 
@@ -330,7 +330,7 @@ module _ (p : Source) (accepted : IsAccepted p) where
   }
 
 -- the weights and the parts of a checked program
-pub checked_weights : (p : Source) → IsChecked p → BlockIsWeighed p.body
+pub checked_weights : (p : SourceProgram) → IsChecked p → BlockIsWeighed p.body
 checked_weights p c =
     subst (λ q. BlockIsWeighed q.body) c.lowest
     (block_of_lowest (λ w. IsWeight (lowest_terms w)) IsWeight (λ ps. AreParts (lowest_parts ps)) AreParts (λ w is. is) (λ ps are. are) p.body

@@ -11,7 +11,7 @@ use Rattle.gcl_core.specs.declared.answers.Outcome.TheVariants as outcome
 use Rattle.gcl_core.specs.meaning.Arms.{parts_of}
 use Rattle.gcl_core.specs.meaning.Parts.{partial_sums}
 use Rattle.gcl_core.specs.meaning.Bounds.{StatementFits, BlockFits, ArmsFit}
-use Rattle.gcl_core.specs.meaning.Syntax.{Statement, Skip, Set, If, While, Choice, Choose, Uniform, Observe, Statements, done, ◌▸◌, ArmList, no_arm, arm, Source}
+use Rattle.gcl_core.specs.meaning.Syntax.{Statement, Skip, Set, If, While, Choice, Choose, Uniform, Observe, Statements, done, ◌▸◌, ArmList, no_arm, arm, SourceProgram}
 use Rattle.gcl_core.specs.meaning.Value.{State, Value, value_of, is_zero, fits_64}
 use Rattle.gcl_core.specs.meaning.Reading.{Reading, gives, more_bits, after}
 use Rattle.gcl_core.specs.meaning.Draw.{class_of, first_of, decides, bits_for, last_end, attempt_from, attempt_on, draw_on, choice_ends, uniform_ends}
@@ -127,7 +127,7 @@ module _ (n r : ℕ) where
 pub block_state : (n r : ℕ) (b : Statements) (s end : State) (w rest : List Bool) → BlockFits b → state_fits s ≡ true → block_on n r b s w ≡ gives (on end) rest → state_fits end ≡ true
 block_state n r b s end w rest fit h is = subst Fits is (block_fits n r b fit s w h)
 
-pub round_state : (p : Source) (n r : ℕ) (end : State) (w rest : List Bool) → IsChecked p → block_on n r p.body (zeros (length p.names)) w ≡ gives (on end) rest → state_fits end ≡ true
+pub round_state : (p : SourceProgram) (n r : ℕ) (end : State) (w rest : List Bool) → IsChecked p → block_on n r p.body (zeros (length p.names)) w ≡ gives (on end) rest → state_fits end ≡ true
 round_state p n r end w rest ok is = block_state n r p.body (zeros (length p.names)) end w rest ok.numbers.body (zeros_fit (length p.names)) is
 
 -- ---- runs
@@ -141,7 +141,7 @@ outcome_fits : (v : Value) → ValueFits v → OutcomeFits (outcome_of v)
 outcome_fits (Ok v) h = h
 outcome_fits (Err f) h = tt
 
-rounds_fit : (p : Source) → IsChecked p → (n r R : ℕ) (w : List Bool) → OnAnswer OutcomeFits (rounds_on p n r R w)
+rounds_fit : (p : SourceProgram) → IsChecked p → (n r R : ℕ) (w : List Bool) → OnAnswer OutcomeFits (rounds_on p n r R w)
 rounds_fit p ok n r zero w = tt
 rounds_fit p ok n r (suc R) w =
     after_on (λ e. end_fits e ≡ true) OutcomeFits (block_on n r p.body (zeros (length p.names)) w) _ (block_fits n r p.body ok.numbers.body (zeros (length p.names)) w (zeros_fit (length p.names)))
@@ -156,5 +156,5 @@ answer_fits : (w : List Bool) (x : Reading Outcome) (v : ℤ) (read : ℕ) → O
 answer_fits w (gives x rest) v read h is = let e : x ≡ outcome.Value v = cc in subst OutcomeFits e h
 answer_fits w more_bits v read h is = cc
 
-pub run_value : (p : Source) (l : Limits) (w : List Bool) (v : ℤ) (read : ℕ) → IsChecked p → run_on p l w ≡ Ended (outcome.Value v) read → FitsSigned w64 v
+pub run_value : (p : SourceProgram) (l : Limits) (w : List Bool) (v : ℤ) (read : ℕ) → IsChecked p → run_on p l w ≡ Ended (outcome.Value v) read → FitsSigned w64 v
 run_value p l w v read ok is = (signed_64 v).0 (answer_fits w (rounds_on p l.turns l.attempts l.rounds w) v read (rounds_fit p ok l.turns l.attempts l.rounds w) is)

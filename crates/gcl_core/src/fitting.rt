@@ -11,7 +11,7 @@ ghost use Rattle.gcl_core.specs.meaning.Keeping.{IsChecked};
 ghost use Rattle.gcl_core.specs.meaning.Reading.{gives};
 ghost use Rattle.gcl_core.specs.meaning.Runs.{run_on};
 ghost use Rattle.gcl_core.specs.meaning.Outcomes.{zeros};
-ghost use Rattle.gcl_core.specs.meaning.Syntax.{Expression, Statements, Source};
+ghost use Rattle.gcl_core.specs.meaning.Syntax.{Expression, Statements, SourceProgram};
 ghost use Rattle.gcl_core.specs.meaning.Value.{State, fits_64, value_of};
 
 use crate::answers::Limits;
@@ -25,8 +25,8 @@ pub fn numbers_have_64_bits()
     ensures values { (e : Expression) (s : State) (v : ℤ) → ExpressionFits e → IsTrue (state_fits s) → value_of e s ≡ Ok v → IsTrue (fits_64 v) }
     ensures states { (n : ℕ) (r : ℕ) (b : Statements) (s : State) (end : State) (w : List Bool) (rest : List Bool) →
         BlockFits b → IsTrue (state_fits s) → block_on n r b s w ≡ gives (on end) rest → IsTrue (state_fits end) }
-    ensures rounds { (p : Source) (n : ℕ) (r : ℕ) (end : State) (w : List Bool) (rest : List Bool) →
+    ensures rounds { (p : SourceProgram) (n : ℕ) (r : ℕ) (end : State) (w : List Bool) (rest : List Bool) →
         IsChecked p → block_on n r p.body (zeros (length p.names)) w ≡ gives (on end) rest → IsTrue (state_fits end) }
-    ensures runs { (p : Source) (l : Limits) (w : List Bool) (v : ℤ) (read : ℕ) →
+    ensures runs { (p : SourceProgram) (l : Limits) (w : List Bool) (v : ℤ) (read : ℕ) →
         IsChecked p → run_on p l w ≡ answer.Ended (outcome.Value v) read → FitsSigned w64 v }
 {}

@@ -5,7 +5,7 @@ use Rattle.std.proofs.lemmas.List.{length-map}
 use Rattle.gcl_core.specs.declared.kinds.Kind.TheVariants.{Number}
 use Rattle.gcl_core.specs.declared.tokens.Token.{Token}
 use Rattle.gcl_core.specs.declared.words.Word.{Word}
-use Rattle.gcl_core.specs.meaning.Syntax.{Source, Statement, Statements, ArmList}
+use Rattle.gcl_core.specs.meaning.Syntax.{SourceProgram, Statement, Statements, ArmList}
 use Rattle.gcl_core.specs.text.ReadingOrder.{listed, count_one, count_all, count_arms}
 use Rattle.gcl_core.specs.text.Targets.{sets}
 use Rattle.gcl_core.specs.text.Acceptance.{Flaw, too_many_names, flawed, expression_flaw, statement_flaw, first_refusal, flaws_of, refusal_of}
@@ -43,14 +43,14 @@ mutual
   else_count (an_else b) = block_count b
 
 -- a place for each statement, and one for `return`
-pub places_count : {text : List ℕ} {tokens : List Token} {p : Source} {places : List ℕ} → Derives text tokens p places → length places ≡ count_all p.body + 1
+pub places_count : {text : List ℕ} {tokens : List Token} {p : SourceProgram} {places : List ℕ} → Derives text tokens p places → length places ≡ count_all p.body + 1
 places_count d =
     let all = all_count d.program.statements in
     ap length d.stand ∙ length-map _ _ ∙ length-append (places_in d.program.statements) _ ∙ omega arith
 
 -- ---- the number of a statement that is refused
 
-flaws_count : (p : Source) → length (flaws_of p) ≡ count_all p.body + 1
+flaws_count : (p : SourceProgram) → length (flaws_of p) ≡ count_all p.body + 1
 flaws_count p =
     let known = sets p.body in
     let whole = length-append (map (statement_flaw known) (listed p.body)) (expression_flaw known Number p.result ∷ []) in
@@ -63,12 +63,12 @@ first_within n [] flaw m e = cc
 first_within n (Some f ∷ flaws) flaw m e = let same : n ≡ m = cc in omega arith
 first_within n (None ∷ flaws) flaw m e = let within = first_within (n + 1) flaws flaw m e in omega arith
 
-among_flaws : (p : Source) (many : Bool) (flaw : Flaw) (m : ℕ) → (if many then Some too_many_names else first_refusal 0 (flaws_of p)) ≡ Some (flawed flaw m) → m < length (flaws_of p)
+among_flaws : (p : SourceProgram) (many : Bool) (flaw : Flaw) (m : ℕ) → (if many then Some too_many_names else first_refusal 0 (flaws_of p)) ≡ Some (flawed flaw m) → m < length (flaws_of p)
 among_flaws p true flaw m e = cc
 among_flaws p false flaw m e = let within = first_within 0 (flaws_of p) flaw m e in omega arith
 
 -- the number is that of a statement or of the result
-pub flaw_within : {text : List ℕ} {tokens : List Token} {p : Source} {places : List ℕ} → Derives text tokens p places → (flaw : Flaw) (m : ℕ) → refusal_of p ≡ Some (flawed flaw m) → m < length places
+pub flaw_within : {text : List ℕ} {tokens : List Token} {p : SourceProgram} {places : List ℕ} → Derives text tokens p places → (flaw : Flaw) (m : ℕ) → refusal_of p ≡ Some (flawed flaw m) → m < length places
 flaw_within {p = p} d flaw m e =
     let within = among_flaws p (nat_lt 256 (length p.names)) flaw m e in
     let all = flaws_count p in
@@ -80,6 +80,6 @@ place_there [] n lt = absurd (omega arith)
 place_there (x ∷ xs) zero lt = (x, refl)
 place_there (x ∷ xs) (suc n) lt = place_there xs n (omega arith)
 
-pub flaw_placed : {text : List ℕ} {tokens : List Token} {p : Source} {places : List ℕ} → Derives text tokens p places → (flaw : Flaw) (m : ℕ) → refusal_of p ≡ Some (flawed flaw m)
+pub flaw_placed : {text : List ℕ} {tokens : List Token} {p : SourceProgram} {places : List ℕ} → Derives text tokens p places → (flaw : Flaw) (m : ℕ) → refusal_of p ≡ Some (flawed flaw m)
     → (at : ℕ) × (slice_get places m ≡ Some at)
 flaw_placed {places = places} d flaw m e = place_there places m (flaw_within d flaw m e)

@@ -1,7 +1,7 @@
 -- A text is read in exactly one way, as it is written.
 use Rattle.std.proofs.Common.{◌≡◌, ℕ, refl, ap, subst, List, Option, Some, None, ◌⊎◌, inl, inr}
 use Rattle.gcl_core.specs.declared.tokens.Token.{Token}
-use Rattle.gcl_core.specs.meaning.Syntax.{Source}
+use Rattle.gcl_core.specs.meaning.Syntax.{SourceProgram}
 use Rattle.gcl_core.specs.text.Words.{kinds_of}
 use Rattle.gcl_core.specs.text.Lexing.{IsLexed, IsRefused, LexRefusal}
 use Rattle.gcl_core.specs.text.Nesting.{nesting_break, Nests, IsTooDeep}
@@ -15,7 +15,7 @@ use Rattle.gcl_parse.proofs.Programs.{one_derivation}
 use Rattle.gcl_parse.proofs.Reasons.{Reason, of_bytes, of_nesting, of_grammar, Holds, Refused, said, why, one_answer, nests_not_deep, deep_once, unexpected_once}
 
 abbrev pub Written : List ℕ → Type 0
-Written text = ((p : Source) × (places : List ℕ) × IsWrittenIn text p places) ⊎ Refused text
+Written text = ((p : SourceProgram) × (places : List ℕ) × IsWrittenIn text p places) ⊎ Refused text
 
 -- tokens keep the rules of nesting or break one, and then are a program or are refused by the grammar
 tokens_read : (text : List ℕ) (tokens : List Token) → IsLexed text tokens → Written text
@@ -41,7 +41,7 @@ module _
   some_written : (text : List ℕ) → Written text
   some_written text = elim (some_answer text) [ inl l ↦ tokens_read text l.0 l.1 | inr r ↦ inr (said (of_bytes r.0) r.1) ]
 
-  one_written : {text : List ℕ} {p q : Source} {places others : List ℕ} → IsWrittenIn text p places → IsWrittenIn text q others → (p ≡ q) × (places ≡ others)
+  one_written : {text : List ℕ} {p q : SourceProgram} {places others : List ℕ} → IsWrittenIn text p places → IsWrittenIn text q others → (p ≡ q) × (places ≡ others)
   one_written {text} {q = q} {others = others} w x =
       let same = one_list text x.tokens w.tokens x.lexed w.lexed in
       one_derivation text w.tokens (subst (λ ts. Derives text ts q others) same x.derived) w.derived
@@ -61,7 +61,7 @@ module _
   one_reason text (of_grammar at) (of_nesting place) h k = absurd (nests_not_deep (of_tokens (λ ts. Nests (kinds_of ts)) k.lexed h.lexed h.nested) k.deep)
   one_reason text (of_grammar at) (of_grammar place) h k = ap of_grammar (unexpected_once h.refused (of_tokens (λ ts. IsUnexpected text ts place) h.lexed k.lexed k.refused))
 
-  not_both : {text : List ℕ} {p : Source} {places : List ℕ} → IsWrittenIn text p places → (r : Reason) → Holds text r → ⊥
+  not_both : {text : List ℕ} {p : SourceProgram} {places : List ℕ} → IsWrittenIn text p places → (r : Reason) → Holds text r → ⊥
   not_both {text} w (of_bytes r) h = lexed_not_refused text w.tokens r w.lexed h
   not_both {text} w (of_nesting at) h = nests_not_deep w.nested (of_tokens (λ ts. IsTooDeep text ts at) w.lexed h.lexed h.deep)
   not_both {text} w (of_grammar at) h =

@@ -6,7 +6,7 @@ use Rattle.gcl_core.specs.declared.tokens.Token.{Token}
 use Rattle.gcl_core.specs.declared.tokens.TokenKind.{TokenKind}
 use Rattle.gcl_core.specs.declared.tokens.TokenKind.TheVariants as token
 use Rattle.gcl_core.specs.declared.words.Word.{Word}
-use Rattle.gcl_core.specs.meaning.Syntax.{Expression, Statements, Source}
+use Rattle.gcl_core.specs.meaning.Syntax.{Expression, Statements, SourceProgram}
 use Rattle.gcl_core.specs.text.Names.{Name, number_of}
 use Rattle.gcl_core.specs.meaning.Bounds.{VariablesBelow, BlockCounted}
 use Rattle.gcl_core.specs.text.ReadingOrder.{count_all}
@@ -77,10 +77,10 @@ derives text tokens h n r p =
 
 -- ---- at most one
 
-source_is : (p q : Source) → q.names ≡ p.names → q.body ≡ p.body → q.result ≡ p.result → q ≡ p
+source_is : (p q : SourceProgram) → q.names ≡ p.names → q.body ≡ p.body → q.result ≡ p.result → q ≡ p
 source_is p q n b e = ap (λ x. record { names = x; body = q.body; result = q.result }) n ∙ ap (λ x. record { names = p.names; body = x; result = q.result }) b ∙ ap (λ x. record { names = p.names; body = p.body; result = x }) e
 
-pub one_derivation : (text : List ℕ) (tokens : List Token) {p q : Source} {at places : List ℕ} → Derives text tokens p places → Derives text tokens q at → (q ≡ p) × (at ≡ places)
+pub one_derivation : (text : List ℕ) (tokens : List Token) {p q : SourceProgram} {at places : List ℕ} → Derives text tokens p places → Derives text tokens q at → (q ≡ p) × (at ≡ places)
 one_derivation text tokens {p} {q} d c =
     let same = one_program c.program d.program in
     (source_is p q (c.names ∙ sym d.names) same.0 same.1, c.stand ∙ derived_places text tokens c.program ∙ sym (derived_places text tokens d.program) ∙ sym d.stand)
@@ -100,18 +100,18 @@ words_below text (t ∷ ts) names final h = (
   words_below text ts (with_token names t.kind (slice_of text t)) final h,
 )
 
-pub variables_below : {text : List ℕ} {tokens : List Token} {p : Source} {places : List ℕ} → Derives text tokens p places → VariablesBelow p
+pub variables_below : {text : List ℕ} {tokens : List Token} {p : SourceProgram} {places : List ℕ} → Derives text tokens p places → VariablesBelow p
 variables_below {text} {tokens} d =
     let b = program_below (length (names_of text tokens)) d.program (words_below text tokens [] (names_of text tokens) refl) in
     record { body = rw d.names b.0; result = rw d.names b.1 }
 
-pub is_written : {text : List ℕ} {tokens : List Token} {p : Source} {places : List ℕ} → Derives text tokens p places → HasNoNegative p
+pub is_written : {text : List ℕ} {tokens : List Token} {p : SourceProgram} {places : List ℕ} → Derives text tokens p places → HasNoNegative p
 is_written d = let w = program_written d.program in record { body = w.0; result = w.1 }
 
-pub arms_counted : {text : List ℕ} {tokens : List Token} {p : Source} {places : List ℕ} → Derives text tokens p places → BlockCounted p.body
+pub arms_counted : {text : List ℕ} {tokens : List Token} {p : SourceProgram} {places : List ℕ} → Derives text tokens p places → BlockCounted p.body
 arms_counted d = program_bounded d.program
 
-pub few_statements : {text : List ℕ} {tokens : List Token} {p : Source} {places : List ℕ} → Derives text tokens p places → count_all p.body < length tokens
+pub few_statements : {text : List ℕ} {tokens : List Token} {p : SourceProgram} {places : List ℕ} → Derives text tokens p places → count_all p.body < length tokens
 few_statements {text} {tokens} d = let n = program_counted d.program in let m = length-map tokens (word_of (names_of text tokens) text) in omega (arith, n, m)
 
 -- ---- refusals

@@ -223,6 +223,6 @@ by_kinds ts p = accepted_program ts (kinds_back ts a_program (kinds_accepted p))
 pub program_or_refused : (ks : List TokenKind) → IsProgram ks ⊎ ((index : ℕ) × RefusedAt ks index)
 program_or_refused ks = go (run (plains ks) a_program) refl
   where
-    go : (o : m.Outcome) → run (plains ks) a_program ≡ o → IsProgram ks ⊎ ((index : ℕ) × RefusedAt ks index)
+    go : (o : m.Verdict) → run (plains ks) a_program ≡ o → IsProgram ks ⊎ ((index : ℕ) × RefusedAt ks index)
     go accepts e = inl (subst IsProgram (kinds-plains ks) (accepted_kinds (plains ks) e))
     go (stops r) e = inr (length (plains ks) - length r, subst (λ x. RefusedAt x (length (plains ks) - length r)) (kinds-plains ks) (refused (plains ks) r e))

@@ -23,7 +23,7 @@ use Rattle.gcl_core.specs.meaning.Keeping.{IsChecked}
 use Rattle.gcl_core.specs.text.Lexing.{may_stand, stands}
 use Rattle.gcl_core.specs.text.Names.{Name, number_of}
 use Rattle.gcl_core.specs.text.Pieces.{Piece}
-use Rattle.gcl_core.specs.meaning.Syntax.{Expression, Statement, Statements, ArmList, Source}
+use Rattle.gcl_core.specs.meaning.Syntax.{Expression, Statement, Statements, ArmList, SourceProgram}
 use Rattle.gcl_core.specs.text.Texts.{Spells}
 use Rattle.gcl_core.specs.text.Tokens.{named_kind, key_of, kind_of, tokens_from}
 use Rattle.gcl_core.specs.text.Words.{as_word, slice_of, names_of, word_of}
@@ -171,13 +171,13 @@ words_small text names (t ∷ ts) h = (word_small t.kind (number_of names (slice
 
 -- ---- of programs
 
-program_fits : {text : List ℕ} {tokens : List Token} {p : Source} {places : List ℕ} → TokensSmall tokens → Derives text tokens p places → NumbersFit p
+program_fits : {text : List ℕ} {tokens : List Token} {p : SourceProgram} {places : List ℕ} → TokensSmall tokens → Derives text tokens p places → NumbersFit p
 program_fits {text} {tokens} small d =
     let i = statements_fit d.program.statements (words_small text (names_of text tokens) tokens small) in
     let j = phrase_fits d.program.last i.1.1 in
     record { body = i.0; result = j.0 }
 
-pub spelled_is_checked : (text : List ℕ) (p : Source) → Spells text p → IsChecked p
+pub spelled_is_checked : (text : List ℕ) (p : SourceProgram) → Spells text p → IsChecked p
 spelled_is_checked text p s =
     let d = s.has.derived in
     let small = subst TokensSmall (sym s.has.lexed.all) (tokens_small 0 s.has.lexed.pieces s.has.lexed.stand) in

@@ -1,7 +1,7 @@
 -- Why the parser refuses the tokens of a text: for their nesting, and else for the grammar. This project's own rule.
 use Rattle.std.specs.Prelude.{ℕ, List}
 use Rattle.gcl_core.specs.declared.tokens.Token.{Token}
-use Rattle.gcl_core.specs.meaning.Syntax.{Source}
+use Rattle.gcl_core.specs.meaning.Syntax.{SourceProgram}
 use Rattle.gcl_core.specs.text.Words.{kinds_of}
 use Rattle.gcl_core.specs.text.Derivation.{Derives}
 use Rattle.gcl_core.specs.text.Nesting.{Nests, IsTooDeep}
@@ -17,6 +17,6 @@ IsGrammarRefused text tokens OutOfMemory = Unit {0}
 
 -- the tokens of the text derive a program
 pub record IsDerived (text : List ℕ) (tokens : List Token) : Type 0 where
-  pub program : Source
+  pub program : SourceProgram
   pub places : List ℕ
   pub derives : Derives text tokens program places

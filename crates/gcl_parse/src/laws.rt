@@ -3,7 +3,7 @@
 ghost use Rattle.std.specs.Prelude.{◌≡◌, ◌↔◌, ◌⊎◌, ℕ, List};
 ghost use Rattle.gcl_core.specs.declared.tokens.Token.{Token};
 ghost use Rattle.gcl_core.specs.declared.tokens.TokenKind.{TokenKind};
-ghost use Rattle.gcl_core.specs.meaning.Syntax.{Source};
+ghost use Rattle.gcl_core.specs.meaning.Syntax.{SourceProgram};
 ghost use Rattle.gcl_core.specs.meaning.Bounds.{BlockCounted};
 ghost use Rattle.gcl_core.specs.meaning.Keeping.{IsChecked};
 ghost use Rattle.gcl_core.specs.text.Texts.{Spells};
@@ -31,15 +31,15 @@ pub fn program_or_refused()
 /// The tokens of a text derive at most one program, in which no number of an expression is below 0, and each choice among several
 /// has as many arms as it may have.
 pub fn one_program()
-    ensures program { (text : List ℕ) (tokens : List Token) (p q : Source) (at places : List ℕ)
+    ensures program { (text : List ℕ) (tokens : List Token) (p q : SourceProgram) (at places : List ℕ)
         → Derives text tokens p at → Derives text tokens q places → (q ≡ p) × (places ≡ at) }
-    ensures written { (text : List ℕ) (tokens : List Token) (p : Source) (at : List ℕ) → Derives text tokens p at → HasNoNegative p }
-    ensures arms { (text : List ℕ) (tokens : List Token) (p : Source) (at : List ℕ) → Derives text tokens p at → BlockCounted p.body }
+    ensures written { (text : List ℕ) (tokens : List Token) (p : SourceProgram) (at : List ℕ) → Derives text tokens p at → HasNoNegative p }
+    ensures arms { (text : List ℕ) (tokens : List Token) (p : SourceProgram) (at : List ℕ) → Derives text tokens p at → BlockCounted p.body }
 {}
 
 /// The program that a text spells is a checked program.
 pub fn spelled_programs_are_checked()
-    ensures { (text : List ℕ) (p : Source) → Spells text p → IsChecked p }
+    ensures { (text : List ℕ) (p : SourceProgram) → Spells text p → IsChecked p }
 {}
 
 /// Each list of bytes is read in exactly one way. As it is written, it has one program, with the places of its statements, or is

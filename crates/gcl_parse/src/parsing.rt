@@ -1,7 +1,7 @@
 // Reading programs.
 
 ghost use Rattle.std.specs.Prelude.{◌≡◌, ℕ, ◌+◌, ◌<◌, ◌≤◌, List, length, IfOk, IsOk, IfErr, IsOkUnless};
-ghost use Rattle.gcl_core.specs.meaning.Syntax.{Source};
+ghost use Rattle.gcl_core.specs.meaning.Syntax.{SourceProgram};
 ghost use Rattle.gcl_core.specs.meaning.Views.{source_of};
 ghost use Rattle.gcl_core.specs.meaning.Bounds.{BlockCounted, VariablesBelow};
 ghost use Rattle.gcl_core.specs.text.ReadingOrder.{count_all};
@@ -52,9 +52,9 @@ pub fn parse(alloc: Global, text: &[u8], tokens: &[Token]) -> Result<Parsed, Par
     requires short { length text.now ≤ LONGEST_TEXT }
     requires order { StandInOrder 0 tokens.now (length text.now) }
     ensures program { IfOk result (λ p. Derives text.now tokens.now (source_of p.program) p.places) }
-    ensures only { IfOk result (λ p. (q : Source) (at : List ℕ) → Derives text.now tokens.now q at
+    ensures only { IfOk result (λ p. (q : SourceProgram) (at : List ℕ) → Derives text.now tokens.now q at
         → (q ≡ source_of p.program) × (at ≡ p.places)) }
-    ensures derived { (q : Source) (at : List ℕ) → Derives text.now tokens.now q at → Nests (kinds_of tokens.now)
+    ensures derived { (q : SourceProgram) (at : List ℕ) → Derives text.now tokens.now q at → Nests (kinds_of tokens.now)
         → IsOkUnless result ParseError.OutOfMemory }
     ensures nested { IsOk result → Nests (kinds_of tokens.now) }
     ensures variables { IfOk result (λ p. VariablesBelow (source_of p.program)) }

@@ -3,7 +3,7 @@ use Rattle.std.specs.Prelude.{ℕ, zero, suc, ◌+◌, ◌%◌, pos, List, [], �
 use Rattle.gcl_core.specs.declared.syntax.BinOp.TheVariants as op
 use Rattle.gcl_core.specs.declared.syntax.Weight.{Weight}
 use Rattle.gcl_core.specs.text.Names.{Name}
-use Rattle.gcl_core.specs.meaning.Syntax.{Expression, Num, Var, Bin, Source}
+use Rattle.gcl_core.specs.meaning.Syntax.{Expression, Num, Var, Bin, SourceProgram}
 use Rattle.gcl_core.specs.meaning.Syntax.{Statement, Set, If, While, Choice, Uniform, Observe, Statements, done, ◌▸◌}
 
 -- its eight variables, in their order
@@ -79,5 +79,5 @@ abbrev pub generated_body : ℕ → Statements
 generated_body k = each_from first_assignment 0 8 (numbered_statements k)
 
 -- its result is `v0 % 100`
-abbrev pub generated : ℕ → Source
+abbrev pub generated : ℕ → SourceProgram
 generated k = record { names = variable_names; body = generated_body k; result = modulo 0 100 }

@@ -3,7 +3,7 @@ ghost use Rattle.std.specs.Prelude.{◌≡◌, ◌≤◌, ℕ, List, length};
 ghost use Rattle.gcl_core.specs.text.Canonical.{canonical_text};
 ghost use Rattle.gcl_core.specs.meaning.Keeping.{IsChecked};
 ghost use Rattle.gcl_core.specs.text.ReadingOrder.{count_all};
-ghost use Rattle.gcl_core.specs.meaning.Syntax.{Source};
+ghost use Rattle.gcl_core.specs.meaning.Syntax.{SourceProgram};
 ghost use Rattle.gcl_core.specs.text.Texts.{IsWrittenIn, Spells};
 ghost use Rattle.gcl_core.specs.declared.rules.TheConstants.{LONGEST_TEXT};
 ghost use Rattle.gcl_print.specs.ReadBack.{HasProgram};
@@ -35,7 +35,7 @@ pub fn has_bytes()
 /// other program, and spells it.
 pub fn is_read_back()
     ensures program { (k : ℕ) → k ≤ GREATEST_NUMBER → HasProgram (canonical_text (generated k)) (generated k) }
-    ensures only { (k : ℕ) → k ≤ GREATEST_NUMBER → (q : Source) (places : List ℕ)
+    ensures only { (k : ℕ) → k ≤ GREATEST_NUMBER → (q : SourceProgram) (places : List ℕ)
         → IsWrittenIn (canonical_text (generated k)) q places → q ≡ generated k }
     ensures spells { (k : ℕ) → k ≤ GREATEST_NUMBER → Spells (canonical_text (generated k)) (generated k) }
 {

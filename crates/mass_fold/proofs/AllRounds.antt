@@ -5,7 +5,7 @@ use Rattle.gcl_core.specs.declared.answers.Limit.TheVariants.{Rounds}
 use Rattle.gcl_core.specs.declared.answers.Outcome.TheVariants as outcome
 use Rattle.gcl_core.specs.weighing.Fractions.{Fraction, zero_share, plus, times, power, power_sum, IsOne, IsBelowOne}
 use Rattle.gcl_core.specs.weighing.Mass.{round_mass, failed_mass, mass_of_those}
-use Rattle.gcl_core.specs.meaning.Syntax.{Source}
+use Rattle.gcl_core.specs.meaning.Syntax.{SourceProgram}
 use Rattle.frac128.specs.Fraction.{InLowest, IsEqual, lowest}
 use Rattle.frac128.proofs.Divisors.{product_pos, cancel}
 use Rattle.mass_tables.specs.Scale.{whole}
@@ -50,7 +50,7 @@ same_sums f g e (suc k) =
     more a b c d P p G D e i = let x = ap (λ z. b * p * G * z) e in let y = ap (λ z. c * b * z) i in omega arith
 
 -- ---- some rounds
-module _ (p : Source) (n : ℕ) (r : Option ℕ) (rows : Rows) (f : Fraction) (round : RoundGives p n r rows f) where
+module _ (p : SourceProgram) (n : ℕ) (r : Option ℕ) (rows : Rows) (f : Fraction) (round : RoundGives p n r rows f) where
   abbrev Q : ℕ
   Q = round_width p n r
 
@@ -184,7 +184,7 @@ module _ (p : Source) (n : ℕ) (r : Option ℕ) (rows : Rows) (f : Fraction) (r
   rest_refused AllFailed h = absurd (h Q (peak_of p n r) round.parts)
   rest_refused OutOfMemory h = tt
 
-pub round_refused : (p : Source) (n : ℕ) (r R : Option ℕ) (e : MassError) → round_width p n r ≤ width_of p n r R → RoundRefused e p n r → MassRefused e p n r R
+pub round_refused : (p : SourceProgram) (n : ℕ) (r R : Option ℕ) (e : MassError) → round_width p n r ≤ width_of p n r R → RoundRefused e p n r → MassRefused e p n r R
 round_refused p n r R TooWide w h = omega arith
 round_refused p n r R TooManyStates w h = h
 round_refused p n r R AllFailed w h = absurd h

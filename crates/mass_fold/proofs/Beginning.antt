@@ -1,6 +1,6 @@
 -- The table and what has ended at the start of a round, and the whole round.
 use Rattle.std.proofs.Common.{◌≡◌, ℕ, ◌*◌, [], ◌∷◌, length, Option, refl, sym, ap, subst, arith}
-use Rattle.gcl_core.specs.meaning.Syntax.{Source}
+use Rattle.gcl_core.specs.meaning.Syntax.{SourceProgram}
 use Rattle.gcl_core.specs.meaning.Bounds.{BlockIsWeighed}
 use Rattle.gcl_core.specs.meaning.Outcomes.{zeros}
 use Rattle.gcl_core.specs.meaning.Value.{State}
@@ -42,7 +42,7 @@ sure_stands N s es p =
     let w : Whole N (1, 1) = (whole_from N (1, 1) N (omega arith) (omega arith)).1 in
     subst (λ es. Stands N es (sure s)) (sym p) (record { kept = (omega arith, w, tt); same = λ G. refl })
 
-module _ (p : Source) (n : ℕ) (r : Option ℕ) (w : BlockIsWeighed p.body) (es : Entries) (E : Ended) (one : es ≡ (zeros (length p.names), (1, 1)) ∷ []) (no : IsNone E) where
+module _ (p : SourceProgram) (n : ℕ) (r : Option ℕ) (w : BlockIsWeighed p.body) (es : Entries) (E : Ended) (one : es ≡ (zeros (length p.names), (1, 1)) ∷ []) (no : IsNone E) where
   abbrev Q : ℕ
   Q = round_width p n r
 

@@ -3,7 +3,7 @@ use Rattle.std.proofs.Common.{◌≡◌, ℕ, ◌*◌, ◌<◌, Option, sym, sub
 use Rattle.gcl_core.specs.weighing.Fractions.{Fraction}
 use Rattle.gcl_core.specs.weighing.Mass.{is_failed, failed_mass}
 use Rattle.gcl_core.specs.meaning.Bounds.{BlockIsWeighed}
-use Rattle.gcl_core.specs.meaning.Syntax.{Source}
+use Rattle.gcl_core.specs.meaning.Syntax.{SourceProgram}
 use Rattle.frac128.specs.Fraction.{InLowest, IsEqual, lowest}
 use Rattle.mass_tables.specs.Width.{round_width}
 use Rattle.mass_fold.specs.declared.meter.Meter.{Meter}
@@ -15,7 +15,7 @@ use Rattle.mass_fold.proofs.Beginning.{no_weight}
 use Rattle.mass_fold.proofs.OutcomeRows.{lowest_is}
 use Rattle.mass_fold.proofs.RoundMasses.{round_positive}
 
-module _ (p : Source) (n : ℕ) (r : Option ℕ) where
+module _ (p : SourceProgram) (n : ℕ) (r : Option ℕ) where
   read_of : (f : Fraction) (m : Meter) → IsNoWeight f → BodyMeters p n r (Bits f) m → RoundBits p n r (bits_of m)
   read_of f Off z d M Mp k = absurd (d M Mp k)
   read_of f (Bits g) z d M Mp k = let w = no_weight (round_width p n r * M) f z in let y = d M Mp k w.1 in (y.0, omega (arith, y.1, w.0))

@@ -6,7 +6,7 @@ use Rattle.gcl_core.specs.meaning.Blocks.{End, on}
 use Rattle.gcl_core.specs.meaning.Bounds.{BlockIsWeighed}
 use Rattle.gcl_core.specs.weighing.Mass.{sum_of, ends_in, is_failed, round_mass, failed_mass}
 use Rattle.gcl_core.specs.meaning.Outcomes.{zeros}
-use Rattle.gcl_core.specs.meaning.Syntax.{Source}
+use Rattle.gcl_core.specs.meaning.Syntax.{SourceProgram}
 use Rattle.gcl_core.specs.weighing.WeightedEnds.{weighted_ends}
 use Rattle.frac128.specs.Fraction.{lowest}
 use Rattle.frac128.proofs.Divisors.{lowest_in_lowest}
@@ -26,13 +26,13 @@ use Rattle.mass_fold.specs.Outcomes.{by_result, ResultsGive, ResultsBlame, Ended
 use Rattle.mass_fold.specs.Refused.{RoundRefused}
 use Rattle.mass_fold.specs.Rows.{Rows}
 
-refused_by : (p : Source) (n : ℕ) (r : Option ℕ) (e : MassError) → Blames e (round_width p n r) (peak_of p n r) → RoundRefused e p n r
+refused_by : (p : SourceProgram) (n : ℕ) (r : Option ℕ) (e : MassError) → Blames e (round_width p n r) (peak_of p n r) → RoundRefused e p n r
 refused_by p n r TooWide h = h
 refused_by p n r TooManyStates h = h
 refused_by p n r AllFailed h = h
 refused_by p n r OutOfMemory h = h
 
-module _ (p : Source) (n : ℕ) (r : Option ℕ) (w : BlockIsWeighed p.body) where
+module _ (p : SourceProgram) (n : ℕ) (r : Option ℕ) (w : BlockIsWeighed p.body) where
   abbrev Q : ℕ
   Q = round_width p n r
 

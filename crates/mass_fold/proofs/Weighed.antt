@@ -8,7 +8,7 @@ use Rattle.gcl_core.specs.declared.answers.Limits.{Limits}
 use Rattle.gcl_core.specs.weighing.Fractions.{Fraction, IsShare, IsWithinShare}
 use Rattle.gcl_core.specs.weighing.Mass.{mass_of}
 use Rattle.gcl_core.specs.weighing.StringWeight.{outcome_weight}
-use Rattle.gcl_core.specs.meaning.Syntax.{Source}
+use Rattle.gcl_core.specs.meaning.Syntax.{SourceProgram}
 use Rattle.frac128.specs.Divisor.{gcd}
 use Rattle.frac128.specs.Fraction.{lowest}
 use Rattle.frac128.proofs.Divisors.{gcd_is, gcd_pos, cancel}
@@ -38,7 +38,7 @@ weightless n (suc d) (suc many) all pos none le = let e = ap (λ z. z * all) non
 
 -- ---- the rows
 
-module _ (p : Source) (l : Limits) (run : List Bool → Answer) (rows : Rows) (law : WeighsExactly run p l) (are : AreMasses (mass_of p l.turns (Some l.attempts) (Some l.rounds)) rows) where
+module _ (p : SourceProgram) (l : Limits) (run : List Bool → Answer) (rows : Rows) (law : WeighsExactly run p l) (are : AreMasses (mass_of p l.turns (Some l.attempts) (Some l.rounds)) rows) where
   pub are_weighed : AreWeighed run rows
   are_weighed = record {
     within = λ x f in_rows L. subst (IsWithinShare (outcome_weight run x L) (2 ^ L)) (sym (are.each x f in_rows).1)

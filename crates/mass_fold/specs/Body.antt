@@ -1,6 +1,6 @@
 -- What the fold of a program's body gives.
 use Rattle.std.specs.Prelude.{◌≡◌, ℕ, ◌+◌, ◌*◌, ◌<◌, ◌≤◌, Bool, cond, length, Option, Some, None}
-use Rattle.gcl_core.specs.meaning.Syntax.{Source}
+use Rattle.gcl_core.specs.meaning.Syntax.{SourceProgram}
 use Rattle.gcl_core.specs.meaning.Blocks.{End, on}
 use Rattle.gcl_core.specs.meaning.Outcomes.{zeros}
 use Rattle.gcl_core.specs.weighing.WeightedEnds.{weighted_ends}
@@ -20,7 +20,7 @@ use Rattle.mass_fold.specs.Metering.{Counted, Priced, price}
 
 -- At the common denominator of a round, the table and what ended stand for those of the definition. Whatever ends of the body are
 -- meant, in a state or otherwise, they hold together as much as the weighted ends of the body give them.
-pub record BodyGives (p : Source) (n : ℕ) (r : Option ℕ) (es : Entries) (E : Ended) : Type 0 where
+pub record BodyGives (p : SourceProgram) (n : ℕ) (r : Option ℕ) (es : Entries) (E : Ended) : Type 0 where
   pub stands : Stands (round_width p n r) es (tables_of p n r).next
   pub masses : (is : End → Bool) → (sum_of is (weighted_ends n r p.body (zeros (length p.names)))).1 * (held (round_width p n r) (λ s. cond (is (on s)) 1 0) es + amount (round_width p n r) (λ x. cond (is x) 1 0) (rows_of E))
       ≡ (sum_of is (weighted_ends n r p.body (zeros (length p.names)))).0 * round_width p n r
@@ -29,7 +29,7 @@ pub record BodyGives (p : Source) (n : ℕ) (r : Option ℕ) (es : Entries) (E :
   pub total : held (round_width p n r) (λ s. 1) es + amount (round_width p n r) (λ x. 1) (rows_of E) ≡ round_width p n r
 
 -- At the common denominator times a scale at which the parts of each draw that is reached are whole, the meter counts their bits.
-abbrev pub BodyMeters : Source → ℕ → Option ℕ → Meter → Meter → Type 0
+abbrev pub BodyMeters : SourceProgram → ℕ → Option ℕ → Meter → Meter → Type 0
 BodyMeters p n r m m' = (M : ℕ) → 0 < M → Priced r M (draws_of p n r) → Counted (round_width p n r * M) (amount (round_width p n r) (price r M) (draws_of p n r)) m m'
 
 -- so many of X parts of a bit; none, where 128 bits are too few for X times any bound of them
@@ -38,7 +38,7 @@ BitsAt X many (Some f) = Whole X f × (whole X f ≡ many)
 BitsAt X many None = (C : ℕ) → 1 ≤ C → many ≤ X * C → Overfills (X * C)
 
 -- the bits of all draws that a round reaches
-abbrev pub RoundBits : Source → ℕ → Option ℕ → Option Fraction → Type 0
+abbrev pub RoundBits : SourceProgram → ℕ → Option ℕ → Option Fraction → Type 0
 RoundBits p n r bits = (M : ℕ) → 0 < M → Priced r M (draws_of p n r) → BitsAt (round_width p n r * M) (amount (round_width p n r) (price r M) (draws_of p n r)) bits
 
 -- a whole number of N parts, and no more than all

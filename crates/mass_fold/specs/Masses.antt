@@ -3,7 +3,7 @@ use Rattle.std.specs.Prelude.{◌≡◌, ℕ, ◌*◌, ◌<◌, ◌≤◌, Bool,
 use Rattle.gcl_core.specs.declared.answers.Outcome.{Outcome}
 use Rattle.gcl_core.specs.weighing.Fractions.{Fraction}
 use Rattle.gcl_core.specs.weighing.Mass.{round_mass, failed_mass}
-use Rattle.gcl_core.specs.meaning.Syntax.{Source}
+use Rattle.gcl_core.specs.meaning.Syntax.{SourceProgram}
 use Rattle.frac128.specs.Fraction.{IsEqual}
 use Rattle.mass_tables.specs.Width.{round_width}
 use Rattle.mass_fold.specs.Amounts.{held, Held}
@@ -21,7 +21,7 @@ pub record HoldMasses (N : ℕ) (mass : (Outcome → Bool) → Fraction) (rows :
   pub sums : (meant : Outcome → Bool) → (mass meant).1 * held N (counted meant) rows ≡ (mass meant).0 * N
 
 -- the rows of one round, with the weight of a failed one
-pub record RoundGives (p : Source) (n : ℕ) (r : Option ℕ) (rows : Rows) (f : Fraction) : Type 0 where
+pub record RoundGives (p : SourceProgram) (n : ℕ) (r : Option ℕ) (rows : Rows) (f : Fraction) : Type 0 where
   pub holds : HoldMasses (round_width p n r) (round_mass p n r) rows
   pub parts : TableParts (round_width p n r) rows f
   pub failed : IsEqual f (failed_mass p n r)

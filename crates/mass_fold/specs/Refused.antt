@@ -2,7 +2,7 @@
 use Rattle.std.specs.Prelude.{◌≡◌, ℕ, ◌<◌, ◌≤◌, Option, None}
 use Rattle.gcl_core.specs.weighing.Fractions.{IsOne}
 use Rattle.gcl_core.specs.weighing.Mass.{failed_mass}
-use Rattle.gcl_core.specs.meaning.Syntax.{Source}
+use Rattle.gcl_core.specs.meaning.Syntax.{SourceProgram}
 use Rattle.gcl_core.specs.declared.rules.TheConstants.{MOST_LIMIT}
 use Rattle.mass_tables.specs.Tables.{peak_of}
 use Rattle.mass_tables.specs.Width.{round_width, width_of}
@@ -15,13 +15,13 @@ use Rattle.frac128.specs.Fraction.{Overfills}
 abbrev pub IsLimit : ℕ → Type 0
 IsLimit r = (1 ≤ r) × (r ≤ MOST_LIMIT)
 
-abbrev pub RoundRefused : MassError → Source → ℕ → Option ℕ → Type 0
+abbrev pub RoundRefused : MassError → SourceProgram → ℕ → Option ℕ → Type 0
 RoundRefused TooWide p n r = Overfills (round_width p n r)
 RoundRefused TooManyStates p n r = MOST_STATES < peak_of p n r
 RoundRefused AllFailed p n r = ⊥
 RoundRefused OutOfMemory p n r = Unit {0}
 
-abbrev pub MassRefused : MassError → Source → ℕ → Option ℕ → Option ℕ → Type 0
+abbrev pub MassRefused : MassError → SourceProgram → ℕ → Option ℕ → Option ℕ → Type 0
 MassRefused TooWide p n r R = Overfills (width_of p n r R)
 MassRefused TooManyStates p n r R = MOST_STATES < peak_of p n r
 MassRefused AllFailed p n r R = (R ≡ None) × IsOne (failed_mass p n r)

@@ -6,7 +6,7 @@ ghost use Rattle.gcl_core.specs.declared.answers.Limits.{Limits};
 ghost use Rattle.gcl_core.specs.declared.answers.Outcome.{Outcome};
 ghost use Rattle.gcl_core.specs.weighing.Fractions.{Fraction};
 ghost use Rattle.gcl_core.specs.weighing.Mass.{mass_of};
-ghost use Rattle.gcl_core.specs.meaning.Syntax.{Source};
+ghost use Rattle.gcl_core.specs.meaning.Syntax.{SourceProgram};
 ghost use Rattle.mass_fold.specs.Rows.{Rows, AreMasses};
 ghost use Rattle.mass_fold.specs.Weighed.{AreWeighed};
 ghost use Rattle.weighing_law.specs.Weighing.{WeighsExactly};
@@ -21,6 +21,6 @@ pub fn masses_have_one_list()
 /// outcome of a row weigh at most what the row says, exactly that at every length that suffices, and no string ends in an outcome
 /// without a row.
 pub fn masses_are_weighed()
-    ensures { (p : Source) (l : Limits) (run : List Bool → Answer) (rows : Rows) → WeighsExactly run p l
+    ensures { (p : SourceProgram) (l : Limits) (run : List Bool → Answer) (rows : Rows) → WeighsExactly run p l
         → AreMasses (mass_of p l.turns (Some l.attempts) (Some l.rounds)) rows → AreWeighed run rows }
 {}

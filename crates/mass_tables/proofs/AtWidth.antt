@@ -1,7 +1,7 @@
 -- At the common denominator of a round each fraction of its tables is whole.
 use Rattle.std.proofs.Common.{ℕ, length, Option, arith}
 use Rattle.std.proofs.lemmas.Nat.Gcd.{dvd_refl}
-use Rattle.gcl_core.specs.meaning.Syntax.{Source}
+use Rattle.gcl_core.specs.meaning.Syntax.{SourceProgram}
 use Rattle.gcl_core.specs.meaning.Bounds.{BlockIsWeighed}
 use Rattle.gcl_core.specs.meaning.Outcomes.{zeros}
 use Rattle.gcl_core.specs.weighing.WeightedEnds.{sure}
@@ -11,7 +11,7 @@ use Rattle.mass_tables.specs.Scale.{WholeAtWidth}
 use Rattle.mass_tables.proofs.Denominators.{common_positive, flow_within}
 use Rattle.mass_tables.proofs.Positive.{fractions_positive, p_all}
 
-pub at_width : (p : Source) (n : ℕ) (r : Option ℕ) → BlockIsWeighed p.body → WholeAtWidth p n r
+pub at_width : (p : SourceProgram) (n : ℕ) (r : Option ℕ) → BlockIsWeighed p.body → WholeAtWidth p n r
 at_width p n r w =
     let f = tables_of p n r in
     let h = fractions_positive f (p_all n r p.body (sure (zeros (length p.names))) w (omega arith, tt)) in

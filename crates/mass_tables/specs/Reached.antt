@@ -3,7 +3,7 @@ use Rattle.std.specs.Prelude.{ℕ, zero, suc, ◌-◌, List, [], ◌∷◌, ◌+
 use Rattle.std.specs.List.{sum}
 use Rattle.gcl_core.specs.meaning.Arms.{parts_of}
 use Rattle.gcl_core.specs.meaning.Parts.{partial_sums}
-use Rattle.gcl_core.specs.meaning.Syntax.{Statement, Skip, Set, If, While, Choice, Choose, Uniform, Observe, Statements, done, ◌▸◌, ArmList, no_arm, arm, Source}
+use Rattle.gcl_core.specs.meaning.Syntax.{Statement, Skip, Set, If, While, Choice, Choose, Uniform, Observe, Statements, done, ◌▸◌, ArmList, no_arm, arm, SourceProgram}
 use Rattle.gcl_core.specs.meaning.Value.{State, Value, value_of}
 use Rattle.gcl_core.specs.meaning.Blocks.{by_value, by_bound}
 use Rattle.gcl_core.specs.meaning.Draw.{choice_ends, uniform_ends}
@@ -53,5 +53,5 @@ module _ (n : ℕ) (r : Option ℕ) where
     arms_draws b (arm p a arms) I = block_draws a (scaled (class_weight b r p) I) ++ arms_draws b arms I
 
 -- the draws of a program's body, begun with the state of zeros at weight 1
-abbrev pub draws_of : Source → ℕ → Option ℕ → Reached
+abbrev pub draws_of : SourceProgram → ℕ → Option ℕ → Reached
 draws_of p n r = block_draws n r p.body (sure (zeros (length p.names)))

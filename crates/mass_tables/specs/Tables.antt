@@ -7,7 +7,7 @@ use Rattle.std.specs.Set.{distinct_count}
 use Rattle.std.specs.Cmp.Lexicographic.{pointwise}
 use Rattle.gcl_core.specs.declared.answers.Limit.TheVariants.{Turns, Attempts}
 use Rattle.gcl_core.specs.meaning.Arms.{parts_of}
-use Rattle.gcl_core.specs.meaning.Syntax.{Statement, Skip, Set, If, While, Choice, Choose, Uniform, Observe, Statements, done, ◌▸◌, ArmList, no_arm, arm, Source}
+use Rattle.gcl_core.specs.meaning.Syntax.{Statement, Skip, Set, If, While, Choice, Choose, Uniform, Observe, Statements, done, ◌▸◌, ArmList, no_arm, arm, SourceProgram}
 use Rattle.gcl_core.specs.meaning.Value.{State, Value, value_of, is_zero}
 use Rattle.gcl_core.specs.meaning.Blocks.{End, on, failed, fault, limit, by_value, by_bound}
 use Rattle.gcl_core.specs.meaning.Outcomes.{zeros}
@@ -151,8 +151,8 @@ most_states [] = 0
 most_states (I ∷ Is) = max (states I) (most_states Is)
 
 -- the body of a program, begun with the state of zeros at weight 1
-abbrev pub tables_of : Source → ℕ → Option ℕ → Flow
+abbrev pub tables_of : SourceProgram → ℕ → Option ℕ → Flow
 tables_of p n r = block_flow n r p.body (sure (zeros (length p.names)))
 
-abbrev pub peak_of : Source → ℕ → Option ℕ → ℕ
+abbrev pub peak_of : SourceProgram → ℕ → Option ℕ → ℕ
 peak_of p n r = most_states (tables_of p n r).tables

@@ -10,7 +10,7 @@ use Rattle.gcl_core.specs.weighing.Fractions.{Fraction, AtMost, IsBelowOne}
 use Rattle.gcl_core.specs.meaning.Keeping.{IsChecked}
 use Rattle.gcl_core.specs.weighing.Mass.{is_failed}
 use Rattle.gcl_core.specs.meaning.Outcomes.{same_outcome}
-use Rattle.gcl_core.specs.meaning.Syntax.{Source}
+use Rattle.gcl_core.specs.meaning.Syntax.{SourceProgram}
 use Rattle.gcl_core.proofs.TreeWeights.{chi}
 use Rattle.weighing_law.proofs.Shares.{Share, counts_sum, sum_pos, product_pos}
 use Rattle.weighing_law.proofs.StatedMasses.{fails_in_part}
@@ -48,7 +48,7 @@ had_nothing m0 m1 zero g1 u0 u1 f1 d some z le = le_of_mul-le-mul_left {k = g1} 
 had_nothing m0 m1 (suc g0) g1 u0 u1 f1 d some z le = absurd (omega arith)
 
 -- ---- the two limits of turns
-module _ (p : Source) (ok : IsChecked p) (n n' : ℕ) (more : n ≤ n') (passing : IsBelowOne (fails p n')) where
+module _ (p : SourceProgram) (ok : IsChecked p) (n n' : ℕ) (more : n ≤ n') (passing : IsBelowOne (fails p n')) where
   abbrev N : ℕ
   N = scale p ok n n' more
 
@@ -157,7 +157,7 @@ spares (outcome.Value v) e = refl
 spares (outcome.Fault f) e = refl
 spares (outcome.Limit k) e = absurd (true≢false (sym e))
 
-pub bounds_hold : (p : Source) (n n' : ℕ) → IsChecked p → n ≤ n' → IsBelowOne (fails p n') → BoundsHold p n n'
+pub bounds_hold : (p : SourceProgram) (n n' : ℕ) → IsChecked p → n ≤ n' → IsBelowOne (fails p n') → BoundsHold p n n'
 bounds_hold p n n' ok more passing =
     let turns = same_outcome (outcome.Limit Turns) in
     record {

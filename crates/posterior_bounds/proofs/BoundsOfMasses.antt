@@ -10,7 +10,7 @@ use Rattle.gcl_core.specs.weighing.Fractions.{Fraction, zero_share, plus, IsBelo
 use Rattle.gcl_core.specs.meaning.Keeping.{IsChecked}
 use Rattle.gcl_core.specs.weighing.Mass.{mass_of}
 use Rattle.gcl_core.specs.meaning.Outcomes.{same_outcome}
-use Rattle.gcl_core.specs.meaning.Syntax.{Source}
+use Rattle.gcl_core.specs.meaning.Syntax.{SourceProgram}
 use Rattle.mass_fold.specs.declared.error.MassError.{MassError}
 use Rattle.mass_fold.specs.declared.error.MassError.TheVariants.{TooWide, TooManyStates, AllFailed, OutOfMemory}
 use Rattle.mass_fold.specs.Masses.{WholeWithin}
@@ -46,7 +46,7 @@ as_lowest f g pos e = subst InLowest (sym e) (lowest_in_lowest g.0 g.1 (omega ar
 of_value : (f g : Fraction) → f ≡ lowest g → IsEqual f g
 of_value f g e = subst (λ h. IsEqual h g) (sym e) (lowest_equal g.0 g.1)
 
-module _ (p : Source) (n : ℕ) (ok : IsChecked p) (passes : IsBelowOne (fails p n)) where
+module _ (p : SourceProgram) (n : ℕ) (ok : IsChecked p) (passes : IsBelowOne (fails p n)) where
   law : BoundsHold p n n
   law = bounds_hold p n n ok (le_refl n) passes
 

@@ -7,7 +7,7 @@ use Rattle.gcl_core.specs.meaning.Blocks.{End, on, failed, fault, limit}
 use Rattle.gcl_core.specs.meaning.Keeping.{IsChecked}
 use Rattle.gcl_core.specs.weighing.Mass.{ends_in, is_failed}
 use Rattle.gcl_core.specs.meaning.Outcomes.{same_outcome, zeros, outcome_of}
-use Rattle.gcl_core.specs.meaning.Syntax.{Expression, Source}
+use Rattle.gcl_core.specs.meaning.Syntax.{Expression, SourceProgram}
 use Rattle.gcl_core.specs.meaning.Value.{value_of}
 use Rattle.gcl_core.specs.weighing.WeightedEnds.{weighted_ends}
 use Rattle.gcl_core.proofs.Accepted.{checked_weights}
@@ -85,7 +85,7 @@ pub record Gains (N meant failed turns meant' failed' turns' : ℕ) : Type 0 whe
   pub all' : meant' + failed' + turns' ≤ N
 
 -- ---- a round
-module _ (p : Source) (ok : IsChecked p) (n n' : ℕ) (more : n ≤ n') where
+module _ (p : SourceProgram) (ok : IsChecked p) (n n' : ℕ) (more : n ≤ n') where
   abbrev pub scale : ℕ
   scale = block_scale n' (scale_of 0) p.body
 

@@ -7,7 +7,7 @@ use Rattle.gcl_core.specs.weighing.Fractions.{IsBelowOne}
 use Rattle.gcl_core.specs.meaning.Blocks.{End}
 use Rattle.gcl_core.specs.weighing.Mass.{ends_in, is_failed}
 use Rattle.gcl_core.specs.meaning.Outcomes.{same_outcome, zeros}
-use Rattle.gcl_core.specs.meaning.Syntax.{Source}
+use Rattle.gcl_core.specs.meaning.Syntax.{SourceProgram}
 use Rattle.gcl_core.specs.weighing.WeightedEnds.{weighted_ends}
 use Rattle.gcl_core.proofs.TreeWeights.{chi}
 use Rattle.weighing_law.proofs.Shares.{Share, share-plus, counts_sum, sum_pos, product_pos}
@@ -17,7 +17,7 @@ use Rattle.posterior_bounds.specs.PosteriorBounds.{fails, given, ran_out, lower_
 use Rattle.posterior_bounds.specs.Holding.{AreBounds}
 
 -- what the ends of a round add up to at the scale N, of which `passed` did not fail
-pub record Sums (p : Source) (n N : ℕ) : Type 0 where
+pub record Sums (p : SourceProgram) (n N : ℕ) : Type 0 where
   pub sum : (End → ℕ) → ℕ
   pub counts : (G : End → ℕ) → Counts N G (weighted_ends n None p.body (zeros (length p.names))) (sum G)
   pub some : 0 < N
@@ -25,7 +25,7 @@ pub record Sums (p : Source) (n N : ℕ) : Type 0 where
   pub rest : passed + sum (chi is_failed) ≡ N
   pub passes : IsBelowOne (fails p n)
 
-module _ (p : Source) (n N : ℕ) (s : Sums p n N) where
+module _ (p : SourceProgram) (n N : ℕ) (s : Sums p n N) where
   abbrev pub sum_of_those : (Outcome → Bool) → ℕ
   sum_of_those meant = s.sum (chi (ends_in p.result meant))
 

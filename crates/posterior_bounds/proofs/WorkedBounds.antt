@@ -4,7 +4,7 @@ use Rattle.gcl_core.specs.declared.answers.Outcome.{Outcome}
 use Rattle.gcl_core.specs.declared.answers.Outcome.TheVariants as outcome
 use Rattle.gcl_core.specs.declared.syntax.BinOp.TheVariants as op
 use Rattle.gcl_core.specs.weighing.Fractions.{Fraction, IsOne}
-use Rattle.gcl_core.specs.meaning.Syntax.{Num, Var, Bin, Set, While, Choice, Uniform, Observe, done, ◌▸◌, Source}
+use Rattle.gcl_core.specs.meaning.Syntax.{Num, Var, Bin, Set, While, Choice, Uniform, Observe, done, ◌▸◌, SourceProgram}
 use Rattle.weighing_law.proofs.WorkedPrograms.{one_of_two_coins, geometric, weight}
 use Rattle.posterior_bounds.specs.PosteriorBounds.{fails, lower_of, upper_of, upper_of_others}
 
@@ -12,7 +12,7 @@ abbrev Is : Fraction → ℕ → ℕ → Type 0
 Is m a b = m.0 * b ≡ a * m.1
 
 -- from a/b to c/d
-abbrev IsFrom : Source → ℕ → Outcome → ℕ → ℕ → ℕ → ℕ → Type 0
+abbrev IsFrom : SourceProgram → ℕ → Outcome → ℕ → ℕ → ℕ → ℕ → Type 0
 IsFrom p n x a b c d = Is (lower_of p n x) a b × Is (upper_of p n x) c d
 
 -- ---- go := 1; while go = 1 { choice 1/2 { x := x + 1; } or { go := 0; } } return x;
@@ -39,7 +39,7 @@ coins_others : Is (upper_of_others one_of_two_coins 30) 0 1
 coins_others = refl
 
 -- ---- a ~ uniform(6); b ~ uniform(6); observe a + b = 8; heads := 0; while heads = 0 { heads ~ uniform(2); } return a;
-abbrev dice : Source
+abbrev dice : SourceProgram
 dice = record {
   names = [] ∷ [] ∷ [] ∷ [];
   body = Uniform 0 (Num (pos 6))
@@ -67,7 +67,7 @@ dice_none : Is (upper_of_others dice 0) 1 1
 dice_none = refl
 
 -- ---- the geometric loop, and then observe x < 2; at three turns one eighth fails
-abbrev observed : Source
+abbrev observed : SourceProgram
 observed = record {
   names = [] ∷ [] ∷ [];
   body = Set 0 (Num (pos 1))
@@ -90,7 +90,7 @@ observed_others : Is (upper_of_others observed 3) 1 7
 observed_others = refl
 
 -- ---- observe 1 = 2; return 0;
-abbrev impossible : Source
+abbrev impossible : SourceProgram
 impossible = record { names = []; body = Observe (Bin op.Eq (Num (pos 1)) (Num (pos 2))) ▸ done; result = Num (pos 0) }
 
 impossible_fails : IsOne (fails impossible 30)

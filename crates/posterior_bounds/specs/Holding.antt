@@ -7,18 +7,18 @@ use Rattle.gcl_core.specs.declared.answers.Outcome.TheVariants as outcome
 use Rattle.gcl_core.specs.weighing.Fractions.{plus, AtMost, IsBelowOne}
 use Rattle.gcl_core.specs.weighing.Mass.{mass_of_those}
 use Rattle.gcl_core.specs.meaning.Outcomes.{same_outcome}
-use Rattle.gcl_core.specs.meaning.Syntax.{Source}
+use Rattle.gcl_core.specs.meaning.Syntax.{SourceProgram}
 use Rattle.posterior_bounds.specs.PosteriorBounds.{is_settled, fails, given, lower_of_those, upper_of_those, upper_of_others}
 
 -- The bounds at n turns are fractions, and they are as far apart as for whatever else is meant: by the bound of all others.
-pub record AreBounds (p : Source) (n : ℕ) (meant : Outcome → Bool) : Type 0 where
+pub record AreBounds (p : SourceProgram) (n : ℕ) (meant : Outcome → Bool) : Type 0 where
   pub lower_fraction : 1 ≤ (lower_of_those p n meant).1
   pub upper_fraction : 1 ≤ (upper_of_those p n meant).1
   pub width : IsEqual (plus (lower_of_those p n meant) (upper_of_others p n)) (upper_of_those p n meant)
 
 -- The outcomes that are meant have at n' turns a mass between their bounds at n turns, both included. Where a round gave them nothing
 -- at n turns, it is at most the bound of all others, and so is their upper bound at n'. Their bounds at n' lie within those at n.
-pub record IsBounded (p : Source) (n n' : ℕ) (meant : Outcome → Bool) : Type 0 where
+pub record IsBounded (p : SourceProgram) (n n' : ℕ) (meant : Outcome → Bool) : Type 0 where
   pub fraction : 1 ≤ (mass_of_those p n' None None meant).1
   pub from_below : AtMost (lower_of_those p n meant) (mass_of_those p n' None None meant)
   pub from_above : AtMost (mass_of_those p n' None None meant) (upper_of_those p n meant)
@@ -32,7 +32,7 @@ pub record IsBounded (p : Source) (n n' : ℕ) (meant : Outcome → Bool) : Type
 -- So it is for each value and each fault, and for whatever outcomes are meant, where the limit of turns is not among them: all to which a
 -- round gave nothing have together at most the bound of all others. That bound does not rise. At n turns too a round fails with less than
 -- all weight.
-pub record BoundsHold (p : Source) (n n' : ℕ) : Type 0 where
+pub record BoundsHold (p : SourceProgram) (n n' : ℕ) : Type 0 where
   pub outcomes : (x : Outcome) → is_settled x ≡ true → IsBounded p n n' (same_outcome x)
   pub events : (meant : Outcome → Bool) → meant (outcome.Limit Turns) ≡ false → IsBounded p n n' meant
   pub others_fall : AtMost (upper_of_others p n') (upper_of_others p n)

@@ -7,7 +7,7 @@ use Rattle.gcl_core.specs.weighing.Fractions.{Fraction, AtMost}
 use Rattle.gcl_core.specs.weighing.Mass.{mass_of}
 use Rattle.gcl_core.specs.meaning.Order.{is_before}
 use Rattle.gcl_core.specs.meaning.Outcomes.{same_outcome}
-use Rattle.gcl_core.specs.meaning.Syntax.{Source}
+use Rattle.gcl_core.specs.meaning.Syntax.{SourceProgram}
 use Rattle.posterior_bounds.specs.PosteriorBounds.{is_settled, given, lower_of, upper_of, upper_of_others}
 
 -- an outcome, its lower bound and its upper bound
@@ -18,7 +18,7 @@ abbrev pub outcomes_of : Rows → List Outcome
 outcomes_of rows = map (λ row. row.0) rows
 
 -- The rows are exactly the values and faults to which a round of n turns gives more than 0.
-pub record AreBoundsOf (p : Source) (n : ℕ) (rows : Rows) : Type 0 where
+pub record AreBoundsOf (p : SourceProgram) (n : ℕ) (rows : Rows) : Type 0 where
   pub ascending : AllPairs (λ x y. is_before x y ≡ true) (outcomes_of rows)
   pub settled : (x : Outcome) (low high : Fraction) → Contains rows (x, low, high) → is_settled x ≡ true
   pub above_zero : (x : Outcome) (low high : Fraction) → Contains rows (x, low, high) → 0 < (given p n (same_outcome x)).0
@@ -31,7 +31,7 @@ HasNone x rows = (low high : Fraction) → Contains rows (x, low, high) → ⊥
 
 -- At n' turns the mass of an outcome that has a row lies between its bounds, both included, and that of a value or fault that has none is
 -- at most the bound of all others. The bounds at n' turns lie within these.
-pub record HoldAt (p : Source) (n' : ℕ) (rows : Rows) (other : Fraction) : Type 0 where
+pub record HoldAt (p : SourceProgram) (n' : ℕ) (rows : Rows) (other : Fraction) : Type 0 where
   pub fraction : (x : Outcome) → is_settled x ≡ true → 1 ≤ (mass_of p n' None None x).1
   pub from_below : (x : Outcome) (low high : Fraction) → Contains rows (x, low, high) → AtMost low (mass_of p n' None None x)
   pub from_above : (x : Outcome) (low high : Fraction) → Contains rows (x, low, high) → AtMost (mass_of p n' None None x) high

@@ -3,7 +3,7 @@
 ghost use Rattle.std.specs.Prelude.{◌≤◌, ℕ};
 ghost use Rattle.gcl_core.specs.weighing.Fractions.{IsBelowOne};
 ghost use Rattle.gcl_core.specs.meaning.Keeping.{IsChecked};
-ghost use Rattle.gcl_core.specs.meaning.Syntax.{Source};
+ghost use Rattle.gcl_core.specs.meaning.Syntax.{SourceProgram};
 ghost use Rattle.posterior_bounds.specs.PosteriorBounds.{fails};
 ghost use Rattle.posterior_bounds.specs.Holding.{BoundsHold};
 
@@ -12,5 +12,5 @@ ghost use Rattle.posterior_bounds.specs.Holding.{BoundsHold};
 /// value or a fault lies between its bounds at the lesser one, both included, and the bounds at the greater limit lie within those at
 /// the lesser. They are as far apart for each outcome.
 pub fn more_turns_stay_within_the_bounds()
-    ensures { (p : Source) (n n' : ℕ) → IsChecked p → n ≤ n' → IsBelowOne (fails p n') → BoundsHold p n n' }
+    ensures { (p : SourceProgram) (n n' : ℕ) → IsChecked p → n ≤ n' → IsBelowOne (fails p n') → BoundsHold p n n' }
 {}

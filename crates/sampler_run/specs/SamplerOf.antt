@@ -5,14 +5,14 @@ use Rattle.gcl_core.specs.declared.answers.Answer.{Answer}
 use Rattle.gcl_core.specs.declared.answers.Limits.{Limits}
 use Rattle.gcl_core.specs.meaning.LimitRange.{InRange}
 use Rattle.gcl_core.specs.meaning.Runs.{run_on}
-use Rattle.gcl_core.specs.meaning.Syntax.{Source}
+use Rattle.gcl_core.specs.meaning.Syntax.{SourceProgram}
 use Rattle.weighing_law.specs.LimitsCost.{LimitsCost, MayPass}
 use Rattle.weighing_law.specs.Weighing.{WeighsExactly}
 use Rattle.bit_tree.specs.Debiased.{tied_tree}
 use Rattle.sampler_code.specs.Assembled.{Assembled, assembled, CodeReaches, IsRunOf, ReachesOne}
 use Rattle.sampler_code.specs.Running.{Reached}
 
-pub record IsSamplerOf (p : Source) (s : Assembled) : Type 0 where
+pub record IsSamplerOf (p : SourceProgram) (s : Assembled) : Type 0 where
   -- it is the code of the program's tied tree
   pub code : s ≡ assembled (tied_tree p)
   -- on all bits the code reaches the answer of the program's run,

@@ -4,13 +4,13 @@ use Rattle.gcl_core.specs.declared.answers.Answer.{Answer}
 use Rattle.gcl_core.specs.declared.answers.Limits.{Limits}
 use Rattle.gcl_core.specs.declared.answers.TallyKey.{TallyKey}
 use Rattle.gcl_core.specs.meaning.Runs.{run_on}
-use Rattle.gcl_core.specs.meaning.Syntax.{Source}
+use Rattle.gcl_core.specs.meaning.Syntax.{SourceProgram}
 use Rattle.sampler_code.specs.Assembled.{Assembled, IsRunOf}
 use Rattle.tally_range.specs.declared.range.SeedRange.{SeedRange}
 use Rattle.tally_range.specs.Counts.{count_over, count_range}
 
 -- how many streams of the range have runs of the program with a key
-abbrev pub count_on : Source → Limits → SeedRange → TallyKey → ℕ
+abbrev pub count_on : SourceProgram → Limits → SeedRange → TallyKey → ℕ
 count_on p l r key = count_range (run_on p l) r key
 
 -- two ranges, the second of which begins where the first ends, count together what the range over both counts
@@ -20,5 +20,5 @@ RangesAddUp = (run : List Bool → Answer) (seed budget a b c : ℕ) (key : Tall
 
 -- where the runs of the program are runs of the code, any runs of the code count what those of the program do
 abbrev pub CodeCountsAsProgram : Type 0
-CodeCountsAsProgram = (code : Assembled) (p : Source) (l : Limits) → IsRunOf code l (run_on p l) →
+CodeCountsAsProgram = (code : Assembled) (p : SourceProgram) (l : Limits) → IsRunOf code l (run_on p l) →
     (run : List Bool → Answer) → IsRunOf code l run → (r : SeedRange) (key : TallyKey) → count_range run r key ≡ count_on p l r key

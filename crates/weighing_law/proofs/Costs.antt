@@ -11,7 +11,7 @@ use Rattle.gcl_core.specs.weighing.Fractions.{Fraction, zero_share, plus, times,
 use Rattle.gcl_core.specs.meaning.Keeping.{IsChecked}
 use Rattle.gcl_core.specs.weighing.Mass.{sum_of, ends_in, is_failed, round_mass, failed_mass, mass_of_those}
 use Rattle.gcl_core.specs.meaning.Outcomes.{zeros, outcome_of}
-use Rattle.gcl_core.specs.meaning.Syntax.{Expression, Source}
+use Rattle.gcl_core.specs.meaning.Syntax.{Expression, SourceProgram}
 use Rattle.gcl_core.specs.meaning.Value.{value_of}
 use Rattle.gcl_core.specs.weighing.WeightedEnds.{weighted_ends}
 use Rattle.gcl_core.proofs.Accepted.{checked_weights}
@@ -58,7 +58,7 @@ last_step s0 s1 t0 t1 p0 p1 q0 q1 a b c t q =
     (product_pos t1 q1 t q)
 
 -- ---- one round
-module _ (p : Source) (ok : IsChecked p) (n r : ℕ) where
+module _ (p : SourceProgram) (ok : IsChecked p) (n r : ℕ) where
   abbrev scale : ℕ
   scale = block_scale n (scale_of r) p.body
 
@@ -93,7 +93,7 @@ spared_rounds b e p q u0 u1 h = subst (λ b. (plus p (cond b q zero_share)).0 * 
 joined_rounds : (s0 s1 t0 t1 g0 g1 u d : ℕ) → s0 * t1 ≤ t0 * s1 → g0 * d ≤ u * g1 → s0 * g0 * (t1 * d) ≤ t0 * u * (s1 * g1)
 joined_rounds s0 s1 t0 t1 g0 g1 u d a b = let x = mul-le-mul_right (g0 * d) a in let y = mul-le-mul_left (t0 * s1) b in omega arith
 
-module _ (p : Source) (l : Limits) (ok : IsChecked p) (passes : MayPass p l) where
+module _ (p : SourceProgram) (l : Limits) (ok : IsChecked p) (passes : MayPass p l) where
   abbrev stated : (Outcome → Bool) → Fraction
   stated meant = mass_of_those p l.turns None None meant
 
@@ -139,7 +139,7 @@ one_of_two : (b : Bool) → cond b 1 0 + cond (not b) 1 0 ≡ 1
 one_of_two true = refl
 one_of_two false = refl
 
-module _ (p : Source) (l : Limits) (ok : IsChecked p) where
+module _ (p : SourceProgram) (l : Limits) (ok : IsChecked p) where
   -- the masses of an event and of its complement are 1 together
   complement : (meant : Outcome → Bool) →
       (let m = event_mass p l ok meant in let m' = event_mass p l ok (λ x. not (meant x)) in m.0 * m'.1 + m'.0 * m.1 ≡ m.1 * m'.1)

@@ -7,7 +7,7 @@ use Rattle.gcl_core.specs.declared.answers.Limits.{Limits}
 use Rattle.gcl_core.specs.declared.answers.Outcome.{Outcome}
 use Rattle.gcl_core.specs.meaning.Reading.{Reading, gives, more_bits}
 use Rattle.gcl_core.specs.meaning.Runs.{capped, answer_of, run_on}
-use Rattle.gcl_core.specs.meaning.Syntax.{Source}
+use Rattle.gcl_core.specs.meaning.Syntax.{SourceProgram}
 use Rattle.gcl_core.proofs.SameOutcomes.{outcome_itself}
 use Rattle.gcl_core.proofs.Trees.{Tree, leaf, flip, run}
 use Rattle.weighing_law.specs.Prefixes.{has_ended_in, needs_more, each_shorter_front, is_just_read, IsReadTo, ReadsInOrder}
@@ -106,7 +106,7 @@ module _ (t : Tree Outcome) (answers : List Bool → Answer) (same : (w : List B
     apart = none_apart answers;
   }
 
-pub reads_in_order : (p : Source) (l : Limits) (answers : List Bool → Answer) → ((w : List Bool) → answers w ≡ run_on p l w) → ReadsInOrder answers
+pub reads_in_order : (p : SourceProgram) (l : Limits) (answers : List Bool → Answer) → ((w : List Bool) → answers w ≡ run_on p l w) → ReadsInOrder answers
 reads_in_order p l answers same =
     let h = tree_of_rounds p l.turns l.attempts l.rounds in
     tree_in_order h.tree answers (λ w. same w ∙ ap (answer_of w) (sym (h.runs w)))

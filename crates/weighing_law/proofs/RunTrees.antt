@@ -6,7 +6,7 @@ use Rattle.gcl_core.specs.declared.answers.Limit.TheVariants.{Turns, Attempts, R
 use Rattle.gcl_core.specs.declared.answers.Outcome.TheVariants as outcome
 use Rattle.gcl_core.specs.meaning.Arms.{parts_of}
 use Rattle.gcl_core.specs.meaning.Parts.{partial_sums}
-use Rattle.gcl_core.specs.meaning.Syntax.{Statement, Skip, Set, If, While, Choice, Choose, Uniform, Observe, Statements, done, ◌▸◌, ArmList, no_arm, arm, Source}
+use Rattle.gcl_core.specs.meaning.Syntax.{Statement, Skip, Set, If, While, Choice, Choose, Uniform, Observe, Statements, done, ◌▸◌, ArmList, no_arm, arm, SourceProgram}
 use Rattle.gcl_core.specs.meaning.Value.{State, Value, value_of, is_zero}
 use Rattle.gcl_core.specs.meaning.Reading.{Reading, gives, after}
 use Rattle.gcl_core.specs.meaning.Draw.{draw_on, choice_ends, uniform_ends}
@@ -101,7 +101,7 @@ module _ (n r : ℕ) where
     arm_tree (arm p b arms) (suc i) s = arm_tree arms i s
 
 -- ---- all rounds
-pub tree_of_rounds : (p : Source) (n r R : ℕ) → HasTree (rounds_on p n r R)
+pub tree_of_rounds : (p : SourceProgram) (n r R : ℕ) → HasTree (rounds_on p n r R)
 tree_of_rounds p n r zero = answer_tree (outcome.Limit Rounds)
 tree_of_rounds p n r (suc R) =
     then_tree (block_on n r p.body (zeros (length p.names))) (λ e rest. by_round p.result (λ x. gives x rest) e (rounds_on p n r R rest))

@@ -10,7 +10,7 @@ use Rattle.gcl_core.specs.weighing.Fractions.{IsShare}
 use Rattle.gcl_core.specs.weighing.LongestReading.{longest}
 use Rattle.gcl_core.specs.meaning.Runs.{run_on}
 use Rattle.gcl_core.specs.weighing.StringWeight.{outcome_weight}
-use Rattle.gcl_core.specs.meaning.Syntax.{Num, Var, Bin, Set, While, Choice, Choose, Uniform, Observe, done, ◌▸◌, no_arm, arm, Source}
+use Rattle.gcl_core.specs.meaning.Syntax.{Num, Var, Bin, Set, While, Choice, Choose, Uniform, Observe, done, ◌▸◌, no_arm, arm, SourceProgram}
 use Rattle.weighing_law.specs.Weighing.{limited_mass}
 use Rattle.weighing_law.specs.LimitsCost.{stated_mass, cut_off}
 use Rattle.weighing_law.specs.Prefixes.{is_just_read}
@@ -23,11 +23,11 @@ abbrev pub weight : ℕ → ℕ → Weight
 weight a b = record { num = a; den = b }
 
 -- so many strings are read to the outcome, and so many it has of all by its mass
-abbrev Weighs : Source → Limits → ℕ → Outcome → ℕ → Type 0
+abbrev Weighs : SourceProgram → Limits → ℕ → Outcome → ℕ → Type 0
 Weighs p l L x many = (outcome_weight (run_on p l) x L ≡ many) × IsShare many (2 ^ L) (limited_mass p l x)
 
 -- ---- choice 2/3 { x := 1; } or { x := 2; } return x;
-abbrev pub two_thirds : Source
+abbrev pub two_thirds : SourceProgram
 two_thirds = record { names = [] ∷ []; body = Choice (weight 2 3) (Set 0 (Num (pos 1)) ▸ done) (Set 0 (Num (pos 2)) ▸ done) ▸ done; result = Var 0 }
 
 two_thirds_1 : Weighs two_thirds (limits 0 1 1) 2 (outcome.Value (pos 1)) 2
@@ -72,7 +72,7 @@ two_thirds_cut : let m = cut_off two_thirds (limits 0 2 1) in m.0 * 16 ≡ m.1
 two_thirds_cut = refl
 
 -- ---- choose { 2: { x := 1; } | 0: { x := 2; } | 3: { x := 3; } } return x;
-abbrev pub two_none_three : Source
+abbrev pub two_none_three : SourceProgram
 two_none_three = record {
   names = [] ∷ [];
   body = Choose (arm 2 (Set 0 (Num (pos 1)) ▸ done) (arm 0 (Set 0 (Num (pos 2)) ▸ done) (arm 3 (Set 0 (Num (pos 3)) ▸ done) no_arm))) ▸ done;
@@ -108,7 +108,7 @@ three_fifths_stated : let m = stated_mass two_none_three (limits 0 2 1) (outcome
 three_fifths_stated = refl
 
 -- ---- x ~ uniform(2); y ~ uniform(2); observe x = 1 or y = 1; return x + y;
-abbrev pub one_of_two_coins : Source
+abbrev pub one_of_two_coins : SourceProgram
 one_of_two_coins = record {
   names = [] ∷ [] ∷ [];
   body = Uniform 0 (Num (pos 2)) ▸ Uniform 1 (Num (pos 2)) ▸ Observe (Bin op.Or (Bin op.Eq (Var 0) (Num (pos 1))) (Bin op.Eq (Var 1) (Num (pos 1)))) ▸ done;
@@ -125,7 +125,7 @@ two_rounds_limit : Weighs one_of_two_coins (limits 0 1 2) 4 (outcome.Limit Round
 two_rounds_limit = (refl, refl)
 
 -- ---- go := 1; while go = 1 { choice 1/2 { x := x + 1; } or { go := 0; } } return x;
-abbrev pub geometric : Source
+abbrev pub geometric : SourceProgram
 geometric = record {
   names = [] ∷ [] ∷ [];
   body = Set 0 (Num (pos 1))
@@ -144,7 +144,7 @@ two_turns_limit : Weighs geometric (limits 2 1 1) 2 (outcome.Limit Turns) 1
 two_turns_limit = (refl, refl)
 
 -- ---- return 7;
-abbrev pub seven : Source
+abbrev pub seven : SourceProgram
 seven = record { names = []; body = done; result = Num (pos 7) }
 
 seven_7 : Weighs seven (limits 0 1 1) 0 (outcome.Value (pos 7)) 1

@@ -6,7 +6,7 @@ use Rattle.gcl_core.specs.declared.answers.Limits.{Limits}
 use Rattle.gcl_core.specs.declared.answers.Outcome.{Outcome}
 use Rattle.gcl_core.specs.weighing.Fractions.{IsShare, IsWithinShare}
 use Rattle.gcl_core.specs.weighing.StringWeight.{outcome_weight}
-use Rattle.gcl_core.specs.meaning.Syntax.{Source}
+use Rattle.gcl_core.specs.meaning.Syntax.{SourceProgram}
 use Rattle.weighing_law.specs.Prefixes.{has_ended_in, is_just_read}
 use Rattle.weighing_law.specs.Weighing.{Suffices, limited_mass}
 
@@ -29,6 +29,6 @@ pub record CountsStrings (run : List Bool → Answer) : Type 0 where
   pub ended : (x : Outcome) (L : ℕ) → outcome_weight run x L ≡ ended_in run x L
 
 -- The strings of L bits that end in an outcome are never more than its mass has of all, and exactly so many at every length that suffices.
-pub record CountsMasses (run : List Bool → Answer) (p : Source) (l : Limits) : Type 0 where
+pub record CountsMasses (run : List Bool → Answer) (p : SourceProgram) (l : Limits) : Type 0 where
   pub within : (x : Outcome) (L : ℕ) → IsWithinShare (ended_in run x L) (2 ^ L) (limited_mass p l x)
   pub exact : (x : Outcome) (L : ℕ) → Suffices run L → IsShare (ended_in run x L) (2 ^ L) (limited_mass p l x)

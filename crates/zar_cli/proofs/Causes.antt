@@ -21,7 +21,7 @@ use Rattle.zar_cli.specs.Fits.{greatest_code}
 use Rattle.zar_cli.specs.Output.{Output}
 use Rattle.zar_cli.specs.Seen.{FilesSeen, SinkSeen, IsQuiet, NoWriteFailed}
 use Rattle.zar_cli.specs.Stages.{refusal_in, CountsRead, ClosesAfter}
-use Rattle.zar_cli.specs.Forms.{Word}
+use Rattle.zar_cli.specs.Forms.{CallWord}
 use Rattle.zar_cli.specs.Words.{command_of, is_bad}
 
 -- ---- the statuses of what is said
@@ -142,7 +142,7 @@ words_output : (c : Result Command ℕ) (o : Output) → FitsWords c o → IsTru
 words_output (Ok c) o fits bad = absurd (cc)
 words_output (Err at) o fits bad = ap status_of fits
 
-missing_names : (c : Result Command ℕ) (may : Word → Bool) (o : Output) → FitsWords c o → MissesNamed c may o → o ≡ Err NoFile → NamesMissing c may
+missing_names : (c : Result Command ℕ) (may : CallWord → Bool) (o : Output) → FitsWords c o → MissesNamed c may o → o ≡ Err NoFile → NamesMissing c may
 missing_names (Ok c) may o fits misses e = subst (λ x. MissesNamed (Ok c) may x) e misses
 missing_names (Err at) may o fits misses e = let both : ◌≡◌ {A = Output} (Err (Coded BAD_WORDS (Some at))) (Err NoFile) = sym fits ∙ e in cc
 
@@ -181,7 +181,7 @@ none_failed false false said shown o e is = is
 
 -- ---- the causes
 
-module _ (words : List Word) (status : ℕ) (files : FilesSeen) (out err : SinkSeen) (a : IsAnswer words status files out err) where
+module _ (words : List CallWord) (status : ℕ) (files : FilesSeen) (out err : SinkSeen) (a : IsAnswer words status files out err) where
   other : (n : ℕ) → status ≡ n → (n ≡ WRITE_FAULT → ⊥) → status_of a.output ≡ n
   other n e ne = is_other out.faults out.faults_now err.faults err.faults_now (status_of a.output) status a.delivered.out_failed a.delivered.err_failed a.delivered.status_is n e ne
 

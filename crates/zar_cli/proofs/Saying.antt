@@ -5,7 +5,7 @@ use Rattle.gcl_core.specs.declared.answers.Answer.{Answer}
 use Rattle.gcl_core.specs.declared.answers.Limits.{Limits}
 use Rattle.gcl_core.specs.declared.refusals.TheConstants.{TOO_FINE}
 use Rattle.gcl_core.specs.meaning.Runs.{run_on}
-use Rattle.gcl_core.specs.meaning.Syntax.{Source}
+use Rattle.gcl_core.specs.meaning.Syntax.{SourceProgram}
 use Rattle.gcl_core.specs.text.Texts.{IsWrittenIn, IsRefusedText, Spells, SpellsNone}
 use Rattle.gcl_parse.specs.OneReading.{HasOneReadingAsWritten, HasOneReading}
 use Rattle.report_text.specs.declared.refusals.Refusal.{Refusal}
@@ -22,7 +22,7 @@ use Rattle.zar_cli.specs.Output.{Output, says, reading, on_bits, if_written, if_
 use Rattle.zar_cli.specs.inner.Readings.{InFile, NoneInFile, GivesOnBits, Gives}
 use Rattle.zar_cli.specs.Seen.{FilesSeen, IsQuiet}
 use Rattle.zar_cli.specs.Stages.{CountsRead, MissesOneOf, IsStage}
-use Rattle.zar_cli.specs.Forms.{Word}
+use Rattle.zar_cli.specs.Forms.{CallWord}
 use Rattle.zar_cli.proofs.Refusals.{fits_more}
 
 -- a call that counted no fault refuses no read
@@ -39,8 +39,8 @@ said_as command files output other same said = subst (IsSaid (Ok command) files)
 
 -- ---- texts
 
-module _ (text : List ℕ) (go : Source → Output → Type 0) (output : Output) where
-  spelled_ok : (p : Source) → HasOneReading text → Spells text p → go p output → if_spelled go text output
+module _ (text : List ℕ) (go : SourceProgram → Output → Type 0) (output : Output) where
+  spelled_ok : (p : SourceProgram) → HasOneReading text → Spells text p → go p output → if_spelled go text output
   spelled_ok p one is gone = record {
     right = inl (p, is, gone);
     program = λ q other. subst (λ s. go s output) (one.one_program p q is other) gone;
@@ -56,7 +56,7 @@ module _ (text : List ℕ) (go : Source → Output → Type 0) (output : Output)
         e ∙ ap (λ c. Err (Coded c at)) same.0 ∙ ap (λ a. Err (Coded other a)) same.1;
   }
 
-  written_ok : (p : Source) (places : List ℕ) → HasOneReadingAsWritten text → IsWrittenIn text p places → go p output → if_written go text output
+  written_ok : (p : SourceProgram) (places : List ℕ) → HasOneReadingAsWritten text → IsWrittenIn text p places → go p output → if_written go text output
   written_ok p places one is gone = record {
     right = inl (p, (places, is), gone);
     program = λ q other. subst (λ s. go s output) (one.one_program p q places other.0 is other.1).0 gone;
@@ -86,9 +86,9 @@ module _ (file : Option (List ℕ)) where
   pub reading_bytes : (go : List ℕ → Output → Type 0) (output : Output) (bytes : List ℕ) → file ≡ Some bytes → go bytes output → reading file go output
   reading_bytes go output bytes there gone = subst (λ f. reading f go output) (sym there) gone
 
-  module _ (go : Source → Output → Type 0) where
+  module _ (go : SourceProgram → Output → Type 0) where
     -- its text spells this program
-    pub checked_ok : (output : Output) (p : Source) → InFile file HasOneReading (λ text. Spells text p) → go p output → reading file (if_spelled go) output
+    pub checked_ok : (output : Output) (p : SourceProgram) → InFile file HasOneReading (λ text. Spells text p) → go p output → reading file (if_spelled go) output
     checked_ok output p h gone = reading_bytes (if_spelled go) output h.text h.there (spelled_ok h.text go output p h.one h.is gone)
 
     pub checked_refused : (greatest : ℕ) (e : Refusal) → NoneInFile HasOneReading SpellsNone file e → FitsRefusal greatest e → (e ≡ Read → ⊥)
@@ -100,7 +100,7 @@ module _ (file : Option (List ℕ)) where
     checked_refused greatest NoFile none fits ne = inr (reading_none (if_spelled go) none)
 
     -- its text has this program
-    pub written_there : (output : Output) (p : Source) (places : List ℕ) → InFile file HasOneReadingAsWritten (λ text. IsWrittenIn text p places) → go p output
+    pub written_there : (output : Output) (p : SourceProgram) (places : List ℕ) → InFile file HasOneReadingAsWritten (λ text. IsWrittenIn text p places) → go p output
         → reading file (if_written go) output
     written_there output p places h gone = reading_bytes (if_written go) output h.text h.there (written_ok h.text go output p places h.one h.is gone)
 
@@ -128,7 +128,7 @@ module _ (file : Option (List ℕ)) {A : Type 0} (f : List Bool → A) where
 -- ---- stages
 
 -- a name of fewer is one of more
-pub misses_more : (few more : List Word) (may : Word → Bool) (r : Option Refusal) → (list_any may few ≡ true → list_any may more ≡ true)
+pub misses_more : (few more : List CallWord) (may : CallWord → Bool) (r : Option Refusal) → (list_any may few ≡ true → list_any may more ≡ true)
     → MissesOneOf few may r → MissesOneOf more may r
 misses_more few more may (Some NoFile) h misses = grind (arith, h)
 misses_more few more may (Some Read) h misses = tt
@@ -138,12 +138,12 @@ misses_more few more may (Some Memory) h misses = tt
 misses_more few more may None h misses = tt
 
 -- a stage that refuses by fewer codes
-pub stage_more : (names : List Word) (few more : ℕ) (files : FilesSeen) (r : Option Refusal) → few ≤ more → IsStage names few files r → IsStage names more files r
+pub stage_more : (names : List CallWord) (few more : ℕ) (files : FilesSeen) (r : Option Refusal) → few ≤ more → IsStage names few files r → IsStage names more files r
 stage_more names few more files None le stage = record { counts = stage.counts; closes = stage.closes; misses = stage.misses; fits = tt }
 stage_more names few more files (Some e) le stage = record { counts = stage.counts; closes = stage.closes; misses = stage.misses; fits = fits_more few more e le stage.fits }
 
 -- what a stage refuses is said
-pub said_refused : (command : Command) (files : FilesSeen) (names : List Word) (e : Refusal) → IsStage names (greatest_code command) files (Some e)
+pub said_refused : (command : Command) (files : FilesSeen) (names : List CallWord) (e : Refusal) → IsStage names (greatest_code command) files (Some e)
     → (list_any files.may_be_missing names ≡ true → list_any files.may_be_missing (names_in command) ≡ true)
     → (IsTrue files.told → IsQuiet files.faults files.faults_now → SaysOrRunsOut files.file command (Err e)) → IsSaid (Ok command) files (Err e)
 said_refused command files names e stage more tells = record {
@@ -165,12 +165,12 @@ said_memory command files counts = record { fits = tt; counts = counts; closes =
 
 -- ---- a command that takes an accepted program
 
-or_output : (file : Word → Option (List ℕ)) (command : Command) (Is : Output → Type 0) (output : Output) → (Is output → IsOutput file command output)
+or_output : (file : CallWord → Option (List ℕ)) (command : Command) (Is : Output → Type 0) (output : Output) → (Is output → IsOutput file command output)
     → OrMemory Is output → SaysOrRunsOut file command output
 or_output file command Is output is (inl memory) = inl memory
 or_output file command Is output is (inr h) = inr (is h)
 
-module _ (command : Command) (files : FilesSeen) (name program : Word) (go : Source → Output → Type 0) (same : name ≡ program) where
+module _ (command : Command) (files : FilesSeen) (name program : CallWord) (go : SourceProgram → Output → Type 0) (same : name ≡ program) where
   pub refused_checked : (e : Refusal) → IsStage (name ∷ []) (greatest_code command) files (Some e)
       → (IsTrue files.told → NoneInFile HasOneReading SpellsNone (files.file name) e)
       → (list_any files.may_be_missing (program ∷ []) ≡ true → list_any files.may_be_missing (names_in command) ≡ true)
@@ -182,7 +182,7 @@ module _ (command : Command) (files : FilesSeen) (name program : Word) (go : Sou
       (checked_refused (files.file program) go (greatest_code command) e (subst (λ n. NoneInFile HasOneReading SpellsNone (files.file n) e) same (none told)) stage.fits
       (no_read files.faults files.faults_now e stage.counts quiet)))
 
-  pub said_checked : (p : Source) (said : Said) → FitsSaid command said → files.faults_now ≡ files.faults
+  pub said_checked : (p : SourceProgram) (said : Said) → FitsSaid command said → files.faults_now ≡ files.faults
       → (IsTrue files.told → InFile (files.file name) HasOneReading (λ text. Spells text p)) → go p (Ok said)
       → (reading (files.file program) (if_spelled go) (Ok said) → IsOutput files.file command (Ok said)) → IsSaid (Ok command) files (Ok said)
   said_checked p said fits counts there gone is =
@@ -190,7 +190,7 @@ module _ (command : Command) (files : FilesSeen) (name program : Word) (go : Sou
       (λ told. inr (is (checked_ok (files.file program) go (Ok said) p (subst (λ n. InFile (files.file n) HasOneReading (λ text. Spells text p)) same (there told)) gone)))
 
   -- work on the program refuses it by a code of the command
-  pub work_refused : {A : Type 0} (say : A → Said) (p : Source) (e : Refusal) → files.faults_now ≡ files.faults
+  pub work_refused : {A : Type 0} (say : A → Said) (p : SourceProgram) (e : Refusal) → files.faults_now ≡ files.faults
       → (IsTrue files.told → InFile (files.file name) HasOneReading (λ text. Spells text p))
       → ((code : ℕ) (at : Option ℕ) → go p (Err (Coded code at)) → FitsRefusal (greatest_code command) (Coded code at)) → Gives say (go p) (Err e)
       → ((output : Output) → reading (files.file program) (if_spelled go) output → IsOutput files.file command output) → IsSaid (Ok command) files (Err e)
@@ -209,7 +209,7 @@ module _ (command : Command) (files : FilesSeen) (name program : Word) (go : Sou
 
 -- ---- a command that takes a program as it is written
 
-module _ (command : Command) (files : FilesSeen) (name program : Word) (go : Source → Output → Type 0) (same : name ≡ program) where
+module _ (command : Command) (files : FilesSeen) (name program : CallWord) (go : SourceProgram → Output → Type 0) (same : name ≡ program) where
   pub refused_written : (e : Refusal) → IsStage (name ∷ []) (greatest_code command) files (Some e)
       → (IsTrue files.told → NoneInFile HasOneReadingAsWritten IsRefusedText (files.file name) e)
       → (list_any files.may_be_missing (program ∷ []) ≡ true → list_any files.may_be_missing (names_in command) ≡ true)
@@ -221,7 +221,7 @@ module _ (command : Command) (files : FilesSeen) (name program : Word) (go : Sou
       (written_refused (files.file program) go (greatest_code command) e (subst (λ n. NoneInFile HasOneReadingAsWritten IsRefusedText (files.file n) e) same (none told)) stage.fits
       (no_read files.faults files.faults_now e stage.counts quiet)))
 
-  pub said_written : (p : Source) (places : List ℕ) (said : Said) → FitsSaid command said → files.faults_now ≡ files.faults
+  pub said_written : (p : SourceProgram) (places : List ℕ) (said : Said) → FitsSaid command said → files.faults_now ≡ files.faults
       → (IsTrue files.told → InFile (files.file name) HasOneReadingAsWritten (λ text. IsWrittenIn text p places)) → go p (Ok said)
       → (reading (files.file program) (if_written go) (Ok said) → IsOutput files.file command (Ok said)) → IsSaid (Ok command) files (Ok said)
   said_written p places said fits counts there gone is =
@@ -231,7 +231,7 @@ module _ (command : Command) (files : FilesSeen) (name program : Word) (go : Sou
 
 -- ---- a stage that comes after another
 
-pub stage_after : (name other : Word) (greatest : ℕ) (told : Bool) (file is : Word → Option (List ℕ)) (may might : Word → Bool) (faults before now : ℕ) (is_open : Bool) (r : Option Refusal)
+pub stage_after : (name other : CallWord) (greatest : ℕ) (told : Bool) (file is : CallWord → Option (List ℕ)) (may might : CallWord → Bool) (faults before now : ℕ) (is_open : Bool) (r : Option Refusal)
     → other ≡ name → might ≡ may → before ≡ faults
     → IsStage (other ∷ []) greatest (record { told = told; file = is; may_be_missing = might; faults = before; faults_now = now; open_now = is_open }) r
     → IsStage (name ∷ []) greatest (record { told = told; file = file; may_be_missing = may; faults = faults; faults_now = now; open_now = is_open }) r
@@ -252,11 +252,11 @@ or_second : (a b : Bool) → (b || false) ≡ true → (a || (b || false)) ≡ t
 or_second true b e = refl
 or_second false b e = e
 
-pub first_missing : (may : Word → Bool) (program bits : Word) → list_any may (program ∷ []) ≡ true → list_any may (program ∷ bits ∷ []) ≡ true
+pub first_missing : (may : CallWord → Bool) (program bits : CallWord) → list_any may (program ∷ []) ≡ true → list_any may (program ∷ bits ∷ []) ≡ true
 first_missing may program bits e = or_first (may program) (may bits) e
 
-module _ (files : FilesSeen) (program bits : Word) (limits : Limits) (p : Source) (there : IsTrue files.told → InFile (files.file program) HasOneReading (λ text. Spells text p)) where
-  abbrev run_said : Source → Output → Type 0
+module _ (files : FilesSeen) (program bits : CallWord) (limits : Limits) (p : SourceProgram) (there : IsTrue files.told → InFile (files.file program) HasOneReading (λ text. Spells text p)) where
+  abbrev run_said : SourceProgram → Output → Type 0
   run_said q = on_bits (files.file bits) (λ w. Answered (run_on q limits w))
 
   run_refused : (told : IsTrue files.told) (e : Refusal) → OrMemory (run_said p) (Err e) → SaysOrRunsOut files.file (Sample program (File bits) limits) (Err e)

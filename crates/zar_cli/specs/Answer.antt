@@ -11,7 +11,7 @@ use Rattle.zar_cli.specs.Fits.{names_in, Fits}
 use Rattle.zar_cli.specs.Output.{Output, TellsWords}
 use Rattle.zar_cli.specs.Seen.{FilesSeen, SinkSeen, IsQuiet, NoWriteFailed}
 use Rattle.zar_cli.specs.Stages.{refusal_in, CountsRead, ClosesAfter, MissesOneOf}
-use Rattle.zar_cli.specs.Forms.{Word}
+use Rattle.zar_cli.specs.Forms.{CallWord}
 use Rattle.zar_cli.specs.Words.{command_of, is_bad}
 
 -- ---- what is said
@@ -22,7 +22,7 @@ FitsWords (Ok command) output = Fits command output
 FitsWords (Err at) output = output ≡ Err (Coded BAD_WORDS (Some at))
 
 -- a file is missing only where one that the command names may be
-abbrev pub MissesNamed : Result Command ℕ → (Word → Bool) → Output → Type 0
+abbrev pub MissesNamed : Result Command ℕ → (CallWord → Bool) → Output → Type 0
 MissesNamed (Ok command) may_be_missing output = MissesOneOf (names_in command) may_be_missing (refusal_in output)
 MissesNamed (Err at) may_be_missing output = Unit {0}
 
@@ -37,21 +37,21 @@ pub record IsSaid (command : Result Command ℕ) (files : FilesSeen) (output : O
   pub tells : IsTrue files.told → IsQuiet files.faults files.faults_now → TellsWords files.file command output
 
 -- The answer of a call: its output, and how that is shown.
-pub record IsAnswer (words : List Word) (status : ℕ) (files : FilesSeen) (out err : SinkSeen) : Type 0 where
+pub record IsAnswer (words : List CallWord) (status : ℕ) (files : FilesSeen) (out err : SinkSeen) : Type 0 where
   pub output : Output
   pub said : IsSaid (command_of words) files output
   pub delivered : IsDelivered output status out err
 
 -- ---- why each status comes
 
-abbrev pub NamesMissing : Result Command ℕ → (Word → Bool) → Type 0
+abbrev pub NamesMissing : Result Command ℕ → (CallWord → Bool) → Type 0
 NamesMissing (Ok command) may_be_missing = IsTrue (list_any may_be_missing (names_in command))
 NamesMissing (Err at) may_be_missing = ⊥
 
 -- The statuses have their causes. A write fault comes exactly where a write failed; else a read fault exactly where a read failed; else
 -- the refusal of words exactly where they are no command. A file is missing only where one that the words name may be. After a failed
 -- read, and where a file is missing, none is open.
-pub record HasCause (words : List Word) (status : ℕ) (files : FilesSeen) (out err : SinkSeen) : Type 0 where
+pub record HasCause (words : List CallWord) (status : ℕ) (files : FilesSeen) (out err : SinkSeen) : Type 0 where
   pub write_fault : status ≡ WRITE_FAULT → CountsFault out.faults out.faults_now ⊎ CountsFault err.faults err.faults_now
   pub failed_write : (out.faults < out.faults_now) ⊎ (err.faults < err.faults_now) → status ≡ WRITE_FAULT
   pub read_fault : status ≡ READ_FAULT → CountsFault files.faults files.faults_now

@@ -4,7 +4,7 @@ use Rattle.gcl_core.specs.declared.answers.Limits.{Limits}
 use Rattle.gcl_core.specs.text.Canonical.{canonical_text}
 use Rattle.gcl_core.specs.text.ReadingOrder.{count_all}
 use Rattle.gcl_core.specs.meaning.Runs.{run_on}
-use Rattle.gcl_core.specs.meaning.Syntax.{Source}
+use Rattle.gcl_core.specs.meaning.Syntax.{SourceProgram}
 use Rattle.audit_walk.specs.Audited.{IsAuditOf}
 use Rattle.audit_walk.specs.Rows as audited
 use Rattle.generated_program.specs.Generated.{generated}
@@ -26,20 +26,20 @@ abbrev pub ShowsText : (List ℕ → Type 0) → Result Said Refusal → Type 0
 ShowsText Is output = (text : List ℕ) × Is text × (output ≡ Ok (Shown text))
 
 -- the lines of an audit
-pub record IsAuditText (p : Source) (depth : ℕ) (limits : Limits) (text : List ℕ) : Type 0 where
+pub record IsAuditText (p : SourceProgram) (depth : ℕ) (limits : Limits) (text : List ℕ) : Type 0 where
   pub rows : audited.Rows
   pub undecided : ℕ
   pub counted : IsAuditOf (run_on p limits) depth rows undecided
   pub lines : text ≡ audit_text depth rows undecided
 
 -- the lines of a tally
-pub record IsTallyText (p : Source) (range : SeedRange) (limits : Limits) (text : List ℕ) : Type 0 where
+pub record IsTallyText (p : SourceProgram) (range : SeedRange) (limits : Limits) (text : List ℕ) : Type 0 where
   pub rows : tallied.Rows
   pub counted : IsTallyOf (count_on p limits range) rows
   pub lines : text ≡ tally_rows_text rows
 
 -- how large a program is, and how many streams it is tallied over
-abbrev pub size_text : Source → List ℕ
+abbrev pub size_text : SourceProgram → List ℕ
 size_text p = number_text Statements (count_all p.body) ++ number_text Bytes (length (canonical_text p)) ++ number_text Streams GENERATED_STREAMS
 
 -- the first streams of the seed k

@@ -8,11 +8,11 @@ use Rattle.zar_cli.specs.declared.said.Said.TheVariants.{Answered, Accepted, Cos
 use Rattle.zar_cli.specs.declared.command.Command.{Command}
 use Rattle.zar_cli.specs.declared.command.Command.TheVariants.{Sample, Mass, Cost, Posterior, Audit, Tally, Hunt, Check, Show, Code, Gen, Fast, Help}
 use Rattle.zar_cli.specs.declared.command.Source.TheVariants.{File, Stream}
-use Rattle.zar_cli.specs.Forms.{Word}
+use Rattle.zar_cli.specs.Forms.{CallWord}
 use Rattle.zar_cli.specs.Output.{Output}
 
 -- the names of the files that a command reads, in their order
-abbrev pub names_in : Command → List Word
+abbrev pub names_in : Command → List CallWord
 names_in (Sample program (File bits) limits) = program ∷ bits ∷ []
 names_in (Sample program (Stream seed stream budget) limits) = program ∷ []
 names_in (Mass program turns attempts rounds) = program ∷ []

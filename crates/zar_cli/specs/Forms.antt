@@ -11,31 +11,31 @@ use Rattle.gcl_core.specs.declared.answers.TallyKey.{TallyKey}
 use Rattle.gcl_core.specs.declared.answers.TallyKey.TheVariants as key
 use Rattle.zar_cli.specs.declared.settings.TheConstants.{MOST_DIGITS}
 
-abbrev pub Word : Type 0
-Word = List ℕ
+abbrev pub CallWord : Type 0
+CallWord = List ℕ
 
 -- a file's name is any word that is not empty
-abbrev pub is_name : Word → Bool
+abbrev pub is_name : CallWord → Bool
 is_name [] = false
 is_name (b ∷ bs) = true
 
 -- a number is 1 to `MOST_DIGITS` digits, leading zeros allowed, with a value in its range
-abbrev pub number_in : ℕ → ℕ → Word → Option ℕ
+abbrev pub number_in : ℕ → ℕ → CallWord → Option ℕ
 number_in least most word =
     if nat_le 1 (length word) && nat_le (length word) MOST_DIGITS && list_all is_digit word && nat_le least (digits_value 10 word) && nat_le (digits_value 10 word) most
     then Some (digits_value 10 word) else None
 
 -- a value is a number with an optional minus sign, the code 45, before it, and has 64 bits
-abbrev pub value_in : Word → Option ℤ
+abbrev pub value_in : CallWord → Option ℤ
 value_in [] = None
 value_in (b ∷ bs) = if b == 45 then option_map (λ n. neg_ℤ (pos n)) (number_in 0 (2 ^ 63) bs) else option_map pos (number_in 0 (2 ^ 63 - 1) (b ∷ bs))
 
 -- to end in a value
-abbrev pub value_key : Word → Option TallyKey
+abbrev pub value_key : CallWord → Option TallyKey
 value_key word = option_map (λ v. key.Outcome (outcome.Value v)) (value_in word)
 
 -- to end in a fault, at a limit or where the bits run out, by a word, and else in a value
-abbrev pub key_named : Word → Option TallyKey
+abbrev pub key_named : CallWord → Option TallyKey
 key_named word =
     if bytes_eq word (codes "overflow") then Some (key.Outcome (outcome.Fault fault.Overflow))
     else (if bytes_eq word (codes "zero-divisor") then Some (key.Outcome (outcome.Fault fault.ZeroDivisor))

@@ -3,7 +3,7 @@ use Rattle.std.specs.Prelude.{ℕ, Option, None, IfNone, Result, Ok, Err}
 use Rattle.gcl_core.specs.declared.refusals.TheConstants.{TOO_WIDE, TOO_MANY_STATES, ALL_FAILED}
 use Rattle.gcl_core.specs.weighing.Fractions.{IsBelowOne}
 use Rattle.gcl_core.specs.weighing.Mass.{failed_mass, mass_of}
-use Rattle.gcl_core.specs.meaning.Syntax.{Source}
+use Rattle.gcl_core.specs.meaning.Syntax.{SourceProgram}
 use Rattle.mass_fold.specs.declared.error.MassError.TheVariants.{TooWide, TooManyStates, AllFailed}
 use Rattle.mass_fold.specs.Refused.{MassRefused}
 use Rattle.mass_fold.specs.Rows.{Rows, AreMasses}
@@ -14,7 +14,7 @@ use Rattle.zar_cli.specs.declared.said.Said.TheVariants.{Shown}
 use Rattle.zar_cli.specs.Tables.{masses_text}
 
 -- The rows are exact. Without a limit of rounds there are none where every round fails. A refusal comes only by its cause.
-pub data SaysMasses (p : Source) (turns : ℕ) (attempts rounds : Option ℕ) : Result Said Refusal → Type 0 where
+pub data SaysMasses (p : SourceProgram) (turns : ℕ) (attempts rounds : Option ℕ) : Result Said Refusal → Type 0 where
   exact : (rows : Rows) → AreMasses (mass_of p turns attempts rounds) rows → IfNone rounds (IsBelowOne (failed_mass p turns attempts))
       → SaysMasses p turns attempts rounds (Ok (Shown (masses_text rows)))
   too_wide : MassRefused TooWide p turns attempts rounds → SaysMasses p turns attempts rounds (Err (Coded TOO_WIDE None))

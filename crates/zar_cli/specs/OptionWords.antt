@@ -18,9 +18,9 @@ use Rattle.tally_range.specs.declared.range.TheConstants.{MOST_STREAMS, MOST_WOR
 use Rattle.zar_cli.specs.declared.settings.TheConstants.{USUAL_LIMIT, USUAL_BUDGET, USUAL_WORKERS}
 use Rattle.zar_cli.specs.declared.settings.Verb.{Verb}
 use Rattle.zar_cli.specs.declared.settings.Verb.TheVariants as verb
-use Rattle.zar_cli.specs.Forms.{Word, is_name, number_in, key_named}
+use Rattle.zar_cli.specs.Forms.{CallWord, is_name, number_in, key_named}
 
-abbrev pub setting_named : Word → Option Setting
+abbrev pub setting_named : CallWord → Option Setting
 setting_named word =
     if bytes_eq word (codes "--bits") then Some Bits
     else (if bytes_eq word (codes "--seed") then Some Seed
@@ -85,7 +85,7 @@ allows v setting = takes v (purpose_of setting)
 
 -- what the options said so far
 pub record Options : Type 0 where
-  pub bits : Option Word
+  pub bits : Option CallWord
   pub seed : Option ℕ
   pub stream : Option ℕ
   pub budget : Option ℕ
@@ -131,7 +131,7 @@ if_taken v None o = None
 if_taken v (Some setting) o = if not (allows v setting) || is_given setting o || excludes setting o then None else Some setting
 
 -- the options with this value, if it is of the option's form
-abbrev pub with_value : Setting → Word → Options → Option Options
+abbrev pub with_value : Setting → CallWord → Options → Option Options
 with_value Bits value o = if is_name value then Some (record o { bits = Some value }) else None
 with_value Seed value o = option_map (λ n. record o { seed = Some n }) (number_in 0 (2 ^ 64 - 1) value)
 with_value Stream value o = option_map (λ n. record o { stream = Some n }) (number_in 0 (2 ^ 64 - 1) value)
@@ -151,15 +151,15 @@ abbrev pub or_bad_value : Option Options → Result Options ℕ
 or_bad_value (Some o) = Ok o
 or_bad_value None = Err 1
 
-abbrev pub or_bad_name : Option Setting → Word → Options → Result Options ℕ
+abbrev pub or_bad_name : Option Setting → CallWord → Options → Result Options ℕ
 or_bad_name None value o = Err 0
 or_bad_name (Some setting) value o = or_bad_value (with_value setting value o)
 
-abbrev pub with_pair : Verb → Word → Word → Options → Result Options ℕ
+abbrev pub with_pair : Verb → CallWord → CallWord → Options → Result Options ℕ
 with_pair v name value o = or_bad_name (if_taken v (setting_named name) o) value o
 
 -- the options that the words from place i on give, where these were given before, or the place of the first wrong word
-abbrev pub options_from : Verb → ℕ → Options → List Word → Result Options ℕ
+abbrev pub options_from : Verb → ℕ → Options → List CallWord → Result Options ℕ
 options_from v i o [] = Ok o
 options_from v i o (name ∷ []) = Err (if is_some (if_taken v (setting_named name) o) then i + 1 else i)
 options_from v i o (name ∷ value ∷ rest) = elim (with_pair v name value o) [ Ok more ↦ options_from v (i + 2) more rest | Err k ↦ Err (i + k) ]
@@ -171,7 +171,7 @@ abbrev pub limits_of : Options → Limits
 limits_of o = record { turns = unwrap_or o.turns USUAL_LIMIT; attempts = unwrap_or o.attempts USUAL_LIMIT; rounds = unwrap_or o.rounds USUAL_LIMIT }
 
 -- where bits come from, if `--bits` or `--seed` says it
-abbrev pub source_from : Option Word → Option ℕ → ℕ → ℕ → Option Source
+abbrev pub source_from : Option CallWord → Option ℕ → ℕ → ℕ → Option Source
 source_from (Some bits) seed stream budget = Some (source.File bits)
 source_from None (Some seed) stream budget = Some (source.Stream seed stream budget)
 source_from None None stream budget = None

@@ -2,7 +2,7 @@
 use Rattle.std.specs.Prelude.{◌≡◌, ℕ, List, Option, Some, Ok}
 use Rattle.gcl_core.specs.declared.answers.Limits.{Limits}
 use Rattle.gcl_core.specs.meaning.Runs.{run_on}
-use Rattle.gcl_core.specs.meaning.Syntax.{Source}
+use Rattle.gcl_core.specs.meaning.Syntax.{SourceProgram}
 use Rattle.weighing_law.specs.Counting.{CountsMasses}
 use Rattle.weighing_law.specs.LimitsCost.{LimitsCost, MayPass}
 use Rattle.weighing_law.specs.Weighing.{WeighsExactly}
@@ -11,11 +11,11 @@ use Rattle.zar_cli.specs.declared.command.Command.TheVariants.{Sample}
 use Rattle.zar_cli.specs.declared.command.Source.TheVariants.{File}
 use Rattle.zar_cli.specs.declared.said.Said.TheVariants.{Answered}
 use Rattle.zar_cli.specs.Output.{Output, IsOutput}
-use Rattle.zar_cli.specs.Forms.{Word}
+use Rattle.zar_cli.specs.Forms.{CallWord}
 
-pub record SamplesExactly (text : List ℕ) (p : Source) (l : Limits) : Type 0 where
+pub record SamplesExactly (text : List ℕ) (p : SourceProgram) (l : Limits) : Type 0 where
   -- over files that hold the text and some bits, the command says how the program's run on the bits ends
-  pub says : (file : Word → Option (List ℕ)) (program bits : Word) (bytes : List ℕ) (output : Output) → file program ≡ Some text → file bits ≡ Some bytes
+  pub says : (file : CallWord → Option (List ℕ)) (program bits : CallWord) (bytes : List ℕ) (output : Output) → file program ≡ Some text → file bits ≡ Some bytes
       → IsOutput file (Sample program (File bits) l) output → output ≡ Ok (Answered (run_on p l (file_bits bytes)))
   -- the strings of bits on which it ends in an outcome weigh exactly the outcome's mass,
   pub weighs : WeighsExactly (run_on p l) p l

@@ -2,7 +2,7 @@
 
 ghost use Rattle.std.specs.Prelude.{ℕ, List};
 ghost use Rattle.gcl_core.specs.declared.answers.Limits.{Limits};
-ghost use Rattle.gcl_core.specs.meaning.Syntax.{Source};
+ghost use Rattle.gcl_core.specs.meaning.Syntax.{SourceProgram};
 ghost use Rattle.gcl_core.specs.text.Texts.{Spells};
 ghost use Rattle.zar_cli.specs.Samples.{SamplesExactly};
 
@@ -14,7 +14,7 @@ use weighing_law::{limits_cost_what_they_weigh, runs_weigh_exactly, strings_are_
 /// which it ends in an outcome weigh exactly the fraction that the program states under these limits, and so many of the strings of a
 /// length end in it. What the limits of attempts and of rounds cost is no more than they weigh.
 pub fn zar_samples_exactly()
-    ensures { (text : List ℕ) (p : Source) (l : Limits) → Spells text p → SamplesExactly text p l }
+    ensures { (text : List ℕ) (p : SourceProgram) (l : Limits) → Spells text p → SamplesExactly text p l }
 {
     spelled_programs_are_checked();
     runs_weigh_exactly();

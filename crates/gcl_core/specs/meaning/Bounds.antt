@@ -6,7 +6,7 @@ use Rattle.gcl_core.specs.declared.rules.TheConstants.{GREATEST_DENOMINATOR}
 use Rattle.gcl_core.specs.declared.syntax.Weight.{Weight}
 use Rattle.gcl_core.specs.meaning.Arms.{parts_of}
 use Rattle.gcl_core.specs.meaning.Parts.{HaveArmCount, AreParts}
-use Rattle.gcl_core.specs.meaning.Syntax.{Expression, Num, Truth, Var, Neg, Not, Bin, Statement, Skip, Set, If, While, Choice, Choose, Uniform, Observe, Statements, done, ◌▸◌, ArmList, no_arm, arm, Source}
+use Rattle.gcl_core.specs.meaning.Syntax.{Expression, Num, Truth, Var, Neg, Not, Bin, Statement, Skip, Set, If, While, Choice, Choose, Uniform, Observe, Statements, done, ◌▸◌, ArmList, no_arm, arm, SourceProgram}
 use Rattle.gcl_core.specs.meaning.Value.{fits_64, ExpressionBelow}
 
 -- each variable that is read or set is below a count
@@ -31,7 +31,7 @@ module _ (count : ℕ) where
     ArmsBelow (arm p b arms) = BlockBelow b × ArmsBelow arms
 
 -- below the count of the names
-pub record VariablesBelow (p : Source) : Type 0 where
+pub record VariablesBelow (p : SourceProgram) : Type 0 where
   pub body : BlockBelow (length p.names) p.body
   pub result : ExpressionBelow p.result (length p.names)
 
@@ -63,7 +63,7 @@ abbrev mutual
   ArmsFit no_arm = Unit {0}
   ArmsFit (arm p b arms) = BlockFits b × ArmsFit arms
 
-pub record NumbersFit (p : Source) : Type 0 where
+pub record NumbersFit (p : SourceProgram) : Type 0 where
   pub body : BlockFits p.body
   pub result : ExpressionFits p.result
 

@@ -3,7 +3,7 @@ use Rattle.std.specs.Prelude.{ℕ, zero, suc, ◌/◌, ◌%◌, ◌&&◌, ◌==�
 use Rattle.std.specs.List.{sum, list_all}
 use Rattle.gcl_core.specs.declared.syntax.Weight.{Weight}
 use Rattle.gcl_core.specs.meaning.Arms.{parts_of}
-use Rattle.gcl_core.specs.meaning.Syntax.{Statement, Skip, Set, If, While, Choice, Choose, Uniform, Observe, Statements, done, ◌▸◌, ArmList, no_arm, arm, Source}
+use Rattle.gcl_core.specs.meaning.Syntax.{Statement, Skip, Set, If, While, Choice, Choose, Uniform, Observe, Statements, done, ◌▸◌, ArmList, no_arm, arm, SourceProgram}
 
 -- the greatest number from 1 to n that divides both, or 1
 unfoldable pub greatest_divisor : ℕ → ℕ → ℕ → ℕ
@@ -53,5 +53,5 @@ abbrev mutual
   arms_in_lowest no_arm = no_arm
   arms_in_lowest (arm p b arms) = arm p (block_in_lowest b) (arms_in_lowest arms)
 
-abbrev pub in_lowest : Source → Source
+abbrev pub in_lowest : SourceProgram → SourceProgram
 in_lowest p = record { names = p.names; body = block_in_lowest p.body; result = p.result }

@@ -7,7 +7,7 @@ use Rattle.gcl_core.specs.declared.answers.Outcome.TheVariants as outcome
 use Rattle.gcl_core.specs.declared.answers.Answer.{Answer}
 use Rattle.gcl_core.specs.declared.answers.Answer.TheVariants.{Ended, MoreBits}
 use Rattle.gcl_core.specs.declared.answers.Limits.{Limits}
-use Rattle.gcl_core.specs.meaning.Syntax.{Expression, Source}
+use Rattle.gcl_core.specs.meaning.Syntax.{Expression, SourceProgram}
 use Rattle.gcl_core.specs.meaning.Value.{value_of}
 use Rattle.gcl_core.specs.meaning.Reading.{Reading, gives, more_bits, after}
 use Rattle.gcl_core.specs.meaning.Blocks.{End, on, failed, fault, limit, block_on}
@@ -25,7 +25,7 @@ abbrev pub rounds_with : (List Bool → Reading End) → Expression → ℕ → 
 rounds_with body result zero w = gives (outcome.Limit Rounds) w
 rounds_with body result (suc R) w = after (body w) (λ e rest. by_round result (λ x. gives x rest) e (rounds_with body result R rest))
 
-abbrev pub rounds_on : Source → ℕ → ℕ → ℕ → List Bool → Reading Outcome
+abbrev pub rounds_on : SourceProgram → ℕ → ℕ → ℕ → List Bool → Reading Outcome
 rounds_on p n r R w = rounds_with (block_on n r p.body (zeros (length p.names))) p.result R w
 
 -- the number of bits read saturates at 2 ^ 64 - 1
@@ -37,5 +37,5 @@ answer_of w (gives x rest) = Ended x (capped (length w - length rest))
 answer_of w more_bits = MoreBits (capped (length w))
 
 -- the run on bits: its outcome with the number of bits read, or that it needs a bit beyond them
-abbrev pub run_on : Source → Limits → List Bool → Answer
+abbrev pub run_on : SourceProgram → Limits → List Bool → Answer
 run_on p l w = answer_of w (rounds_on p l.turns l.attempts l.rounds w)

@@ -35,7 +35,7 @@ mutual
     arm : ℕ → Statements → ArmList → ArmList
 
 -- a program: the names of its variables, its body, and its result
-pub record Source : Type 0 where
+pub record SourceProgram : Type 0 where
   pub names : List Name
   pub body : Statements
   pub result : Expression

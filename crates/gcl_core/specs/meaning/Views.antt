@@ -7,7 +7,7 @@ use Rattle.gcl_core.specs.declared.syntax.Block.{Block}
 use Rattle.gcl_core.specs.declared.syntax.Arms.{Arms, Arms', out-Arms, Row_of-Arms-arms-2, end_of-Arms-arms-2, more_of-Arms-arms-2}
 use Rattle.gcl_core.specs.declared.syntax.Stmt.{Stmt, Row_of-Stmt, end_of-Stmt, more_of-Stmt}
 use Rattle.gcl_core.specs.declared.syntax.Stmt.TheVariants as stmt
-use Rattle.gcl_core.specs.meaning.Syntax.{Expression, Num, Truth, Var, Neg, Not, Bin, Statement, Skip, Set, If, While, Choice, Choose, Uniform, Observe, Statements, done, ◌▸◌, ArmList, no_arm, arm, Source}
+use Rattle.gcl_core.specs.meaning.Syntax.{Expression, Num, Truth, Var, Neg, Not, Bin, Statement, Skip, Set, If, While, Choice, Choose, Uniform, Observe, Statements, done, ◌▸◌, ArmList, no_arm, arm, SourceProgram}
 
 abbrev pub expression_of : Expr → Expression
 expression_of (expr.Num z) = Num z
@@ -54,5 +54,5 @@ arm_list_of (a ∷ arms) = arm a.0 (statements_of a.1) (arm_list_of arms)
 abbrev pub list_of_arms : Arms → ArmList
 list_of_arms a = arm_list_of (out-Arms a).arms.items
 
-abbrev pub source_of : Program → Source
+abbrev pub source_of : Program → SourceProgram
 source_of p = record { names = p.names; body = statements_of p.body; result = expression_of p.result }

@@ -7,7 +7,7 @@ use Rattle.gcl_core.specs.declared.syntax.Weight.{Weight}
 use Rattle.gcl_core.specs.declared.kinds.Kind.{Kind}
 use Rattle.gcl_core.specs.declared.kinds.Kind.TheVariants.{Number, Truth}
 use Rattle.gcl_core.specs.meaning.Arms.{parts_of}
-use Rattle.gcl_core.specs.meaning.Syntax.{Expression, Statement, Source}
+use Rattle.gcl_core.specs.meaning.Syntax.{Expression, Statement, SourceProgram}
 use Rattle.gcl_core.specs.meaning.Syntax as source
 use Rattle.gcl_core.specs.text.Kinds.{has_kind}
 use Rattle.gcl_core.specs.text.ReadingOrder.{listed}
@@ -23,9 +23,9 @@ pub data Flaw : Type 0 where
   too_fine : Flaw
 
 -- why a program is refused: for its names, or for the statement with this number
-pub data Refusal : Type 0 where
-  too_many_names : Refusal
-  flawed : Flaw → ℕ → Refusal
+pub data ProgramRefusal : Type 0 where
+  too_many_names : ProgramRefusal
+  flawed : Flaw → ℕ → ProgramRefusal
 
 -- ---- one statement
 
@@ -72,18 +72,18 @@ statement_flaw known (source.Choose arms) = parts_flaw (parts_of arms)
 -- ---- a program
 
 -- the first refusal among statements with these flaws or none, numbered from n on
-abbrev pub first_refusal : ℕ → List (Option Flaw) → Option Refusal
+abbrev pub first_refusal : ℕ → List (Option Flaw) → Option ProgramRefusal
 first_refusal n [] = None
 first_refusal n (Some flaw ∷ flaws) = Some (flawed flaw n)
 first_refusal n (None ∷ flaws) = first_refusal (n + 1) flaws
 
 -- of each statement in reading order, and last of the result, which is a number
-abbrev pub flaws_of : Source → List (Option Flaw)
+abbrev pub flaws_of : SourceProgram → List (Option Flaw)
 flaws_of p = map (statement_flaw (sets p.body)) (listed p.body) ++ expression_flaw (sets p.body) Number p.result ∷ []
 
 -- There are at most MOST_NAMES names, and no statement has a flaw.
-abbrev pub refusal_of : Source → Option Refusal
+abbrev pub refusal_of : SourceProgram → Option ProgramRefusal
 refusal_of p = if nat_lt MOST_NAMES (length p.names) then Some too_many_names else first_refusal 0 (flaws_of p)
 
-abbrev pub IsAccepted : Source → Type 0
+abbrev pub IsAccepted : SourceProgram → Type 0
 IsAccepted p = refusal_of p ≡ None

@@ -15,7 +15,7 @@ use Rattle.gcl_core.specs.declared.levels.Level.TheVariants as level
 use Rattle.gcl_core.specs.text.Names.{Name}
 use Rattle.gcl_core.specs.text.Levels.{level_of, rank, above}
 use Rattle.gcl_core.specs.text.Marks.{Mark, a_word, a_space, a_line_feed, marks_text}
-use Rattle.gcl_core.specs.meaning.Syntax.{Expression, Num, Truth, Var, Neg, Not, Bin, Statement, Skip, Set, If, While, Choice, Choose, Uniform, Observe, Statements, done, ◌▸◌, ArmList, no_arm, arm, Source}
+use Rattle.gcl_core.specs.meaning.Syntax.{Expression, Num, Truth, Var, Neg, Not, Bin, Statement, Skip, Set, If, While, Choice, Choose, Uniform, Observe, Statements, done, ◌▸◌, ArmList, no_arm, arm, SourceProgram}
 
 -- ---- marks of one word
 
@@ -170,11 +170,11 @@ abbrev mutual
 -- ---- programs
 
 -- the statements of the body, and the result on the last line
-abbrev pub canonical_marks : Source → List Mark
+abbrev pub canonical_marks : SourceProgram → List Mark
 canonical_marks p =
     block_lines 0 p.body ++ line 0 (around (key_mark key.Return ∷ a_space ∷ []) p.result (symbol_mark sym.Semicolon ∷ []))
 
-abbrev pub canonical_text : Source → List ℕ
+abbrev pub canonical_text : SourceProgram → List ℕ
 canonical_text p = marks_text p.names (canonical_marks p)
 
 -- the canonical text of an expression, with variables of these names

@@ -1,7 +1,7 @@
 -- Programs as they are written: a number of an expression is not below 0, since the sign `-` stands before it as an operator.
 -- This project's own rule.
 use Rattle.std.specs.Prelude.{◌≡◌, ℕ, ℤ, pos}
-use Rattle.gcl_core.specs.meaning.Syntax.{Expression, Num, Truth, Var, Neg, Not, Bin, Statement, Skip, Set, If, While, Choice, Choose, Uniform, Observe, Statements, done, ◌▸◌, ArmList, no_arm, arm, Source}
+use Rattle.gcl_core.specs.meaning.Syntax.{Expression, Num, Truth, Var, Neg, Not, Bin, Statement, Skip, Set, If, While, Choice, Choose, Uniform, Observe, Statements, done, ◌▸◌, ArmList, no_arm, arm, SourceProgram}
 
 -- the number is not below 0
 pub record IsNotNegative (z : ℤ) : Type 0 where
@@ -35,6 +35,6 @@ abbrev mutual
   ArmsHaveNoNegative no_arm = Unit {0}
   ArmsHaveNoNegative (arm p b arms) = BlockHasNoNegative b × ArmsHaveNoNegative arms
 
-pub record HasNoNegative (p : Source) : Type 0 where
+pub record HasNoNegative (p : SourceProgram) : Type 0 where
   pub body : BlockHasNoNegative p.body
   pub result : ExpressionHasNoNegative p.result

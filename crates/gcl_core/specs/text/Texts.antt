@@ -4,7 +4,7 @@ use Rattle.std.specs.Prelude.{◌≡◌, ℕ, List, Option, Some, None}
 use Rattle.std.specs.List.{slice_get}
 use Rattle.gcl_core.specs.declared.refusals.TheConstants.{TEXT_TOO_LONG, BAD_BYTE, NUMBER_TOO_WIDE, NAME_TOO_LONG, UNEXPECTED, TOO_DEEP, KIND_MISMATCH, UNKNOWN_NAME, TOO_MANY_NAMES, ZERO_DENOMINATOR, WEIGHT_ABOVE_ONE, TOO_FINE}
 use Rattle.gcl_core.specs.declared.tokens.Token.{Token}
-use Rattle.gcl_core.specs.meaning.Syntax.{Source}
+use Rattle.gcl_core.specs.meaning.Syntax.{SourceProgram}
 use Rattle.gcl_core.specs.text.Words.{kinds_of}
 use Rattle.gcl_core.specs.text.Lexing.{IsLexed, IsRefused, text_too_long, bad_byte, number_too_wide, name_too_long}
 use Rattle.gcl_core.specs.text.Nesting.{Nests, IsTooDeep}
@@ -16,7 +16,7 @@ use Rattle.gcl_core.specs.meaning.Lowest.{in_lowest}
 -- ---- as it is written
 
 -- the program that the text has as it is written, with the places of its statements and of `return`
-pub record IsWrittenIn (text : List ℕ) (p : Source) (places : List ℕ) : Type 0 where
+pub record IsWrittenIn (text : List ℕ) (p : SourceProgram) (places : List ℕ) : Type 0 where
   pub tokens : List Token
   pub lexed : IsLexed text tokens
   pub nested : Nests (kinds_of tokens)
@@ -41,13 +41,13 @@ flaw_code weight_above_one = WEIGHT_ABOVE_ONE
 flaw_code too_fine = TOO_FINE
 
 -- a program with these places is not accepted, for the reason of this code, at the place of the statement that has the flaw
-pub data IsRefusedProgram (p : Source) (places : List ℕ) : ℕ → Option ℕ → Type 0 where
+pub data IsRefusedProgram (p : SourceProgram) (places : List ℕ) : ℕ → Option ℕ → Type 0 where
   many_names : refusal_of p ≡ Some too_many_names → IsRefusedProgram p places TOO_MANY_NAMES None
   has_flaw : {flaw : Flaw} {n at : ℕ} → refusal_of p ≡ Some (flawed flaw n) → slice_get places n ≡ Some at → IsRefusedProgram p places (flaw_code flaw) (Some at)
 
 -- the text spells this program: it has an accepted program, whose weights are in lowest terms here
-pub record Spells (text : List ℕ) (p : Source) : Type 0 where
-  pub written : Source
+pub record Spells (text : List ℕ) (p : SourceProgram) : Type 0 where
+  pub written : SourceProgram
   pub places : List ℕ
   pub has : IsWrittenIn text written places
   pub accepted : IsAccepted written
@@ -56,4 +56,4 @@ pub record Spells (text : List ℕ) (p : Source) : Type 0 where
 -- the text spells no program
 pub data SpellsNone (text : List ℕ) : ℕ → Option ℕ → Type 0 where
   as_text : {code : ℕ} {at : Option ℕ} → IsRefusedText text code at → SpellsNone text code at
-  as_program : {p : Source} {places : List ℕ} {code : ℕ} {at : Option ℕ} → IsWrittenIn text p places → IsRefusedProgram p places code at → SpellsNone text code at
+  as_program : {p : SourceProgram} {places : List ℕ} {code : ℕ} {at : Option ℕ} → IsWrittenIn text p places → IsRefusedProgram p places code at → SpellsNone text code at

@@ -5,7 +5,7 @@ use Rattle.gcl_core.specs.declared.answers.Limit.TheVariants.{Rounds}
 use Rattle.gcl_core.specs.declared.answers.Outcome.{Outcome}
 use Rattle.gcl_core.specs.declared.answers.Outcome.TheVariants as outcome
 use Rattle.gcl_core.specs.meaning.Outcomes.{same_outcome, zeros, outcome_of}
-use Rattle.gcl_core.specs.meaning.Syntax.{Expression, Source}
+use Rattle.gcl_core.specs.meaning.Syntax.{Expression, SourceProgram}
 use Rattle.gcl_core.specs.meaning.Value.{value_of}
 use Rattle.gcl_core.specs.meaning.Blocks.{End, on, failed, fault, limit}
 use Rattle.gcl_core.specs.weighing.Fractions.{Fraction, zero_share, plus, times, power, power_sum, divided_by_rest}
@@ -30,7 +30,7 @@ is_failed failed = true
 is_failed _ = false
 
 -- under a limit of n turns, and of r attempts or none
-module _ (p : Source) (n : ℕ) (r : Option ℕ) where
+module _ (p : SourceProgram) (n : ℕ) (r : Option ℕ) where
   -- what a round gives the outcomes that are meant
   abbrev pub round_mass : (Outcome → Bool) → Fraction
   round_mass meant = sum_of (ends_in p.result meant) (weighted_ends n r p.body (zeros (length p.names)))

@@ -123,20 +123,20 @@ may_end (stmts ∷ s) = may_end s
 may_end (otherwise ∷ s) = may_end s
 may_end _ = false
 
-pub data Outcome : Type 0 where
-  accepts : Outcome
+pub data Verdict : Type 0 where
+  accepts : Verdict
   -- no further: the next of these words can't be taken, or they are none, and more are needed
-  stops : List Word → Outcome
+  stops : List Word → Verdict
 
-abbrev pub ended : Bool → Outcome
+abbrev pub ended : Bool → Verdict
 ended true = accepts
 ended false = stops []
 
-abbrev pub with_stack : Option (List Symbol) → List Word → (List Symbol → Outcome) → Outcome
+abbrev pub with_stack : Option (List Symbol) → List Word → (List Symbol → Verdict) → Verdict
 with_stack None here go = stops here
 with_stack (Some s) here go = go s
 
-unfoldable pub run : List Word → List Symbol → Outcome
+unfoldable pub run : List Word → List Symbol → Verdict
 run [] s = ended (may_end s)
 run (v ∷ ws) s = with_stack (take_word v s) (v ∷ ws) (run ws)
 

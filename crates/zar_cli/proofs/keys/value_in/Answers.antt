@@ -1,10 +1,10 @@
 use Rattle.std.proofs.Common.{◌≡◌, ◌≢◌, ◌∙◌, ◌^◌, ◌-◌, pos, neg_ℤ, [], ◌∷◌, None, option_map, refl, sym, ap, arith, if◌then◌else◌}
 use Rattle.std.proofs.lemmas.Bool.{ne_eqb}
 use Rattle.std.proofs.lemmas.Str.Pattern.{strip_prefix_char}
-use Rattle.zar_cli.specs.Forms.{Word, number_in, value_in}
+use Rattle.zar_cli.specs.Forms.{CallWord, number_in, value_in}
 use Rattle.zar_cli.proofs.keys.value_in.Goals as goal
 
-without_sign : (word : Word) → ((rest : Word) → word ≢ 45 ∷ rest) → value_in word ≡ option_map pos (number_in 0 (2 ^ 63 - 1) word)
+without_sign : (word : CallWord) → ((rest : CallWord) → word ≢ 45 ∷ rest) → value_in word ≡ option_map pos (number_in 0 (2 ^ 63 - 1) word)
 without_sign [] none = refl
 without_sign (b ∷ bs) none =
     let other = ne_eqb b 45 (λ is. none bs (ap (λ x. x ∷ bs) is)) in

@@ -1,18 +1,18 @@
 use Rattle.std.proofs.Common.{◌≡◌, ℕ, List, Option, Some, Ok, refl, subst}
 use Rattle.gcl_core.specs.declared.answers.Limits.{Limits}
 use Rattle.gcl_core.specs.meaning.Runs.{run_on}
-use Rattle.gcl_core.specs.meaning.Syntax.{Source}
+use Rattle.gcl_core.specs.meaning.Syntax.{SourceProgram}
 use Rattle.gcl_core.specs.text.Texts.{Spells}
 use Rattle.zar_io.specs.FileBits.{file_bits}
 use Rattle.zar_cli.specs.declared.command.Command.TheVariants.{Sample}
 use Rattle.zar_cli.specs.declared.command.Source.TheVariants.{File}
 use Rattle.zar_cli.specs.declared.said.Said.TheVariants.{Answered}
 use Rattle.zar_cli.specs.Output.{Output, IsOutput, reading, on_bits, if_spelled}
-use Rattle.zar_cli.specs.Forms.{Word}
+use Rattle.zar_cli.specs.Forms.{CallWord}
 use Rattle.zar_cli.proofs.laws.zar_samples_exactly.Goals as goal
 
 -- what is said of a file of bits, from what is said of the text
-said_of : (text : List ℕ) (p : Source) (l : Limits) → Spells text p → (file : Word → Option (List ℕ)) (program bits : Word) (bytes : List ℕ) (output : Output) →
+said_of : (text : List ℕ) (p : SourceProgram) (l : Limits) → Spells text p → (file : CallWord → Option (List ℕ)) (program bits : CallWord) (bytes : List ℕ) (output : Output) →
     file program ≡ Some text → file bits ≡ Some bytes → IsOutput file (Sample program (File bits) l) output → output ≡ Ok (Answered (run_on p l (file_bits bytes)))
 said_of text p l spells file program bits bytes output e d is =
     let of_text = subst (λ b. reading b (if_spelled (λ q. on_bits (file bits) (λ w. Answered (run_on q l w)))) output) e is in
