@@ -2,7 +2,7 @@
 use Rattle.std.proofs.Common.{◌≡◌, ◌≢◌, ℕ, List, Some, None, Result, ◌∙◌, refl, sym, ap, subst, arith}
 use Rattle.std.specs.Result.{IsErrAnd, IsErrOf}
 use Rattle.gcl_core.specs.declared.tokens.Token.{Token}
-use Rattle.gcl_core.specs.text.Acceptance.{Refusal, refusal_of}
+use Rattle.gcl_core.specs.text.Acceptance.{ProgramRefusal, refusal_of}
 use Rattle.gcl_core.specs.text.Derivation.{Derives}
 use Rattle.gcl_core.specs.text.Lexing.{IsLexed, text_too_long, bad_byte, number_too_wide, name_too_long}
 use Rattle.gcl_core.specs.text.Nesting.{Nests}
@@ -42,7 +42,7 @@ module _ (text : List ℕ) (p : SourceProgram) (spells : Spells text p) where
 
     -- nor has that a flaw
     pub is_accepted : (q : SourceProgram) (at : List ℕ) → ((o : SourceProgram) (others : List ℕ) → Derives text tokens o others → (o ≡ q) × (others ≡ at))
-        → (r : Refusal) → refusal_of q ≡ Some r → ⊥
+        → (r : ProgramRefusal) → refusal_of q ≡ Some r → ⊥
     is_accepted q at one r flawed =
         let same = (one spells.written spells.places derives).0 in
         let none : None ≡ Some r = sym spells.accepted ∙ ap refusal_of same ∙ flawed in
