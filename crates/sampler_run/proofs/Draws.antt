@@ -24,8 +24,8 @@ use Rattle.sampler_run.specs.Views.{machine_of}
 use Rattle.sampler_run.specs.inner.Going.{to_go}
 use Rattle.sampler_run.specs.inner.Ran.{CanRun, HasMoved, MovedTo}
 use Rattle.sampler_run.specs.inner.Taken.{Takes}
-use Rattle.sampler_run.specs.inner.Tried.{at_trial, HasTried, HasBegun}
-use Rattle.sampler_run.proofs.Rejections.{step_went, went_answered}
+use Rattle.sampler_run.specs.inner.Tried.{at_trial, HasTried, HasBegun, Went}
+use Rattle.sampler_run.proofs.Rejections.{step_went, went_answered, went_join}
 use Rattle.sampler_run.proofs.Takes.{takes_join}
 
 -- ---- registers that stand for the same machine
@@ -102,3 +102,12 @@ module _ (code : List Instruction) (l : Limits) (x b : ℕ) (m : Machine) (word 
 
   pub begun_answered : Answered code l m → Answered code l (at_trial m b t)
   begun_answered a = went_answered code l m (at_trial m b t) word left t.left a h.went
+
+  -- it goes on at a later attempt
+  pub begun_later : Went code l (at_trial m b t) (at_trial m b u) word t.left u.left → u.need < 64 → u.left ≤ t.left → HasBegun code l m word left b u
+  begun_later went few fewer = record {
+    went = went_join code l m (at_trial m b t) (at_trial m b u) word left t.left u.left h.went went;
+    bound = h.bound;
+    need = few;
+    within = let within = h.within in omega (arith, within, fewer);
+  }

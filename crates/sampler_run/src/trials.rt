@@ -1,13 +1,13 @@
 // Attempts of a draw below a bound, on the bits at hand and over plain values.
 
-ghost use Rattle.std.specs.Prelude.{◌≡◌, ℕ, ◌+◌, ◌-◌, ◌*◌, ◌/◌, ◌%◌, ◌^◌, ◌<◌, ◌≤◌, List, slice_get, Some};
+ghost use Rattle.std.specs.Prelude.{◌≡◌, ℕ, ◌+◌, ◌-◌, ◌*◌, ◌/◌, ◌%◌, ◌^◌, ◌<◌, ◌≤◌, List, slice_get, Some, MatchOption};
 ghost use Rattle.gcl_core.specs.meaning.Draw.{bits_for, bit as bit_of};
 ghost use Rattle.gcl_core.specs.meaning.Runs.{capped};
 ghost use Rattle.gcl_core.specs.meaning.Syntax.{Expression};
 ghost use Rattle.sampler_code.specs.Instruction.{Instruction, Range};
 ghost use Rattle.sampler_code.specs.Machine.{Machine};
 ghost use Rattle.sampler_code.specs.inner.Bounded.{Answered};
-ghost use Rattle.sampler_run.specs.inner.Tried.{at_trial, HasTried, IsSmallTrial};
+ghost use Rattle.sampler_run.specs.inner.Tried.{at_trial, HasTried, HasTriedAtOnce, IsSmallTrial};
 
 use crate::machine::is_below;
 use draw_tree::bits_for;
@@ -123,8 +123,8 @@ fn read_one(trial: Trial, bit: bool) -> Trial
 }
 
 // Attempts below a bound, by single bits of the lowest ones of a word.
-#[inline(never)]
-fn by_bits(bound: u64, word: u64, trial: Trial) -> (Trial, Came)
+#[inline(always)]
+pub(crate) fn by_bits(bound: u64, word: u64, trial: Trial) -> (Trial, Came)
     requires bound { (bound < 2 ^ 63) × (0 < bound) }
     requires need { trial.need < 64 }
     requires left { trial.left ≤ 64 }
@@ -150,27 +150,28 @@ fn by_bits(bound: u64, word: u64, trial: Trial) -> (Trial, Came)
 }
 
 // Attempts below a bound, on all bits of an attempt at once where those read so far are 0 and the others are the first of the lowest
-// bits of a word.
+// bits of a word: the number that is drawn, or `None` at an attempt that goes on by single bits.
 #[inline(always)]
-pub(crate) fn attempts(bound: u64, word: u64, trial: Trial) -> (Trial, Came)
+pub(crate) fn at_once(bound: u64, word: u64, trial: Trial) -> (Trial, Option<u64>)
     requires bound { (bound < 2 ^ 63) × (0 < bound) }
     requires need { trial.need < 64 }
     requires left { trial.left ≤ 64 }
     ensures tried { (code : List Instruction) (l : Limits) (x : ℕ) (e : Expression) (m : Machine) → slice_get code m.index ≡ Some (Range x e)
-        → Answered code l (at_trial m bound trial) → HasTried code l x bound m word trial result.0 result.1 }
-    ensures small { IsSmallTrial bound result.0 result.1 }
+        → Answered code l (at_trial m bound trial) → HasTriedAtOnce code l x bound m word trial result.0 result.1 }
+    ensures small { MatchOption result.1 (result.0.need < 64) (λ number. number < bound) }
+    ensures left { result.0.left ≤ trial.left }
 {
     let mut trial = trial;
     loop {
         if trial.low != 0 || trial.need == 0 || trial.need > trial.left {
-            return by_bits(bound, word, trial);
+            return (trial, None);
         }
         let number = first_bits(trial.need, word, trial.left);
         if number < bound {
-            return (read_all(trial), Came::Number(number));
+            return (read_all(trial), Some(number));
         }
         if trial.tries <= 1 {
-            return by_bits(bound, word, trial);
+            return (trial, None);
         }
         trial = again(
             bound,

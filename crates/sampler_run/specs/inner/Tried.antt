@@ -1,5 +1,5 @@
 -- Attempts of a draw below a bound, as plain values.
-use Rattle.std.specs.Prelude.{◌≡◌, ℕ, ◌<◌, ◌≤◌, ◌^◌, pos, List}
+use Rattle.std.specs.Prelude.{◌≡◌, ℕ, ◌<◌, ◌≤◌, ◌^◌, pos, List, Option, Some, None}
 use Rattle.gcl_core.specs.declared.answers.Limit.TheVariants.{Attempts}
 use Rattle.gcl_core.specs.declared.answers.Limits.{Limits}
 use Rattle.gcl_core.specs.declared.answers.Outcome.TheVariants as outcome
@@ -41,6 +41,11 @@ HasTried code l x b m word old new NeedBit =
 HasTried code l x b m word old new TriedOut =
     Takes (rest_of code l (at_trial m b old)) (rest_of code l (at_trial m b new)) (low_bits old.left word) (low_bits new.left word)
     × (step code l (at_trial m b new) ≡ ends (outcome.Limit Attempts))
+
+-- to a number that is drawn and stored, with less to go; or to an attempt, with no more to go
+abbrev pub HasTriedAtOnce : List Instruction → Limits → ℕ → ℕ → Machine → ℕ → Trial → Trial → Option ℕ → Type 0
+HasTriedAtOnce code l x b m word old new (Some v) = HasTried code l x b m word old new (Number v)
+HasTriedAtOnce code l x b m word old new None = Went code l (at_trial m b old) (at_trial m b new) word old.left new.left
 
 -- a number below the bound, or an attempt that has 63 bits at most
 abbrev pub IsSmallTrial : ℕ → Trial → Came → Type 0

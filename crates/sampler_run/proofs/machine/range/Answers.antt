@@ -1,4 +1,4 @@
-use Rattle.std.proofs.Common.{ℕ, ◌∙◌, sym, ap}
+use Rattle.std.proofs.Common.{◌∙◌, sym, ap}
 use Rattle.formula.specs.ReadBack.{expression_in}
 use Rattle.gcl_core.specs.meaning.Draw.{bits_for}
 use Rattle.sampler_code.specs.Machine.{Machine, Drawing, below, goes, first_attempt, ranges}

@@ -1,22 +1,16 @@
-use Rattle.std.proofs.Common.{◌≡◌, refl, sym, subst}
-use Rattle.zar_io.specs.FileBits.{low_bits}
+use Rattle.std.proofs.Common.{◌<◌, subst}
+use Rattle.std.specs.Prelude.{MatchOption}
 use Rattle.formula.specs.ReadBack.{expression_in}
-use Rattle.gcl_core.specs.declared.answers.Limit.TheVariants.{Attempts}
-use Rattle.gcl_core.specs.declared.answers.Outcome.TheVariants as outcome
-use Rattle.sampler_code.specs.Machine.{ends, step}
-use Rattle.sampler_code.specs.inner.Bounded.{rest_of}
 use Rattle.sampler_run.specs.Views.{machine_of}
-use Rattle.sampler_run.specs.inner.Resting.{Asks}
-use Rattle.sampler_run.specs.inner.Taken.{Takes}
-use Rattle.sampler_run.specs.inner.Tried.{HasTried, IsSmallTrial}
-use Rattle.sampler_run.proofs.Draws.{number_takes, number_less, need_takes, out_takes, begun_answered, stands_at}
+use Rattle.sampler_run.specs.inner.Tried.{HasTriedAtOnce}
+use Rattle.sampler_run.proofs.Draws.{number_takes, number_less, begun_answered, begun_later}
 use Rattle.sampler_run.proofs.stepping.draw_from.Goals as goal
 
 pub store_number-requires-clause-place : goal.store_number-requires-clause-place
 store_number-requires-clause-place c = (c.requires.can.sound.each c.args.m.now.index _ c.requires.at).0.0
 
-pub returns-in-Number : goal.returns-in-Number
-returns-in-Number c =
+pub returns-in-Some : goal.returns-in-Some
+returns-in-Some c =
     let code = c.args.code.now.instrs in
     let l = c.args.limits.now in
     let x = c.args.x in
@@ -25,19 +19,19 @@ returns-in-Number c =
     let m = machine_of c.args.m.now in
     let n = machine_of c.store_number.new.m in
     let t = c.args.trial in
-    let u = c.attempts-came.result.0 in
+    let u = c.at_once-number.result.0 in
     let h = c.requires.begun in
-    let tried = c.attempts-came.ensures.tried code l x (expression_in c.args.e.now) m c.requires.at (begun_answered code l x b m w c.args.left.now t u h c.requires.can.answered) in
-    let hand = subst (λ o. HasTried code l x b m w t u o) c.in-Number.is tried in
+    let tried = c.at_once-number.ensures.tried code l x (expression_in c.args.e.now) m c.requires.at (begun_answered code l x b m w c.args.left.now t u h c.requires.can.answered) in
+    let hand = subst (λ o. HasTriedAtOnce code l x b m w t u o) c.in-Some.is tried in
     let e = c.store_number.ensures in
     record {
-      takes = number_takes code l x b m w c.args.left.now t u h n c.in-Number.number e.stored hand;
-      moved = number_less code l x b m w c.args.left.now t u h n c.in-Number.number e.stored hand;
+      takes = number_takes code l x b m w c.args.left.now t u h n c.in-Some.number e.stored hand;
+      moved = number_less code l x b m w c.args.left.now t u h n c.in-Some.number e.stored hand;
       shape = record { turns = e.shape.turns; vars = e.shape.vars; stack = e.shape.stack };
     }
 
-pub returns-in-NeedBit : goal.returns-in-NeedBit
-returns-in-NeedBit c =
+pub draw_by_bits-requires-clause-begun : goal.draw_by_bits-requires-clause-begun
+draw_by_bits-requires-clause-begun c =
     let code = c.args.code.now.instrs in
     let l = c.args.limits.now in
     let x = c.args.x in
@@ -45,33 +39,9 @@ returns-in-NeedBit c =
     let w = c.args.word in
     let m = machine_of c.args.m.now in
     let t = c.args.trial in
-    let u = c.attempts-came.result.0 in
+    let u = c.at_once-number.result.0 in
     let h = c.requires.begun in
-    let tried = c.attempts-came.ensures.tried code l x (expression_in c.args.e.now) m c.requires.at (begun_answered code l x b m w c.args.left.now t u h c.requires.can.answered) in
-    let hand = subst (λ o. HasTried code l x b m w t u o) c.in-NeedBit.is tried in
-    let here = sym (stands_at m b u _ c.under_way-m.ensures) in
-    record {
-      takes = subst (λ n. Takes (rest_of code l m) (rest_of code l n) (low_bits c.args.left.now w) (low_bits u.left w)) here (need_takes code l x b m w c.args.left.now t u h hand);
-      moved = (subst (λ n. Asks (step code l n)) here hand.1, hand.2);
-      shape = record { turns = refl; vars = refl; stack = refl };
-    }
-
-pub returns-in-TriedOut : goal.returns-in-TriedOut
-returns-in-TriedOut c =
-    let code = c.args.code.now.instrs in
-    let l = c.args.limits.now in
-    let x = c.args.x in
-    let b = c.args.bound in
-    let w = c.args.word in
-    let m = machine_of c.args.m.now in
-    let t = c.args.trial in
-    let u = c.attempts-came.result.0 in
-    let h = c.requires.begun in
-    let tried = c.attempts-came.ensures.tried code l x (expression_in c.args.e.now) m c.requires.at (begun_answered code l x b m w c.args.left.now t u h c.requires.can.answered) in
-    let hand = subst (λ o. HasTried code l x b m w t u o) c.in-TriedOut.is tried in
-    let here = sym (stands_at m b u _ c.under_way-m-in-TriedOut.ensures) in
-    record {
-      takes = subst (λ n. Takes (rest_of code l m) (rest_of code l n) (low_bits c.args.left.now w) (low_bits u.left w)) here (out_takes code l x b m w c.args.left.now t u h hand);
-      moved = subst (λ n. step code l n ≡ ends (outcome.Limit Attempts)) here hand.1;
-      shape = record { turns = refl; vars = refl; stack = refl };
-    }
+    let tried = c.at_once-number.ensures.tried code l x (expression_in c.args.e.now) m c.requires.at (begun_answered code l x b m w c.args.left.now t u h c.requires.can.answered) in
+    let hand = subst (λ o. HasTriedAtOnce code l x b m w t u o) c.in-None.is tried in
+    let few = subst (λ o. MatchOption o (u.need < 64) (λ number. number < b)) c.in-None.is c.at_once-number.ensures.small in
+    begun_later code l x b m w c.args.left.now t u h hand few c.at_once-number.ensures.left

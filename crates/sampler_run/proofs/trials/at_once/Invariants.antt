@@ -6,7 +6,7 @@ use Rattle.sampler_code.specs.Instruction.{Instruction, Range}
 use Rattle.sampler_code.specs.Machine.{Machine}
 use Rattle.sampler_code.specs.inner.Bounded.{Answered}
 use Rattle.sampler_run.specs.inner.Tried.{at_trial, Went}
-use Rattle.sampler_run.proofs.trials.attempts.Given as goal
+use Rattle.sampler_run.proofs.trials.at_once.Given as goal
 
 abbrev pub invariant-loop-trial : goal.invariant-loop-trial
 invariant-loop-trial l = record {

@@ -2,23 +2,7 @@ use Rattle.std.proofs.Common.{◌≡◌, ◌≤◌, arith}
 use Rattle.sampler_run.specs.declared.trials.Came.TheVariants.{Number}
 use Rattle.sampler_run.specs.inner.Tried.{at_trial}
 use Rattle.sampler_run.proofs.Rejections.{trial_fails, trial_succeeds, went_answered, went_join, went_tried}
-use Rattle.sampler_run.proofs.trials.attempts.Goals as goal
-
-pub returns-then-trial-ne0-clause-tried : goal.returns-then-trial-ne0-clause-tried
-returns-then-trial-ne0-clause-tried c code l x e m at h =
-    let b = c.args.bound in
-    let t = c.loop-trial.trial in
-    let w = c.loop-trial.invariant.went code l x e m at h in
-    let now = went_answered code l (at_trial m b c.args.trial) (at_trial m b t) c.args.word c.args.trial.left t.left h w in
-    went_tried code l x b m c.args.word c.args.trial t _ _ w (c.by_bits.ensures.tried code l x e m at now)
-
-pub returns-then-trial-le1-clause-tried : goal.returns-then-trial-le1-clause-tried
-returns-then-trial-le1-clause-tried c code l x e m at h =
-    let b = c.args.bound in
-    let t = c.loop-trial.trial in
-    let w = c.loop-trial.invariant.went code l x e m at h in
-    let now = went_answered code l (at_trial m b c.args.trial) (at_trial m b t) c.args.word c.args.trial.left t.left h w in
-    went_tried code l x b m c.args.word c.args.trial t _ _ w (c.by_bits-then-trial-le1.ensures.tried code l x e m at now)
+use Rattle.sampler_run.proofs.trials.at_once.Goals as goal
 
 pub returns-then-number-bound-clause-tried : goal.returns-then-number-bound-clause-tried
 returns-then-number-bound-clause-tried c code l x e m at h =
