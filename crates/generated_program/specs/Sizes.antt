@@ -22,7 +22,7 @@ bytes_of_rest (suc (suc zero)) = 30
 bytes_of_rest (suc (suc (suc zero))) = 80
 bytes_of_rest _ = 136
 
--- the digits of the numbers below k that 5 divides, for k of at most 1000
+-- the digits of the numbers below k that 5 divides, for k of at most `GREATEST_NUMBER`
 abbrev pub digits_of_fives : ℕ → ℕ
 digits_of_fives k = (k + 4) / 5 + ((k + 4) / 5 - 2) + ((k + 4) / 5 - 20)
 

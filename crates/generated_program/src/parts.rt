@@ -2,6 +2,7 @@
 ghost use Rattle.std.specs.Prelude.{◌≡◌, ◌<◌, IfOk, pos};
 ghost use Rattle.gcl_core.specs.meaning.Syntax.{Num, Var, Bin, Set, done, ◌▸◌};
 ghost use Rattle.gcl_core.specs.meaning.Views.{expression_of, statement_of, statements_of};
+ghost use Rattle.generated_program.specs.declared.generating.TheConstants.{GREATEST_NUMBER};
 ghost use Rattle.generated_program.specs.Generated.{variable_names, plus_number, modulo, differs, less, add_one, numbered_statement};
 
 use gcl_core::{BinOp, Block, Expr, Names, Stmt, Weight};
@@ -80,7 +81,7 @@ fn increment(alloc: Global, x: u32) -> Result<Block, AllocError>
 // The statement of a number.
 #[tactic(auto, using(gcl_core::proofs::ViewLemmas::views))]
 pub fn statement(alloc: Global, i: u32) -> Result<Stmt, AllocError>
-    requires { i < 1000 }
+    requires { i < GREATEST_NUMBER }
     ensures { IfOk result (λ s. statement_of s ≡ numbered_statement i) }
 {
     let v = i % 8;
