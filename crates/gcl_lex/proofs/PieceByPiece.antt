@@ -10,7 +10,7 @@ use Rattle.gcl_core.specs.text.Pieces.{Longest, Piece, Leads, no_piece_more, one
 use Rattle.gcl_core.specs.text.Tokens.{token_at, tokens_from, tokens_of}
 use Rattle.gcl_core.specs.text.Lexing.{stands, IsLexed, PiecesReach}
 use Rattle.gcl_core.specs.declared.rules.TheConstants.{LONGEST_TEXT}
-use Rattle.gcl_lex.specs.inner.Reads.{Stands}
+use Rattle.gcl_lex.specs.inner.Reads.{StandsAs}
 
 -- one more piece
 leads_on : {text rest : List ℕ} {k : PieceKind} {n : ℕ} {ps : List Piece} → Leads text ps rest → Longest k rest n → Leads text (ps ++ record { kind = k; bytes = take n rest } ∷ []) (drop n rest)
@@ -59,7 +59,7 @@ placed start end k = record { kind = k; start = start; end = end }
 
 -- one more piece
 pub piece_read : {text rest : List ℕ} {at : ℕ} {found : List Token} {k : PieceKind} {n : ℕ} {kind : Option TokenKind}
-    → Reading text rest at found → Longest k rest n → Stands k (take n rest) kind → Reading text (drop n rest) (at + n) (found ++ cons_option (option_map (placed at (at + n)) kind) [])
+    → Reading text rest at found → Longest k rest n → StandsAs k (take n rest) kind → Reading text (drop n rest) (at + n) (found ++ cons_option (option_map (placed at (at + n)) kind) [])
 piece_read {text} {rest} {at} {found} {k} {n} {kind} r l s =
     let p : Piece = record { kind = k; bytes = take n rest } in
     let here_is : place_after 0 r.pieces ≡ at = let e = place_reached 0 r.leads in omega (arith, e, r.place) in

@@ -15,7 +15,7 @@ abbrev pub number_of_digits : List ℕ → Option ℕ
 number_of_digits ds = if nat_le (digits_value 10 ds) GREATEST_LITERAL then Some (digits_value 10 ds) else None
 
 -- the piece may stand, and this is what its token is
-pub record Stands (k : PieceKind) (bytes : List ℕ) (found : Option TokenKind) : Type 0 where
+pub record StandsAs (k : PieceKind) (bytes : List ℕ) (found : Option TokenKind) : Type 0 where
   pub stands : may_stand k bytes ≡ true
   pub kind : found ≡ kind_of k bytes
 
@@ -25,5 +25,5 @@ pub data Stops : PieceKind → List ℕ → ℕ → LexError → Type 0 where
   too_long : {bytes : List ℕ} {at : ℕ} → LONGEST_NAME < length bytes → Stops kind.Name bytes at (NameTooLong at)
 
 abbrev pub ReadsPiece : PieceKind → List ℕ → ℕ → Result (Option TokenKind) LexError → Type 0
-ReadsPiece k bytes at (Ok found) = Stands k bytes found
+ReadsPiece k bytes at (Ok found) = StandsAs k bytes found
 ReadsPiece k bytes at (Err e) = Stops k bytes at e

@@ -1,7 +1,7 @@
 use Rattle.std.proofs.Common.{◌≡◌, ℕ, List, refl, sym, ◌∙◌, ◌<◌, [], ◌∷◌, Some, None, Err, length, take, arith}
 use Rattle.std.proofs.lemmas.List.{append-nil}
 use Rattle.gcl_core.specs.text.Lexing.{long_text}
-use Rattle.gcl_lex.specs.inner.Reads.{Stands}
+use Rattle.gcl_lex.specs.inner.Reads.{StandsAs}
 use Rattle.gcl_lex.proofs.Cuts.{front_is, no_front, some_len}
 use Rattle.gcl_lex.proofs.InOrder.{lexed_in_order}
 use Rattle.gcl_lex.proofs.PieceByPiece.{nothing_read, piece_read, text_read}
@@ -45,7 +45,7 @@ loop-front-smaller-in_ok-push c =
 pub loop-front-preserved-in_ok-push : goal.loop-front-preserved-in_ok-push
 loop-front-preserved-in_ok-push c =
     let l = front_is c.loop-front.rest.now c.in-Some.front (sym c.front_of.ensures ∙ c.in-Some.is) in
-    let s : Stands c.in-Some.front.kind (take c.in-Some.front.len c.loop-front.rest.now) (Some c.in-Some-2.kind) = rw (c.in-Some-2.is, c.split_at.ensures.front) at c.in_ok-kind.ensures in
+    let s : StandsAs c.in-Some.front.kind (take c.in-Some.front.len c.loop-front.rest.now) (Some c.in-Some-2.kind) = rw (c.in-Some-2.is, c.split_at.ensures.front) at c.in_ok-kind.ensures in
     rw (c.in_ok-push.ensures.items, c.split_at.ensures.back) (piece_read c.loop-front.invariant l s)
 
 pub loop-front-smaller : goal.loop-front-smaller
@@ -57,7 +57,7 @@ loop-front-smaller c =
 pub loop-front-preserved : goal.loop-front-preserved
 loop-front-preserved c =
     let l = front_is c.loop-front.rest.now c.in-Some.front (sym c.front_of.ensures ∙ c.in-Some.is) in
-    let s : Stands c.in-Some.front.kind (take c.in-Some.front.len c.loop-front.rest.now) None = rw (c.in_default-2.is, c.split_at.ensures.front) at c.in_ok-kind.ensures in
+    let s : StandsAs c.in-Some.front.kind (take c.in-Some.front.len c.loop-front.rest.now) None = rw (c.in_default-2.is, c.split_at.ensures.front) at c.in_ok-kind.ensures in
     rw c.split_at.ensures.back (rw append-nil at (piece_read c.loop-front.invariant l s))
 
 pub returns-then-is_empty-clause-order : goal.returns-then-is_empty-clause-order
