@@ -1,7 +1,7 @@
 -- Facts of all that a program names: its variables lie below a count, its numbers have 64 bits, and a fact of each weight and of the
 -- parts of each choice among several.
 -- Programs of the code have numbers of 64 bits by their type.
-use Rattle.std.specs.Prelude.{ℕ, ◌<◌, ◌≤◌, IsTrue, List, length}
+use Rattle.std.specs.Prelude.{ℕ, ◌<◌, ◌≤◌, ℤ, IsTrue, List, length}
 use Rattle.gcl_core.specs.declared.rules.TheConstants.{GREATEST_DENOMINATOR}
 use Rattle.gcl_core.specs.declared.syntax.Weight.{Weight}
 use Rattle.gcl_core.specs.meaning.Arms.{parts_of}
@@ -35,33 +35,51 @@ pub record VariablesBelow (p : SourceProgram) : Type 0 where
   pub body : BlockBelow (length p.names) p.body
   pub result : ExpressionBelow p.result (length p.names)
 
--- each number has 64 bits
+-- a fact of each number
+module _ (Fact : ℤ → Type 0) where
+  abbrev pub ExpressionNumbers : Expression → Type 0
+  ExpressionNumbers (Num z) = Fact z
+  ExpressionNumbers (Truth b) = Unit {0}
+  ExpressionNumbers (Var x) = Unit {0}
+  ExpressionNumbers (Neg a) = ExpressionNumbers a
+  ExpressionNumbers (Not a) = ExpressionNumbers a
+  ExpressionNumbers (Bin op a b) = ExpressionNumbers a × ExpressionNumbers b
+
+  abbrev mutual
+    pub StatementNumbers : Statement → Type 0
+    StatementNumbers Skip = Unit {0}
+    StatementNumbers (Set x e) = ExpressionNumbers e
+    StatementNumbers (If e a c) = ExpressionNumbers e × BlockNumbers a × BlockNumbers c
+    StatementNumbers (While e a) = ExpressionNumbers e × BlockNumbers a
+    StatementNumbers (Choice w a c) = BlockNumbers a × BlockNumbers c
+    StatementNumbers (Choose arms) = ArmsNumbers arms
+    StatementNumbers (Uniform x e) = ExpressionNumbers e
+    StatementNumbers (Observe e) = ExpressionNumbers e
+
+    pub BlockNumbers : Statements → Type 0
+    BlockNumbers done = Unit {0}
+    BlockNumbers (s ▸ b) = StatementNumbers s × BlockNumbers b
+
+    pub ArmsNumbers : ArmList → Type 0
+    ArmsNumbers no_arm = Unit {0}
+    ArmsNumbers (arm p b arms) = BlockNumbers b × ArmsNumbers arms
+
+-- the number has 64 bits
+abbrev pub NumberFits : ℤ → Type 0
+NumberFits z = IsTrue (fits_64 z)
+
+-- each number has
 abbrev pub ExpressionFits : Expression → Type 0
-ExpressionFits (Num z) = IsTrue (fits_64 z)
-ExpressionFits (Truth b) = Unit {0}
-ExpressionFits (Var x) = Unit {0}
-ExpressionFits (Neg a) = ExpressionFits a
-ExpressionFits (Not a) = ExpressionFits a
-ExpressionFits (Bin op a b) = ExpressionFits a × ExpressionFits b
+ExpressionFits = ExpressionNumbers NumberFits
 
-abbrev mutual
-  pub StatementFits : Statement → Type 0
-  StatementFits Skip = Unit {0}
-  StatementFits (Set x e) = ExpressionFits e
-  StatementFits (If e a c) = ExpressionFits e × BlockFits a × BlockFits c
-  StatementFits (While e a) = ExpressionFits e × BlockFits a
-  StatementFits (Choice w a c) = BlockFits a × BlockFits c
-  StatementFits (Choose arms) = ArmsFit arms
-  StatementFits (Uniform x e) = ExpressionFits e
-  StatementFits (Observe e) = ExpressionFits e
+abbrev pub StatementFits : Statement → Type 0
+StatementFits = StatementNumbers NumberFits
 
-  pub BlockFits : Statements → Type 0
-  BlockFits done = Unit {0}
-  BlockFits (s ▸ b) = StatementFits s × BlockFits b
+abbrev pub BlockFits : Statements → Type 0
+BlockFits = BlockNumbers NumberFits
 
-  pub ArmsFit : ArmList → Type 0
-  ArmsFit no_arm = Unit {0}
-  ArmsFit (arm p b arms) = BlockFits b × ArmsFit arms
+abbrev pub ArmsFit : ArmList → Type 0
+ArmsFit = ArmsNumbers NumberFits
 
 pub record NumbersFit (p : SourceProgram) : Type 0 where
   pub body : BlockFits p.body
