@@ -1,9 +1,10 @@
 -- Draws on a table, entry by entry.
-use Rattle.std.proofs.Common.{◌≡◌, ℕ, zero, suc, ◌+◌, ◌-◌, ◌*◌, ◌≤◌, ◌<◌, ◌^◌, pos, [], ◌∷◌, Some, None, slice_set, refl, sym, ap, ◌∙◌, subst, arith}
+use Rattle.std.proofs.Common.{◌≡◌, ℕ, zero, suc, ◌+◌, ◌-◌, ◌*◌, ◌≤◌, ◌<◌, ◌^◌, pos, [], ◌∷◌, Option, Some, None, slice_set, refl, sym, ap, ◌∙◌, subst, arith}
 use Rattle.std.proofs.Math.Nat.{mul-le-mul_left}
 use Rattle.gcl_core.specs.meaning.Value.{State}
 use Rattle.gcl_core.specs.meaning.Blocks.{End}
 use Rattle.gcl_core.specs.weighing.Fractions.{Fraction, times, one}
+use Rattle.gcl_core.specs.weighing.WeightedEnds.{class_weight, no_class_weight}
 use Rattle.frac128.specs.Fraction.{IsEqual, product_of}
 use Rattle.frac128.proofs.Divisors.{product_pos}
 use Rattle.mass_tables.specs.Scale.{whole, Whole, amount}
@@ -16,7 +17,7 @@ use Rattle.mass_fold.specs.declared.ended.Gone.{Gone}
 use Rattle.mass_fold.specs.declared.ended.Ended.{Ended}
 use Rattle.mass_fold.specs.Amounts.{Entries, held, Held, Blames, PutGives, PutBlames}
 use Rattle.mass_fold.specs.Ended.{end_of, rows_of, EndGives, EndBlames}
-use Rattle.mass_fold.specs.Steps.{DrawsOn, DrawBlames, AddedBy, StoppedBy, BlamedBy, SpreadGives, SpreadBlames, at_numbers}
+use Rattle.mass_fold.specs.Steps.{DrawsOn, DrawBlames, PartsBlame, AddedBy, StoppedBy, BlamedBy, SpreadGives, SpreadBlames, at_numbers}
 use Rattle.mass_fold.proofs.Insertion.{whole_pos, numerator_pos}
 use Rattle.mass_fold.proofs.Powers.{equal_whole}
 
@@ -94,6 +95,10 @@ blamed_put w u v fs F f h s t k e wp eq up q r g N L I Np hs we fp a du dv b bv 
 pub blamed_part : (w u v : Fraction) (fs : Entries) (F : Ended) (f : Fraction) (g : (State → ℕ) → ℕ) (k : (End → ℕ) → ℕ) → 0 < w.1 → IsEqual w u → 1 ≤ g (λ s. 1) → product_of f w ≡ None → BlamedBy u v fs F f g k TooWide
 blamed_part w u v fs F f g k wp eq one q N L I Np hs we fp a du dv b bv part most few most' =
     refused_at N f w u Np wp eq a b (let z = part (λ s. 1) in let m = mul-le-mul_left (whole N (times f u)) one in omega arith) q
+
+-- the parts of the draw do not fit
+pub blamed_parts : (b : ℕ) (r : Option ℕ) (fs : Entries) (F : Ended) (f : Fraction) (g : (State → ℕ) → ℕ) (k : (End → ℕ) → ℕ) → PartsBlame b r → BlamedBy (class_weight b r 1) (no_class_weight b r) fs F f g k TooWide
+blamed_parts b r fs F f g k x N L I Np hs we fp a du dv = λ _ _ _ _ _ _. x N Np du dv
 
 -- one weight among what has ended
 pub stopped_end : (w u : Fraction) (F F' : Ended) (f h : Fraction) (x : Gone) → 0 < w.1 → IsEqual w u → product_of f w ≡ Some h → EndGives F F' x h → StoppedBy u F F' f (λ G. G (end_of x))

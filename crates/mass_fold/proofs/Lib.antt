@@ -1,3 +1,4 @@
+pub mod Fits
 pub mod Insertion
 pub mod Entries
 pub mod OutcomeKeys

@@ -3,7 +3,7 @@ use Rattle.std.proofs.Common.{◌≡◌, ℕ, ◌+◌, ◌*◌, ◌^◌, ◌≤�
 use Rattle.std.proofs.Math.Nat.{mul-le-mul_left, mul-le-mul_right}
 use Rattle.gcl_core.specs.meaning.Value.{State}
 use Rattle.gcl_core.specs.weighing.Fractions.{Fraction, times}
-use Rattle.gcl_core.specs.weighing.WeightedEnds.{class_weight, no_class_weight}
+use Rattle.gcl_core.specs.weighing.WeightedEnds.{class_weight}
 use Rattle.frac128.specs.Fraction.{InLowest, IsEqual, sum_of, product_of}
 use Rattle.frac128.proofs.Divisors.{product_pos}
 use Rattle.mass_tables.specs.Scale.{whole, Whole}
@@ -11,7 +11,7 @@ use Rattle.mass_tables.proofs.Wholes.{whole_from, sum_whole, sum_wide, product_w
 use Rattle.mass_fold.specs.declared.meter.Meter.{Meter}
 use Rattle.mass_fold.specs.declared.meter.Meter.TheVariants.{Off, Bits, TooWide}
 use Rattle.mass_fold.specs.Amounts.{Entries, held}
-use Rattle.mass_fold.specs.Steps.{EachState, IsParts}
+use Rattle.mass_fold.specs.Steps.{EachState, IsParts, PartsBlame}
 use Rattle.mass_fold.specs.Metering.{Counted, AddsBits, IsPriced, IsPrice, PriceBlames, CountsAll, CountsRest}
 use Rattle.mass_fold.proofs.Insertion.{whole_pos}
 use Rattle.mass_fold.proofs.Powers.{equal_whole}
@@ -121,8 +121,8 @@ module _ (undecided b : ℕ) (r : Option ℕ) (part rest over : Fraction) (is : 
   pub price_wide : product_of part over ≡ None → PriceBlames undecided b r
   price_wide e M C Mp one k h = let p = part_whole M k in product_wide M C part over Mp one p.1 (omega (arith, p.0)) e
 
-pub parts_wide : (undecided b : ℕ) (r : Option ℕ) → ((N L : ℕ) → 0 < N → Whole N (class_weight b r 1) → Whole N (no_class_weight b r) → 2 ^ 128 ≤ N) → PriceBlames undecided b r
-parts_wide undecided b r x M C Mp one k h = let y = x M 0 Mp k.one k.none in let z : M * 1 ≤ M * C = mul-le-mul_left M one in omega arith
+pub parts_wide : (undecided b : ℕ) (r : Option ℕ) → PartsBlame b r → PriceBlames undecided b r
+parts_wide undecided b r x M C Mp one k h = let y = x M Mp k.one k.none in let z : M * 1 ≤ M * C = mul-le-mul_left M one in omega arith
 
 -- a price that does not fit
 pub wide_here : (undecided b : ℕ) (r : Option ℕ) (Fact : ℕ → State → Type 0) (p : ℕ → State → ℕ) (s : State) (f sum : Fraction) (es : Entries) → PriceBlames undecided b r →

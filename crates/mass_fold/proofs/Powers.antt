@@ -14,7 +14,7 @@ use Rattle.frac128.proofs.Divisors.{coprime_parts, coprime_product, coprime_prod
 use Rattle.mass_tables.specs.Scale.{whole, Whole}
 use Rattle.mass_tables.proofs.Wholes.{whole_from, lowest_divides, product_refused}
 use Rattle.mass_tables.proofs.Draws.{each_part, no_part, all_parts, parts_add_up}
-use Rattle.mass_fold.specs.Steps.{IsPower, PowerBlames, IsParts}
+use Rattle.mass_fold.specs.Steps.{IsPower, PowerBlames, IsParts, PartsBlame}
 
 -- two fractions of one value
 pub equal_whole : (N : ℕ) (f g : Fraction) → 0 < f.1 → IsEqual f g → Whole N g → (whole N f ≡ whole N g) × Whole N f
@@ -177,8 +177,8 @@ module _ (b : ℕ) (bp : 1 ≤ b) where
     rest_as rest i =
         equal_trans rest (power again r) (Q, D) (power_pos again l r) i.is (power_as again (rejected_numbers b) (bits_for b) is r)
 
-    pub parts_refused : PowerBlames again r → (N L : ℕ) → 0 < N → Whole N (class_weight b (Some r) 1) → Whole N (no_class_weight b (Some r)) → 2 ^ 128 ≤ N
-    parts_refused h N L Np w v = h N Np (equal_whole N (power again r) (no_class_weight b (Some r)) (power_pos again l r) (power_as again (rejected_numbers b) (bits_for b) is r) v).1
+    pub parts_refused : PowerBlames again r → PartsBlame b (Some r)
+    parts_refused h N Np w v = h N Np (equal_whole N (power again r) (no_class_weight b (Some r)) (power_pos again l r) (power_as again (rejected_numbers b) (bits_for b) is r) v).1
 
     module _ (rest given over : Fraction) (i : IsPower again r rest) (gl : InLowest given) (ol : InLowest over) (ge : IsEqual given (rest.1 - rest.0, rest.1)) (oe : IsEqual over (1, b)) where
       part_as : (times given over).0 * D ≡ 1 * S * (times given over).1
@@ -211,8 +211,8 @@ module _ (b : ℕ) (bp : 1 ≤ b) where
           joined : (x y t0 t1 S D : ℕ) → x * t1 ≡ t0 * y → t0 * D ≡ 1 * S * t1 → t1 * (x * D) ≡ t1 * (1 * S * y)
           joined x y t0 t1 S D e f = let a = ap (λ u. u * D) e in let c = ap (λ u. u * y) f in omega arith
 
-      pub part_refused : product_of given over ≡ None → (N L : ℕ) → 0 < N → Whole N (class_weight b (Some r) 1) → Whole N (no_class_weight b (Some r)) → 2 ^ 128 ≤ N
-      part_refused e N L Np w v =
+      pub part_refused : product_of given over ≡ None → PartsBlame b (Some r)
+      part_refused e N Np w v =
           let x = equal_whole N (times given over) (class_weight b (Some r) 1) given_pos part_as w in
           let m : 1 * S ≤ D = let t = parts_add_up b (Some r) in let o = mul-le-mul_left S bp in omega arith in
           product_refused N given over Np x.1 (let z = whole_at_most N (class_weight b (Some r) 1).0 (class_weight b (Some r) 1).1 m w in omega (arith, x.0)) e

@@ -8,18 +8,11 @@ use Rattle.gcl_core.specs.weighing.WeightedEnds.{class_weight}
 use Rattle.gcl_core.proofs.EqualClasses.{last_of_equal}
 use Rattle.cost_law.specs.ExpectedBits.{attempt_bits}
 use Rattle.mass_tables.specs.Scale.{whole, Whole}
-use Rattle.mass_fold.specs.declared.error.MassError.{MassError}
-use Rattle.mass_fold.specs.declared.error.MassError.TheVariants as error_kind
 use Rattle.mass_fold.specs.declared.meter.Meter.{Meter}
 use Rattle.mass_fold.specs.declared.meter.Meter.TheVariants.{Bits, TooWide}
 use Rattle.mass_fold.specs.Amounts.{Entries}
-use Rattle.mass_fold.specs.Steps.{PartsBlame}
 use Rattle.mass_fold.specs.Metering.{AddsBits, IsPriced, IsPrice, PriceBlames, price, bound_price, IsValuePriced, IsBoundPriced, CountsAll, CountsDraws}
-use Rattle.mass_fold.proofs.Meters.{counted_as, counts_as, parts_wide, wide_here}
-
--- the parts of a draw do not fit
-pub parts_blame : (undecided b : ℕ) (r : Option ℕ) (e : MassError) → e ≡ error_kind.TooWide → PartsBlame b r e → PriceBlames undecided b r
-parts_blame undecided b r e p x = parts_wide undecided b r (subst (λ e. PartsBlame b r e) p x)
+use Rattle.mass_fold.proofs.Meters.{counted_as, counts_as, wide_here}
 
 -- ---- a draw with the same ends for each entry
 module _ (ends : List ℕ) (b : ℕ) (l : last_end ends ≡ b) (r : Option ℕ) (u : ℕ) (e : u ≡ (attempt_bits ends).0) where

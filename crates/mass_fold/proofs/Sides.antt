@@ -25,7 +25,7 @@ use Rattle.mass_fold.specs.declared.ended.Gone.TheVariants as gone_kind
 use Rattle.mass_fold.specs.declared.ended.Ended.{Ended}
 use Rattle.mass_fold.specs.Amounts.{Entries, order}
 use Rattle.mass_fold.specs.Ended.{end_of, rows_of}
-use Rattle.mass_fold.specs.Steps.{StepsTo, StepBlames, EachState, BothWhole, DrawsTo, DrawBlames, IsParts}
+use Rattle.mass_fold.specs.Steps.{StepsTo, StepBlames, EachState, BothWhole, DrawsTo, DrawBlames, IsParts, PartsBlame}
 use Rattle.mass_fold.specs.Fold.{Stands, FoldsTo, FoldBlames, Around, FoldsOne, OneBlames, UndecidedTo, UndecidedBlames, WeighedBy, WeighBlamesBy, SidesWithin, SidesTo, SidesBlame}
 use Rattle.mass_fold.proofs.Insertion.{whole_pos, product_below}
 use Rattle.mass_fold.proofs.Powers.{equal_whole, whole_at_most, product_equal}
@@ -126,6 +126,9 @@ count_equal b None a part e = let z = ap (λ x. a * x) e in omega arith
 count_equal b (Some k) a part e = let z = ap (λ x. a * x) e in omega arith
 
 -- ---- what no attempt decides
+pub parts_refuse : (b : ℕ) (r : Option ℕ) (es : Entries) (E : Ended) → PartsBlame b r → UndecidedBlames b r es E TooWide
+parts_refuse b r es E x N L I J Np one none wi wz s t m = x N Np one none
+
 module _ (b : ℕ) (r : Option ℕ) (part rest : Fraction) (is : IsParts b r part rest) (es : Entries) (E : Ended) (o : IsStrictlySortedBy order (keys_of es)) where
   pub undecided_refused : (error : MassError) → DrawBlames (λ s. rest) (λ s. rest) none_kept (all_stopped (end_of gone_kind.Attempts)) es E error → UndecidedBlames b r es E error
   undecided_refused error d N L I J Np one none wi wz s t m =

@@ -86,8 +86,8 @@ pub record IsParts (b : ℕ) (r : Option ℕ) (part rest : Fraction) : Type 0 wh
   pub part_is : IsEqual part (class_weight b r 1)
   pub rest_is : IsEqual rest (no_class_weight b r)
 
-abbrev pub PartsBlame : ℕ → Option ℕ → MassError → Type 0
-PartsBlame b r e = (N L : ℕ) → 0 < N → Whole N (class_weight b r 1) → Whole N (no_class_weight b r) → Blames e N L
+abbrev pub PartsBlame : ℕ → Option ℕ → Type 0
+PartsBlame b r = (N : ℕ) → 0 < N → Whole N (class_weight b r 1) → Whole N (no_class_weight b r) → Overfills N
 
 -- one weight h for each number below m that x is set to
 abbrev pub SpreadGives : Entries → Entries → ℕ → ℕ → State → Fraction → Type 0

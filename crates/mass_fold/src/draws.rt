@@ -10,7 +10,6 @@ ghost use Rattle.gcl_core.specs.meaning.Views.{expression_of};
 ghost use Rattle.gcl_core.specs.meaning.Value.{value_of, ExpressionBelow};
 ghost use Rattle.mass_tables.specs.Counts.{part_at, rest_at, drawn, undrawn, all_kept, none_kept, all_stopped, none_stopped};
 ghost use Rattle.mass_fold.specs.declared.ended.Ended.{Ended};
-ghost use Rattle.mass_fold.specs.declared.error.MassError.TheVariants.{TooWide};
 ghost use Rattle.mass_fold.specs.Ended.{end_of};
 ghost use Rattle.mass_fold.specs.Steps.{DrawsTo, DrawBlames, IsParts, PartsBlame, IsPower, PowerBlames, SpreadGives, SpreadBlames, AddedBy, StoppedBy, BlamedBy, UniformTo, UniformBlames, EntryBlames, at_numbers};
 
@@ -33,45 +32,34 @@ pub fn power(base: &Frac, count: u64) -> Option<Frac>
     let _low = base.num();
     let mut product = Frac::of(1, 1);
     for _ in 0..count {
-        match product.mul(base) {
-            Some(next) => product = next,
-            None => return None,
-        }
+        product = product.mul(base)?;
     }
     Some(product)
 }
 
-/// The weights of one number of a draw with so many numbers, and of none of them, under a limit of attempts or none.
-pub fn parts(bound: u64, attempts: Option<u64>) -> Result<(Frac, Frac), MassError>
+/// The weights of one number of a draw with so many numbers, and of none of them, under a limit of attempts or none; no weights where
+/// they do not fit.
+pub fn parts(bound: u64, attempts: Option<u64>) -> Option<(Frac, Frac)>
     requires least { 1 ≤ bound }
     requires most { bound ≤ 2 ^ 63 }
     requires some { IfSome attempts (λ r. 1 ≤ r) }
-    ensures ok { IfOk result (λ t. IsParts bound attempts t.0 t.1) }
-    ensures cause { IfErr result (PartsBlame bound attempts) }
-    ensures wide { IfErr result (λ e. e ≡ TooWide) }
+    ensures value { IfSome result (λ t. IsParts bound attempts t.0 t.1) }
+    ensures cause { IfNone result (PartsBlame bound attempts) }
 {
     let nothing = Frac::of(0, 1);
     let wide = u128::from(bound);
-    match attempts {
-        None => Ok((Frac::of(1, wide), nothing)),
-        Some(r) => {
-            let all = 2u128.pow(bits_for(bound));
-            let again = Frac::of(all - wide, all);
-            if again.num() == 0 {
-                return Ok((Frac::of(1, wide), nothing));
-            }
-            match power(&again, r) {
-                None => Err(MassError::TooWide),
-                Some(rest) => {
-                    let given = Frac::of(rest.den() - rest.num(), rest.den());
-                    match given.mul(&Frac::of(1, wide)) {
-                        None => Err(MassError::TooWide),
-                        Some(part) => Ok((part, rest)),
-                    }
-                }
-            }
-        }
+    let each = Frac::of(1, wide);
+    let Some(limit) = attempts else {
+        return Some((each, nothing));
+    };
+    let all = 2u128.pow(bits_for(bound));
+    let again = Frac::of(all - wide, all);
+    if again.num() == 0 {
+        return Some((each, nothing));
     }
+    let rest = power(&again, limit)?;
+    let given = Frac::of(rest.den() - rest.num(), rest.den());
+    Some((given.mul(&each)?, rest))
 }
 
 /// The table with each weight multiplied.
@@ -84,17 +72,8 @@ pub fn scale(alloc: Global, w: &Frac, table: &Table) -> Result<Table, MassError>
     let _low = w.num();
     let mut next = Table::new(alloc, table.vars);
     for (s, f) in &table.states {
-        match f.mul(w) {
-            None => return Err(MassError::TooWide),
-            Some(h) => match s.copy(alloc) {
-                Err(_) => return Err(MassError::OutOfMemory),
-                Ok(t) => {
-                    if let Err(error) = next.put(t, h) {
-                        return Err(error);
-                    }
-                }
-            },
-        }
+        let h = f.mul(w).ok_or(MassError::TooWide)?;
+        next.put(s.copy(alloc)?, h)?;
     }
     Ok(next)
 }
@@ -106,14 +85,8 @@ pub fn end_part(x: Gone, w: &Frac, table: &Table, ended: &mut Ended) -> Result<(
 {
     let _low = w.num();
     for (_, f) in &table.states {
-        match f.mul(w) {
-            None => return Err(MassError::TooWide),
-            Some(h) => {
-                if let Err(error) = ended.add(x, &h) {
-                    return Err(error);
-                }
-            }
-        }
+        let h = f.mul(w).ok_or(MassError::TooWide)?;
+        ended.add(x, &h)?;
     }
     Ok(())
 }
@@ -135,16 +108,9 @@ fn spread(
     ensures cause { IfErr result (λ e. SpreadBlames e next.old.states.entries x bound s.now h) }
 {
     for i in 0..bound {
-        match s.copy(alloc) {
-            Err(_) => return Err(MassError::OutOfMemory),
-            Ok(t) => {
-                let mut t = t;
-                t.set(x, i as i64);
-                if let Err(error) = next.put(t, h) {
-                    return Err(error);
-                }
-            }
-        }
+        let mut t = s.copy(alloc)?;
+        t.set(x, i as i64);
+        next.put(t, h)?;
     }
     Ok(())
 }
@@ -170,22 +136,11 @@ fn draw_state(
     ensures vars { next.new.vars ≡ next.old.vars }
     ensures cause { IfErr result (BlamedBy (class_weight bound attempts 1) (no_class_weight bound attempts) next.old.states.entries ended.old f.now (at_numbers x bound s.now) (λ G. G (limit limit_kind.Attempts))) }
 {
-    match parts(bound, attempts) {
-        Err(error) => Err(error),
-        Ok((part, rest)) => match f.mul(&part) {
-            None => Err(MassError::TooWide),
-            Some(h) => match spread(alloc, x, bound, s, h, next) {
-                Err(error) => Err(error),
-                Ok(()) => match f.mul(&rest) {
-                    None => Err(MassError::TooWide),
-                    Some(g) => match ended.add(Gone::Attempts, &g) {
-                        Err(error) => Err(error),
-                        Ok(()) => Ok(()),
-                    },
-                },
-            },
-        },
-    }
+    let (part, rest) = parts(bound, attempts).ok_or(MassError::TooWide)?;
+    let h = f.mul(&part).ok_or(MassError::TooWide)?;
+    spread(alloc, x, bound, s, h, next)?;
+    let g = f.mul(&rest).ok_or(MassError::TooWide)?;
+    ended.add(Gone::Attempts, &g)
 }
 
 // The draw of one state of weight f, with as many numbers as an expression says.
@@ -209,24 +164,12 @@ fn draw_entry(
     ensures cause { IfErr result (EntryBlames x (value_of (expression_of e.now)) attempts next.old.states.entries ended.old s.now f.now) }
 {
     match eval(e, s.values()) {
-        Err(fault) => {
-            let kind = gone(fault);
-            match ended.add(kind, f) {
-                Err(error) => Err(error),
-                Ok(()) => Ok(()),
-            }
-        }
+        Err(fault) => ended.add(gone(fault), f),
         Ok(v) => {
             if v < 1 {
-                return match ended.add(Gone::Bound, f) {
-                    Err(error) => Err(error),
-                    Ok(()) => Ok(()),
-                };
+                return ended.add(Gone::Bound, f);
             }
-            match draw_state(alloc, x, v as u64, attempts, s, f, next, ended) {
-                Err(error) => Err(error),
-                Ok(()) => Ok(()),
-            }
+            draw_state(alloc, x, v as u64, attempts, s, f, next, ended)
         }
     }
 }
@@ -249,9 +192,7 @@ pub fn draw(
 {
     let mut next = Table::new(alloc, table.vars);
     for (s, f) in table.states {
-        if let Err(error) = draw_entry(alloc, x, e, attempts, &s, &f, &mut next, ended) {
-            return Err(error);
-        }
+        draw_entry(alloc, x, e, attempts, &s, &f, &mut next, ended)?;
     }
     Ok(next)
 }

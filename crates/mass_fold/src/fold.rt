@@ -46,10 +46,7 @@ pub fn fold_block(
 {
     let mut now = table;
     for s in &b.stmts {
-        match fold_stmt(alloc, s, turns, attempts, now, ended, meter) {
-            Ok(next) => now = next,
-            Err(error) => return Err(error),
-        }
+        now = fold_stmt(alloc, s, turns, attempts, now, ended, meter)?;
     }
     Ok(now)
 }
@@ -78,76 +75,36 @@ fn fold_stmt(
     }
     match s {
         Stmt::Skip => Ok(table),
-        Stmt::Set(x, e) => match assign(alloc, *x, e, table, ended) {
-            Ok(next) => Ok(next),
-            Err(error) => Err(error),
-        },
+        Stmt::Set(x, e) => assign(alloc, *x, e, table, ended),
         Stmt::Uniform(x, e) => {
             *meter = count_uniform(*meter, e, attempts, &table);
-            match draw(alloc, *x, e, attempts, table, ended) {
-                Ok(next) => Ok(next),
-                Err(error) => Err(error),
-            }
+            draw(alloc, *x, e, attempts, table, ended)
         }
-        Stmt::Observe(e) => match split(alloc, e, table, ended) {
-            Ok((first, second)) => match end_all(Gone::Failed, second, ended) {
-                Ok(()) => Ok(first),
-                Err(error) => Err(error),
-            },
-            Err(error) => Err(error),
-        },
-        Stmt::If(e, a, c) => match split(alloc, e, table, ended) {
-            Ok((first, second)) => match fold_block(
-                alloc, a, turns, attempts, first, ended, meter,
-            ) {
-                Ok(mut left) => match fold_block(alloc, c, turns, attempts, second, ended, meter) {
-                    Ok(right) => match merge(&mut left, right) {
-                        Ok(()) => Ok(left),
-                        Err(error) => Err(error),
-                    },
-                    Err(error) => Err(error),
-                },
-                Err(error) => Err(error),
-            },
-            Err(error) => Err(error),
-        },
-        Stmt::While(e, body) => match fold_loop(
-            alloc, body, e, turns, attempts, table, ended, meter,
-        ) {
-            Ok(next) => Ok(next),
-            Err(error) => Err(error),
-        },
+        Stmt::Observe(e) => {
+            let (first, second) = split(alloc, e, table, ended)?;
+            end_all(Gone::Failed, second, ended)?;
+            Ok(first)
+        }
+        Stmt::If(e, a, c) => {
+            let (first, second) = split(alloc, e, table, ended)?;
+            let mut left = fold_block(alloc, a, turns, attempts, first, ended, meter)?;
+            let right = fold_block(alloc, c, turns, attempts, second, ended, meter)?;
+            merge(&mut left, right)?;
+            Ok(left)
+        }
+        Stmt::While(e, body) => fold_loop(alloc, body, e, turns, attempts, table, ended, meter),
         Stmt::Choice(p, a, c) => {
             *meter = count_choice(*meter, *p, attempts, &table);
-            match sides(alloc, *p, attempts, &table, ended) {
-                Ok((first, second)) => {
-                    match fold_block(alloc, a, turns, attempts, first, ended, meter) {
-                        Ok(mut left) => {
-                            match fold_block(alloc, c, turns, attempts, second, ended, meter) {
-                                Ok(right) => match merge(&mut left, right) {
-                                    Ok(()) => Ok(left),
-                                    Err(error) => Err(error),
-                                },
-                                Err(error) => Err(error),
-                            }
-                        }
-                        Err(error) => Err(error),
-                    }
-                }
-                Err(error) => Err(error),
-            }
+            let (first, second) = sides(alloc, *p, attempts, &table, ended)?;
+            let mut left = fold_block(alloc, a, turns, attempts, first, ended, meter)?;
+            let right = fold_block(alloc, c, turns, attempts, second, ended, meter)?;
+            merge(&mut left, right)?;
+            Ok(left)
         }
         Stmt::Choose(arms) => {
             *meter = count_arms(*meter, arms, attempts, &table);
-            match undecided(total(arms), attempts, &table, ended) {
-                Ok(part) => {
-                    match fold_arms(alloc, arms, &part, turns, attempts, &table, ended, meter) {
-                        Ok(next) => Ok(next),
-                        Err(error) => Err(error),
-                    }
-                }
-                Err(error) => Err(error),
-            }
+            let part = undecided(total(arms), attempts, &table, ended)?;
+            fold_arms(alloc, arms, &part, turns, attempts, &table, ended, meter)
         }
     }
 }
@@ -178,17 +135,9 @@ fn fold_arms(
 {
     let mut out = Table::new(alloc, table.vars);
     for (count, block) in &arms.arms {
-        match weighed(alloc, part, *count, table) {
-            Err(error) => return Err(error),
-            Ok(side) => match fold_block(alloc, block, turns, attempts, side, ended, meter) {
-                Err(error) => return Err(error),
-                Ok(left) => {
-                    if let Err(error) = merge(&mut out, left) {
-                        return Err(error);
-                    }
-                }
-            },
-        }
+        let side = weighed(alloc, part, *count, table)?;
+        let left = fold_block(alloc, block, turns, attempts, side, ended, meter)?;
+        merge(&mut out, left)?;
     }
     Ok(out)
 }
@@ -219,29 +168,12 @@ fn fold_loop(
         if now.states.len() == 0 {
             return Ok(exits);
         }
-        match split(alloc, e, now, ended) {
-            Ok((first, second)) => {
-                if let Err(error) = merge(&mut exits, second) {
-                    return Err(error);
-                }
-                match fold_block(alloc, body, turns, attempts, first, ended, meter) {
-                    Ok(next) => now = next,
-                    Err(error) => return Err(error),
-                }
-            }
-            Err(error) => return Err(error),
-        }
+        let (first, second) = split(alloc, e, now, ended)?;
+        merge(&mut exits, second)?;
+        now = fold_block(alloc, body, turns, attempts, first, ended, meter)?;
     }
-    match split(alloc, e, now, ended) {
-        Ok((first, second)) => {
-            if let Err(error) = merge(&mut exits, second) {
-                return Err(error);
-            }
-            match end_all(Gone::Turns, first, ended) {
-                Ok(()) => Ok(exits),
-                Err(error) => Err(error),
-            }
-        }
-        Err(error) => Err(error),
-    }
+    let (first, second) = split(alloc, e, now, ended)?;
+    merge(&mut exits, second)?;
+    end_all(Gone::Turns, first, ended)?;
+    Ok(exits)
 }

@@ -67,16 +67,8 @@ fn price(undecided: u128, bound: u64, attempts: Option<u64>) -> Option<Frac>
     ensures value { IfSome result (IsPrice undecided bound attempts) }
     ensures cause { IfNone result (PriceBlames undecided bound attempts) }
 {
-    match parts(bound, attempts) {
-        Err(_) => None,
-        Ok((part, _)) => {
-            let over = Frac::of(undecided, 1);
-            match part.mul(&over) {
-                None => None,
-                Some(bits) => Some(bits),
-            }
-        }
-    }
+    let (part, _) = parts(bound, attempts)?;
+    part.mul(&Frac::of(undecided, 1))
 }
 
 // The meter, with the same bits for each entry.

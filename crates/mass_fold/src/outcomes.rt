@@ -35,10 +35,7 @@ fn outcome_sum(rows: &BTreeMap<Outcome, Frac>, x: &Outcome, f: &Frac) -> Result<
     match rows.get(x) {
         Some(g) => {
             let _lower = g.num();
-            match g.add(f) {
-                Some(v) => Ok(v),
-                None => Err(MassError::TooWide),
-            }
+            g.add(f).ok_or(MassError::TooWide)
         }
         None => Ok(*f),
     }
@@ -54,10 +51,8 @@ pub fn add(rows: &mut BTreeMap<Outcome, Frac>, x: Outcome, f: &Frac) -> Result<(
         return Ok(());
     }
     let sum = outcome_sum(rows, &x, f)?;
-    match rows.insert(x, sum) {
-        Ok(_) => Ok(()),
-        Err(_) => Err(MassError::OutOfMemory),
-    }
+    rows.insert(x, sum)?;
+    Ok(())
 }
 
 /// Adds the outcomes of the states that the body ends in.

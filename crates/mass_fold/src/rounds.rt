@@ -57,15 +57,11 @@ pub fn in_rounds(
 {
     let mut masses = BTreeMap::new(alloc);
     for (x, s) in table {
-        match repeated(&s, failed, rounds) {
-            Some(mass) => add(&mut masses, x, &mass)?,
-            None => return Err(MassError::TooWide),
-        }
+        let mass = repeated(&s, failed, rounds).ok_or(MassError::TooWide)?;
+        add(&mut masses, x, &mass)?;
     }
-    match all_failed(failed, rounds) {
-        Some(mass) => add(&mut masses, Outcome::Limit(Limit::Rounds), &mass)?,
-        None => return Err(MassError::TooWide),
-    }
+    let rest = all_failed(failed, rounds).ok_or(MassError::TooWide)?;
+    add(&mut masses, Outcome::Limit(Limit::Rounds), &rest)?;
     Ok(masses)
 }
 
@@ -82,10 +78,8 @@ pub fn over_rest(
     let rest = Frac::of(failed.den() - failed.num(), failed.den());
     let mut masses = BTreeMap::new(alloc);
     for (x, s) in table {
-        match s.div(&rest) {
-            Some(mass) => add(&mut masses, x, &mass)?,
-            None => return Err(MassError::TooWide),
-        }
+        let mass = s.div(&rest).ok_or(MassError::TooWide)?;
+        add(&mut masses, x, &mass)?;
     }
     Ok(masses)
 }

@@ -35,18 +35,10 @@ fn sum_at(table: &BTreeMap<State, Frac>, s: &State, f: &Frac) -> Result<Frac, Ma
     match table.get(s) {
         Some(g) => {
             let _lower = g.num();
-            match g.add(f) {
-                Some(v) => Ok(v),
-                None => Err(MassError::TooWide),
-            }
+            g.add(f).ok_or(MassError::TooWide)
         }
-        None => {
-            if count >= MOST_STATES {
-                Err(MassError::TooManyStates)
-            } else {
-                Ok(*f)
-            }
-        }
+        None if count >= MOST_STATES => Err(MassError::TooManyStates),
+        None => Ok(*f),
     }
 }
 
@@ -83,9 +75,7 @@ impl Table {
         ensures cause { IfErr result (λ e. PutBlames e self.old.states.entries s f) }
     {
         let sum = sum_at(&self.states, &s, &f)?;
-        match self.states.insert(s, sum) {
-            Ok(_) => Ok(()),
-            Err(_) => Err(MassError::OutOfMemory),
-        }
+        self.states.insert(s, sum)?;
+        Ok(())
     }
 }

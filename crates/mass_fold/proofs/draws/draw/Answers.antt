@@ -1,4 +1,4 @@
-use Rattle.std.proofs.Common.{◌≡◌, ◌∙◌, length, sym, arith}
+use Rattle.std.proofs.Common.{◌≡◌, ◌∙◌, length, sym, arith, Err}
 use Rattle.gcl_core.specs.meaning.Views.{expression_of}
 use Rattle.gcl_core.specs.meaning.Value.{value_of}
 use Rattle.mass_tables.specs.Counts.{part_at, rest_at, drawn, undrawn}
@@ -40,7 +40,7 @@ loop-s-preserved c =
       vars = c.draw_entry.ensures.vars ∙ c.loop-s.invariant.vars;
       so_far = drawing_turn (part_at v c.args.attempts) (rest_at v c.args.attempts) (drawn c.args.x v) (undrawn v) c.args.table.states.entries c.args.ended.now c.loop-s.next.states.entries c.loop-s.ended c.in-Some.s c.in-Some.f c.next.new.self
           (drawing_along (part_at v c.args.attempts) (rest_at v c.args.attempts) (drawn c.args.x v) (undrawn v) c.args.table.states.entries c.args.ended.now _ _ _ _ c.in-Some.ensures.steps c.loop-s.invariant.so_far)
-          c.draw_entry.new.next.states.entries c.draw_entry.new.ended c.in_default.ensures.added c.in_default.ensures.stopped;
+          c.draw_entry.new.next.states.entries c.draw_entry.new.ended c.in_ok-draw_entry.ensures.added c.in_ok-draw_entry.ensures.stopped;
     }
 
 pub returns-clause-ok : goal.returns-clause-ok
@@ -48,9 +48,10 @@ returns-clause-ok c =
     let v = value_of (expression_of c.args.e.now) in
     drawing_along (part_at v c.args.attempts) (rest_at v c.args.attempts) (drawn c.args.x v) (undrawn v) c.args.table.states.entries c.args.ended.now _ _ _ _ c.in-None.ensures.steps.0 c.loop-s.invariant.so_far
 
-pub returns-in-Err-clause-cause : goal.returns-in-Err-clause-cause
-returns-in-Err-clause-cause c =
+pub returns-in_err-draw_entry-clause-cause : goal.returns-in_err-draw_entry-clause-cause
+returns-in_err-draw_entry-clause-cause c =
     let v = value_of (expression_of c.args.e.now) in
-    drawing_blame (part_at v c.args.attempts) (rest_at v c.args.attempts) (drawn c.args.x v) (undrawn v) c.args.table.states.entries c.args.ended.now c.loop-s.next.states.entries c.loop-s.ended c.in-Some.s c.in-Some.f c.next.new.self
+    let out : c.from_residual.result ≡ Err c.in_err-draw_entry.field-0.0 = grind arith in
+    rw out (drawing_blame (part_at v c.args.attempts) (rest_at v c.args.attempts) (drawn c.args.x v) (undrawn v) c.args.table.states.entries c.args.ended.now c.loop-s.next.states.entries c.loop-s.ended c.in-Some.s c.in-Some.f c.next.new.self
     (drawing_along (part_at v c.args.attempts) (rest_at v c.args.attempts) (drawn c.args.x v) (undrawn v) c.args.table.states.entries c.args.ended.now _ _ _ _ c.in-Some.ensures.steps c.loop-s.invariant.so_far)
-    _ c.in-Err.ensures.cause
+    _ c.in_err-draw_entry.ensures.cause)

@@ -1,4 +1,4 @@
-use Rattle.std.proofs.Common.{◌≡◌, ◌∙◌, pos, to_z, w64, length, refl, sym, ap, subst, arith}
+use Rattle.std.proofs.Common.{◌≡◌, ◌∙◌, pos, to_z, w64, length, refl, sym, ap, subst, arith, Err}
 use Rattle.std.proofs.lemmas.Int.{ints}
 use Rattle.std.proofs.lemmas.List.{length-set}
 use Rattle.mass_fold.specs.Steps.{SpreadGives}
@@ -9,19 +9,20 @@ pub loop-i-init : goal.loop-i-init
 loop-i-init c = record { so_far = spread_none _ _ c.args.x c.args.s.now c.args.h refl; vars = refl }
 
 pub put-requires : goal.put-requires
-put-requires c = ap length c.set.ensures ∙ length-set _ _ _ ∙ ap length c.in-Ok.ensures ∙ c.requires.sized ∙ sym c.loop-i.invariant.vars
+put-requires c = ap length c.set.ensures ∙ length-set _ _ _ ∙ ap length c.in_ok-t.ensures ∙ c.requires.sized ∙ sym c.loop-i.invariant.vars
 
-pub returns-in-Err-put-clause-cause : goal.returns-in-Err-put-clause-cause
-returns-in-Err-put-clause-cause c =
+pub returns-in_err-put-clause-cause : goal.returns-in_err-put-clause-cause
+returns-in_err-put-clause-cause c =
     let z : pos c.loop-i.i ≡ to_z w64 c.loop-i.i = omega (arith, ints) in
-    spread_blames _ _ _ c.args.x c.loop-i.i c.args.bound c.args.s.now c.set.new.self c.args.h c.loop-i.invariant.so_far c.loop-i-test.true (set_as _ _ _ _ _ _ c.in-Ok.ensures z c.set.ensures) c.in-Err-put.ensures.cause
+    let out : c.from_residual-in_err-put.result ≡ Err c.in_err-put.field-0.0 = grind arith in
+    rw out (spread_blames _ _ _ c.args.x c.loop-i.i c.args.bound c.args.s.now c.set.new.self c.args.h c.loop-i.invariant.so_far c.loop-i-test.true (set_as _ _ _ _ _ _ c.in_ok-t.ensures z c.set.ensures) c.in_err-put.ensures.cause)
 
 pub loop-i-preserved : goal.loop-i-preserved
 loop-i-preserved c =
     let z : pos c.loop-i.i ≡ to_z w64 c.loop-i.i = omega (arith, ints) in
-    let q = set_as c.args.s.now c.in-Ok.t c.set.new.self c.args.x c.loop-i.i _ c.in-Ok.ensures z c.set.ensures in
+    let q = set_as c.args.s.now c.in_ok-t.t c.set.new.self c.args.x c.loop-i.i _ c.in_ok-t.ensures z c.set.ensures in
     record {
-      so_far = spread_next _ _ _ c.args.x c.loop-i.i c.args.s.now c.set.new.self c.args.h c.loop-i.invariant.so_far q c.in_default.ensures.ok;
+      so_far = spread_next _ _ _ c.args.x c.loop-i.i c.args.s.now c.set.new.self c.args.h c.loop-i.invariant.so_far q c.in_ok-put.ensures.ok;
       vars = c.put.ensures.vars ∙ c.loop-i.invariant.vars;
     }
 

@@ -1,5 +1,6 @@
-use Rattle.std.proofs.Common.{rules, ◌≡◌, ◌+◌, ◌-◌, suc, arith, refl, sym, ap, ◌∙◌, ◌≤◌, drop, subst, length}
+use Rattle.std.proofs.Common.{rules, ◌≡◌, ◌+◌, ◌-◌, suc, arith, refl, sym, ap, ◌∙◌, ◌≤◌, drop, subst, length, Err}
 use Rattle.std.specs.List.{sum}
+use Rattle.std.proofs.lemmas.Result.{IfOk-weaker, IfErr-weaker}
 use Rattle.gcl_core.specs.meaning.Arms.{parts_of}
 use Rattle.gcl_core.specs.declared.syntax.Stmt.{the_lemmas}
 use Rattle.gcl_core.specs.meaning.Bounds.{StatementBelow, BlockBelow, ArmsBelow, ArmsAreWeighed}
@@ -35,11 +36,12 @@ fold_block-fold_stmt-requires t c =
       ),
     )
 
-pub fold_block-returns-in-Err-clause-cause : goal.fold_block-returns-in-Err-clause-cause
-fold_block-returns-in-Err-clause-cause t c =
+pub fold_block-returns-in_err-now-clause-cause : goal.fold_block-returns-in_err-now-clause-cause
+fold_block-returns-in_err-now-clause-cause t c =
     let p = list_step c.deref-s-items.result.now c.loop-s.s-index c.s-item.result c.loop-s-test.true c.s-item.is in
-    subst (λ z. FoldBlames (block_flow c.args.turns c.args.attempts (list_of z)) c.args.table.states.entries c.args.ended.now c.in-Err.error) c.deref-s-items.ensures.value
-    (blames_here c.args.turns c.args.attempts (block_flow c.args.turns c.args.attempts (list_of c.deref-s-items.result.now)) _ _ _ _ _ _ _ _ p c.loop-s.invariant.blames c.in-Err.ensures.cause)
+    let out : c.from_residual.result ≡ Err c.in_err-now.field-0.0 = grind arith in
+    rw out (subst (λ z. FoldBlames (block_flow c.args.turns c.args.attempts (list_of z)) c.args.table.states.entries c.args.ended.now c.in_err-now.field-0.0) c.deref-s-items.ensures.value
+    (blames_here c.args.turns c.args.attempts (block_flow c.args.turns c.args.attempts (list_of c.deref-s-items.result.now)) _ _ _ _ _ _ _ _ p c.loop-s.invariant.blames c.in_err-now.ensures.cause))
 
 pub fold_block-loop-s-preserved : goal.fold_block-loop-s-preserved
 fold_block-loop-s-preserved t c =
@@ -48,10 +50,10 @@ fold_block-loop-s-preserved t c =
     record {
       below = λ m h. (below_next m _ _ _ p (c.loop-s.invariant.below m h)).1;
       weights = λ h. (weights_next _ _ _ p (c.loop-s.invariant.weights h)).1;
-      vars = c.in-Ok.ensures.vars ∙ c.loop-s.invariant.vars;
-      so_far = rest_next c.args.turns c.args.attempts (block_flow c.args.turns c.args.attempts (list_of c.deref-s-items.result.now)) _ _ _ _ _ _ _ _ _ p c.loop-s.invariant.so_far c.in-Ok.ensures.ok;
-      bits = meters_next c.args.turns c.args.attempts (block_flow c.args.turns c.args.attempts (list_of c.deref-s-items.result.now)) (block_draws c.args.turns c.args.attempts (list_of c.deref-s-items.result.now)) _ _ _ _ _ _ _ _ _ _ _ _ p c.loop-s.invariant.bits c.in-Ok.ensures.ok c.in-Ok.ensures.bits;
-      blames = blames_next c.args.turns c.args.attempts (block_flow c.args.turns c.args.attempts (list_of c.deref-s-items.result.now)) _ _ _ _ _ _ _ _ _ p w c.loop-s.invariant.blames c.in-Ok.ensures.ok;
+      vars = c.in_ok-now.ensures.vars ∙ c.loop-s.invariant.vars;
+      so_far = rest_next c.args.turns c.args.attempts (block_flow c.args.turns c.args.attempts (list_of c.deref-s-items.result.now)) _ _ _ _ _ _ _ _ _ p c.loop-s.invariant.so_far c.in_ok-now.ensures.ok;
+      bits = meters_next c.args.turns c.args.attempts (block_flow c.args.turns c.args.attempts (list_of c.deref-s-items.result.now)) (block_draws c.args.turns c.args.attempts (list_of c.deref-s-items.result.now)) _ _ _ _ _ _ _ _ _ _ _ _ p c.loop-s.invariant.bits c.in_ok-now.ensures.ok c.in_ok-now.ensures.bits;
+      blames = blames_next c.args.turns c.args.attempts (block_flow c.args.turns c.args.attempts (list_of c.deref-s-items.result.now)) _ _ _ _ _ _ _ _ _ p w c.loop-s.invariant.blames c.in_ok-now.ensures.ok;
     }
 
 pub fold_block-returns-clause-ok : goal.fold_block-returns-clause-ok
@@ -84,61 +86,67 @@ fold_loop-split-requires-2 t c = subst (ExpressionBelow (expression_of c.args.e.
 
 pub fold_loop-fold_block-requires : goal.fold_loop-fold_block-requires
 fold_loop-fold_block-requires t c =
-    let p : c.in-Ok.first.vars ≡ c.args.table.vars = c.in-Ok.ensures.vars.0 ∙ c.loop.invariant.now_vars in
+    let p : c.in_ok-first.first.vars ≡ c.args.table.vars = c.in_ok-first.ensures.vars.0 ∙ c.loop.invariant.now_vars in
     (search (rules, the_lemmas), (subst (λ m. BlockBelow m (statements_of c.args.body.now)) (sym p) c.requires.below, (c.requires.weights, c.requires.some)))
 
-pub fold_loop-returns-in-Err-merge-clause-cause : goal.fold_loop-returns-in-Err-merge-clause-cause
-fold_loop-returns-in-Err-merge-clause-cause t c =
-    exits_blame c.args.turns c.args.attempts (expression_of c.args.e.now) (statements_of c.args.body.now) c.args.table.states.entries c.args.ended.now (c.args.turns - c.loop.counter) c.loop.now.states.entries c.loop.exits.states.entries c.loop.ended c.loop.invariant.so_far _ _ _ c.in-Ok.ensures.first c.in-Ok.ensures.second _ c.requires.weights c.in-Err-merge.ensures.cause
+pub fold_loop-returns-in_err-merge-clause-cause : goal.fold_loop-returns-in_err-merge-clause-cause
+fold_loop-returns-in_err-merge-clause-cause t c =
+    let out : c.from_residual-in_err-merge.result ≡ Err c.in_err-merge.field-0.0 = grind arith in
+    rw out (exits_blame c.args.turns c.args.attempts (expression_of c.args.e.now) (statements_of c.args.body.now) c.args.table.states.entries c.args.ended.now (c.args.turns - c.loop.counter) c.loop.now.states.entries c.loop.exits.states.entries c.loop.ended c.loop.invariant.so_far _ _ _ c.in_ok-first.ensures.first c.in_ok-first.ensures.second _ c.requires.weights c.in_err-merge.ensures.cause)
 
-pub fold_loop-returns-in-Err-fold_block-clause-cause : goal.fold_loop-returns-in-Err-fold_block-clause-cause
-fold_loop-returns-in-Err-fold_block-clause-cause t c =
+pub fold_loop-returns-in_err-now-clause-cause : goal.fold_loop-returns-in_err-now-clause-cause
+fold_loop-returns-in_err-now-clause-cause t c =
     let e : c.args.turns - c.loop.counter ≡ suc (c.args.turns - (c.loop.counter + 1)) = omega arith in
     let l = loops_at (loop_flow (value_of (expression_of c.args.e.now)) (block_flow c.args.turns c.args.attempts (statements_of c.args.body.now))) c.args.turns _ _ _ _ _ _ _ e c.loop.invariant.so_far in
-    body_blames c.args.turns c.args.attempts (expression_of c.args.e.now) (statements_of c.args.body.now) c.args.table.states.entries c.args.ended.now (c.args.turns - (c.loop.counter + 1)) c.loop.now.states.entries c.loop.exits.states.entries c.loop.ended l _ _ _ c.in-Ok.ensures.first c.in-Ok.ensures.second _ c.requires.weights c.in-Err-fold_block.ensures.cause
+    let out : c.from_residual-in_err-now.result ≡ Err c.in_err-now.field-0.0 = grind arith in
+    rw out (body_blames c.args.turns c.args.attempts (expression_of c.args.e.now) (statements_of c.args.body.now) c.args.table.states.entries c.args.ended.now (c.args.turns - (c.loop.counter + 1)) c.loop.now.states.entries c.loop.exits.states.entries c.loop.ended l _ _ _ c.in_ok-first.ensures.first c.in_ok-first.ensures.second _ c.requires.weights c.in_err-now.ensures.cause)
 
-pub fold_loop-returns-in-Err-clause-cause : goal.fold_loop-returns-in-Err-clause-cause
-fold_loop-returns-in-Err-clause-cause t c =
-    guard_blames c.args.turns c.args.attempts (expression_of c.args.e.now) (statements_of c.args.body.now) c.args.table.states.entries c.args.ended.now (c.args.turns - c.loop.counter) c.loop.now.states.entries c.loop.exits.states.entries c.loop.ended c.loop.invariant.so_far _ c.requires.weights c.in-Err.ensures.cause
+pub fold_loop-returns-in_err-first-clause-cause : goal.fold_loop-returns-in_err-first-clause-cause
+fold_loop-returns-in_err-first-clause-cause t c =
+    let out : c.from_residual.result ≡ Err c.in_err-first.field-0.0 = grind arith in
+    rw out (guard_blames c.args.turns c.args.attempts (expression_of c.args.e.now) (statements_of c.args.body.now) c.args.table.states.entries c.args.ended.now (c.args.turns - c.loop.counter) c.loop.now.states.entries c.loop.exits.states.entries c.loop.ended c.loop.invariant.so_far _ c.requires.weights c.in_err-first.ensures.cause)
 
 pub fold_loop-loop-preserved : goal.fold_loop-loop-preserved
 fold_loop-loop-preserved t c =
     let e : c.args.turns - c.loop.counter ≡ suc (c.args.turns - (c.loop.counter + 1)) = omega arith in
     let l = loops_at (loop_flow (value_of (expression_of c.args.e.now)) (block_flow c.args.turns c.args.attempts (statements_of c.args.body.now))) c.args.turns _ _ _ _ _ _ _ e c.loop.invariant.so_far in
     record {
-      now_vars = c.in-Ok-fold_block.ensures.vars ∙ c.in-Ok.ensures.vars.0 ∙ c.loop.invariant.now_vars;
+      now_vars = c.in_ok-now.ensures.vars ∙ c.in_ok-first.ensures.vars.0 ∙ c.loop.invariant.now_vars;
       exits_vars = c.merge.ensures.vars ∙ c.loop.invariant.exits_vars;
-      so_far = loop_turn c.args.turns c.args.attempts (expression_of c.args.e.now) (statements_of c.args.body.now) c.args.table.states.entries c.args.ended.now (c.args.turns - (c.loop.counter + 1)) c.loop.now.states.entries c.loop.exits.states.entries c.loop.ended l _ _ _ c.in-Ok.ensures.first c.in-Ok.ensures.second _ _ _ c.in_default.ensures.ok c.in-Ok-fold_block.ensures.ok;
-      bits = meter_turn c.args.turns c.args.attempts (expression_of c.args.e.now) (statements_of c.args.body.now) c.args.table.states.entries c.args.ended.now c.args.meter.now (c.args.turns - (c.loop.counter + 1)) c.loop.now.states.entries c.loop.exits.states.entries c.loop.ended c.loop.meter (meters_at c.args.attempts (loop_flow (value_of (expression_of c.args.e.now)) (block_flow c.args.turns c.args.attempts (statements_of c.args.body.now))) (draws c.args.turns c.args.attempts (expression_of c.args.e.now) (statements_of c.args.body.now) c.args.table.states.entries c.args.ended.now c.args.meter.now) c.args.turns _ _ _ _ _ _ _ _ _ e c.loop.invariant.bits) _ _ _ c.in-Ok.ensures.first c.in-Ok.ensures.second _ _ _ _ c.in_default.ensures.ok c.in-Ok-fold_block.ensures.ok c.in-Ok-fold_block.ensures.bits;
+      so_far = loop_turn c.args.turns c.args.attempts (expression_of c.args.e.now) (statements_of c.args.body.now) c.args.table.states.entries c.args.ended.now (c.args.turns - (c.loop.counter + 1)) c.loop.now.states.entries c.loop.exits.states.entries c.loop.ended l _ _ _ c.in_ok-first.ensures.first c.in_ok-first.ensures.second _ _ _ c.in_ok-merge.ensures.ok c.in_ok-now.ensures.ok;
+      bits = meter_turn c.args.turns c.args.attempts (expression_of c.args.e.now) (statements_of c.args.body.now) c.args.table.states.entries c.args.ended.now c.args.meter.now (c.args.turns - (c.loop.counter + 1)) c.loop.now.states.entries c.loop.exits.states.entries c.loop.ended c.loop.meter (meters_at c.args.attempts (loop_flow (value_of (expression_of c.args.e.now)) (block_flow c.args.turns c.args.attempts (statements_of c.args.body.now))) (draws c.args.turns c.args.attempts (expression_of c.args.e.now) (statements_of c.args.body.now) c.args.table.states.entries c.args.ended.now c.args.meter.now) c.args.turns _ _ _ _ _ _ _ _ _ e c.loop.invariant.bits) _ _ _ c.in_ok-first.ensures.first c.in_ok-first.ensures.second _ _ _ _ c.in_ok-merge.ensures.ok c.in_ok-now.ensures.ok c.in_ok-now.ensures.bits;
     }
 
 pub fold_loop-returns-then-len-eq0-clause-bits : goal.fold_loop-returns-then-len-eq0-clause-bits
 fold_loop-returns-then-len-eq0-clause-bits t c =
     meter_dry c.args.turns c.args.attempts (expression_of c.args.e.now) (statements_of c.args.body.now) c.args.table.states.entries c.args.ended.now c.args.meter.now (c.args.turns - c.loop.counter) c.loop.now.states.entries c.loop.exits.states.entries c.loop.ended c.loop.meter c.requires.weights (empty_of c.loop.now.states.entries (sym c.len.ensures.len ∙ c.if-len-eq0.true)) c.loop.invariant.bits
 
-pub fold_loop-returns-in-Ok-end_all-clause-bits : goal.fold_loop-returns-in-Ok-end_all-clause-bits
-fold_loop-returns-in-Ok-end_all-clause-bits t c =
+pub fold_loop-returns-clause-bits : goal.fold_loop-returns-clause-bits
+fold_loop-returns-clause-bits t c =
     meter_end c.args.turns c.args.attempts (expression_of c.args.e.now) (statements_of c.args.body.now) c.args.table.states.entries c.args.ended.now c.args.meter.now (c.args.turns - c.loop.counter) c.loop.now.states.entries c.loop.exits.states.entries c.loop.ended c.loop.meter (omega arith) c.loop.invariant.bits
 
-pub fold_loop-returns-in-Err-merge-2-clause-cause : goal.fold_loop-returns-in-Err-merge-2-clause-cause
-fold_loop-returns-in-Err-merge-2-clause-cause t c =
-    exits_blame c.args.turns c.args.attempts (expression_of c.args.e.now) (statements_of c.args.body.now) c.args.table.states.entries c.args.ended.now (c.args.turns - c.loop.counter) c.loop.now.states.entries c.loop.exits.states.entries c.loop.ended c.loop.invariant.so_far _ _ _ c.in-Ok-split.ensures.first c.in-Ok-split.ensures.second _ c.requires.weights c.in-Err-merge-2.ensures.cause
+pub fold_loop-returns-in_err-merge-2-clause-cause : goal.fold_loop-returns-in_err-merge-2-clause-cause
+fold_loop-returns-in_err-merge-2-clause-cause t c =
+    let out : c.from_residual-in_err-merge-2.result ≡ Err c.in_err-merge-2.field-0.0 = grind arith in
+    rw out (exits_blame c.args.turns c.args.attempts (expression_of c.args.e.now) (statements_of c.args.body.now) c.args.table.states.entries c.args.ended.now (c.args.turns - c.loop.counter) c.loop.now.states.entries c.loop.exits.states.entries c.loop.ended c.loop.invariant.so_far _ _ _ c.in_ok-first-2.ensures.first c.in_ok-first-2.ensures.second _ c.requires.weights c.in_err-merge-2.ensures.cause)
 
-pub fold_loop-returns-in-Ok-end_all-clause-ok : goal.fold_loop-returns-in-Ok-end_all-clause-ok
-fold_loop-returns-in-Ok-end_all-clause-ok t c =
+pub fold_loop-returns-clause-ok : goal.fold_loop-returns-clause-ok
+fold_loop-returns-clause-ok t c =
     let e : c.args.turns - c.loop.counter ≡ 0 = omega arith in
     let l = loops_at (loop_flow (value_of (expression_of c.args.e.now)) (block_flow c.args.turns c.args.attempts (statements_of c.args.body.now))) c.args.turns _ _ _ _ _ _ _ e c.loop.invariant.so_far in
-    loop_end c.args.turns c.args.attempts (expression_of c.args.e.now) (statements_of c.args.body.now) c.args.table.states.entries c.args.ended.now c.loop.now.states.entries c.loop.exits.states.entries c.loop.ended l _ _ _ c.in-Ok-split.ensures.first c.in-Ok-split.ensures.second _ _ c.in_default-merge.ensures.ok c.in-Ok-end_all.ensures.ok
+    loop_end c.args.turns c.args.attempts (expression_of c.args.e.now) (statements_of c.args.body.now) c.args.table.states.entries c.args.ended.now c.loop.now.states.entries c.loop.exits.states.entries c.loop.ended l _ _ _ c.in_ok-first-2.ensures.first c.in_ok-first-2.ensures.second _ _ c.in_ok-merge-2.ensures.ok c.in_ok-end_all.ensures.ok
 
-pub fold_loop-returns-in-Err-end_all-clause-cause : goal.fold_loop-returns-in-Err-end_all-clause-cause
-fold_loop-returns-in-Err-end_all-clause-cause t c =
+pub fold_loop-returns-in_err-end_all-clause-cause : goal.fold_loop-returns-in_err-end_all-clause-cause
+fold_loop-returns-in_err-end_all-clause-cause t c =
     let e : c.args.turns - c.loop.counter ≡ 0 = omega arith in
     let l = loops_at (loop_flow (value_of (expression_of c.args.e.now)) (block_flow c.args.turns c.args.attempts (statements_of c.args.body.now))) c.args.turns _ _ _ _ _ _ _ e c.loop.invariant.so_far in
-    turns_blame c.args.turns c.args.attempts (expression_of c.args.e.now) (statements_of c.args.body.now) c.args.table.states.entries c.args.ended.now c.loop.now.states.entries c.loop.exits.states.entries c.loop.ended l _ _ _ c.in-Ok-split.ensures.first c.in-Ok-split.ensures.second _ c.requires.weights c.in-Err-end_all.ensures.cause
+    let out : c.from_residual-in_err-end_all.result ≡ Err c.in_err-end_all.field-0.0 = grind arith in
+    rw out (turns_blame c.args.turns c.args.attempts (expression_of c.args.e.now) (statements_of c.args.body.now) c.args.table.states.entries c.args.ended.now c.loop.now.states.entries c.loop.exits.states.entries c.loop.ended l _ _ _ c.in_ok-first-2.ensures.first c.in_ok-first-2.ensures.second _ c.requires.weights c.in_err-end_all.ensures.cause)
 
-pub fold_loop-returns-in-Err-split-clause-cause : goal.fold_loop-returns-in-Err-split-clause-cause
-fold_loop-returns-in-Err-split-clause-cause t c =
-    guard_blames c.args.turns c.args.attempts (expression_of c.args.e.now) (statements_of c.args.body.now) c.args.table.states.entries c.args.ended.now (c.args.turns - c.loop.counter) c.loop.now.states.entries c.loop.exits.states.entries c.loop.ended c.loop.invariant.so_far _ c.requires.weights c.in-Err-split.ensures.cause
+pub fold_loop-returns-in_err-first-2-clause-cause : goal.fold_loop-returns-in_err-first-2-clause-cause
+fold_loop-returns-in_err-first-2-clause-cause t c =
+    let out : c.from_residual-in_err-first-2.result ≡ Err c.in_err-first-2.field-0.0 = grind arith in
+    rw out (guard_blames c.args.turns c.args.attempts (expression_of c.args.e.now) (statements_of c.args.body.now) c.args.table.states.entries c.args.ended.now (c.args.turns - c.loop.counter) c.loop.now.states.entries c.loop.exits.states.entries c.loop.ended c.loop.invariant.so_far _ c.requires.weights c.in_err-first-2.ensures.cause)
 
 pub fold_stmt-returns-then-len-eq0-clause-ok : goal.fold_stmt-returns-then-len-eq0-clause-ok
 fold_stmt-returns-then-len-eq0-clause-ok t c =
@@ -147,156 +155,181 @@ fold_stmt-returns-then-len-eq0-clause-ok t c =
 pub fold_stmt-returns-in-Skip-clause-ok : goal.fold_stmt-returns-in-Skip-clause-ok
 fold_stmt-returns-in-Skip-clause-ok t c = folds_as c.args.turns c.args.attempts _ _ _ _ _ _ (ap statement_of c.in-Skip.is ∙ skip_view) (fold_skip c.args.turns c.args.attempts c.args.table.states.entries c.args.ended.now)
 
-pub fold_stmt-returns-in-Ok-clause-ok : goal.fold_stmt-returns-in-Ok-clause-ok
-fold_stmt-returns-in-Ok-clause-ok t c =
-    folds_as c.args.turns c.args.attempts _ _ _ _ _ _ (ap statement_of c.in-Set.is ∙ set_view c.in-Set.x c.in-Set.e)
-    (fold_assign c.args.turns c.args.attempts c.in-Set.x (expression_of c.in-Set.e) c.args.table.states.entries c.args.ended.now _ _ c.in-Ok.ensures.ok)
+pub fold_stmt-returns-in-Set-clause-ok : goal.fold_stmt-returns-in-Set-clause-ok
+fold_stmt-returns-in-Set-clause-ok t c =
+    IfOk-weaker c.assign.result _ _
+    (λ next a. folds_as c.args.turns c.args.attempts _ _ _ _ _ _ (ap statement_of c.in-Set.is ∙ set_view c.in-Set.x c.in-Set.e)
+    (fold_assign c.args.turns c.args.attempts c.in-Set.x (expression_of c.in-Set.e) c.args.table.states.entries c.args.ended.now _ _ a))
+    c.assign.ensures.ok
 
 pub fold_stmt-returns-in-Set-clause-cause : goal.fold_stmt-returns-in-Set-clause-cause
 fold_stmt-returns-in-Set-clause-cause t c =
-    blames_as c.args.turns c.args.attempts _ _ _ _ _ (ap statement_of c.in-Set.is ∙ set_view c.in-Set.x c.in-Set.e)
-    (assign_blames c.args.turns c.args.attempts c.in-Set.x (expression_of c.in-Set.e) c.args.table.states.entries c.args.ended.now _ c.in-Err.ensures.cause)
+    IfErr-weaker c.assign.result _ _
+    (λ e a. blames_as c.args.turns c.args.attempts _ _ _ _ _ (ap statement_of c.in-Set.is ∙ set_view c.in-Set.x c.in-Set.e)
+    (assign_blames c.args.turns c.args.attempts c.in-Set.x (expression_of c.in-Set.e) c.args.table.states.entries c.args.ended.now _ a))
+    c.assign.ensures.cause
 
-pub fold_stmt-returns-in-Ok-draw-clause-ok : goal.fold_stmt-returns-in-Ok-draw-clause-ok
-fold_stmt-returns-in-Ok-draw-clause-ok t c =
-    folds_as c.args.turns c.args.attempts _ _ _ _ _ _ (ap statement_of c.in-Uniform.is ∙ uniform_view c.in-Uniform.x c.in-Uniform.e)
-    (fold_draw c.args.turns c.args.attempts c.in-Uniform.x (expression_of c.in-Uniform.e) c.args.table.states.entries c.args.ended.now c.len.ensures.ordered _ _ c.in-Ok-draw.ensures.ok)
+pub fold_stmt-returns-in-Uniform-clause-ok : goal.fold_stmt-returns-in-Uniform-clause-ok
+fold_stmt-returns-in-Uniform-clause-ok t c =
+    IfOk-weaker c.draw.result _ _
+    (λ next a. folds_as c.args.turns c.args.attempts _ _ _ _ _ _ (ap statement_of c.in-Uniform.is ∙ uniform_view c.in-Uniform.x c.in-Uniform.e)
+    (fold_draw c.args.turns c.args.attempts c.in-Uniform.x (expression_of c.in-Uniform.e) c.args.table.states.entries c.args.ended.now c.len.ensures.ordered _ _ a))
+    c.draw.ensures.ok
 
 pub fold_stmt-returns-in-Uniform-clause-cause : goal.fold_stmt-returns-in-Uniform-clause-cause
 fold_stmt-returns-in-Uniform-clause-cause t c =
-    blames_as c.args.turns c.args.attempts _ _ _ _ _ (ap statement_of c.in-Uniform.is ∙ uniform_view c.in-Uniform.x c.in-Uniform.e)
-    (draw_blames c.args.turns c.args.attempts c.in-Uniform.x (expression_of c.in-Uniform.e) c.args.table.states.entries c.args.ended.now c.len.ensures.ordered _ c.in-Err-draw.ensures.cause)
+    IfErr-weaker c.draw.result _ _
+    (λ e a. blames_as c.args.turns c.args.attempts _ _ _ _ _ (ap statement_of c.in-Uniform.is ∙ uniform_view c.in-Uniform.x c.in-Uniform.e)
+    (draw_blames c.args.turns c.args.attempts c.in-Uniform.x (expression_of c.in-Uniform.e) c.args.table.states.entries c.args.ended.now c.len.ensures.ordered _ a))
+    c.draw.ensures.cause
 
-pub fold_stmt-returns-in-Ok-end_all-clause-ok : goal.fold_stmt-returns-in-Ok-end_all-clause-ok
-fold_stmt-returns-in-Ok-end_all-clause-ok t c =
+pub fold_stmt-returns-in_ok-end_all-in-Observe-clause-ok : goal.fold_stmt-returns-in_ok-end_all-in-Observe-clause-ok
+fold_stmt-returns-in_ok-end_all-in-Observe-clause-ok t c =
     folds_as c.args.turns c.args.attempts _ _ _ _ _ _ (ap statement_of c.in-Observe.is ∙ observe_view c.in-Observe.e)
-    (fold_observe c.args.turns c.args.attempts (expression_of c.in-Observe.e) c.args.table.states.entries c.args.ended.now _ _ _ _ c.in-Ok-split.ensures.first c.in-Ok-split.ensures.second c.in-Ok-end_all.ensures.ok)
+    (fold_observe c.args.turns c.args.attempts (expression_of c.in-Observe.e) c.args.table.states.entries c.args.ended.now _ _ _ _ c.in_ok-first-in-Observe.ensures.first c.in_ok-first-in-Observe.ensures.second c.in_ok-end_all-in-Observe.ensures.ok)
 
-pub fold_stmt-returns-in-Ok-split-clause-cause : goal.fold_stmt-returns-in-Ok-split-clause-cause
-fold_stmt-returns-in-Ok-split-clause-cause t c =
-    blames_as c.args.turns c.args.attempts _ _ _ _ _ (ap statement_of c.in-Observe.is ∙ observe_view c.in-Observe.e)
-    (failed_blames c.args.turns c.args.attempts (expression_of c.in-Observe.e) c.args.table.states.entries _ _ c.args.ended.now _ _ c.in-Ok-split.ensures.first c.in-Ok-split.ensures.second c.in-Err-end_all.ensures.cause)
+pub fold_stmt-returns-in_err-end_all-in-Observe-clause-cause : goal.fold_stmt-returns-in_err-end_all-in-Observe-clause-cause
+fold_stmt-returns-in_err-end_all-in-Observe-clause-cause t c =
+    let out : c.from_residual-in_err-end_all-in-Observe.result ≡ Err c.in_err-end_all-in-Observe.field-0.0 = grind arith in
+    rw out (blames_as c.args.turns c.args.attempts _ _ _ _ _ (ap statement_of c.in-Observe.is ∙ observe_view c.in-Observe.e)
+    (failed_blames c.args.turns c.args.attempts (expression_of c.in-Observe.e) c.args.table.states.entries _ _ c.args.ended.now _ _ c.in_ok-first-in-Observe.ensures.first c.in_ok-first-in-Observe.ensures.second c.in_err-end_all-in-Observe.ensures.cause))
 
-pub fold_stmt-returns-in-Observe-clause-cause : goal.fold_stmt-returns-in-Observe-clause-cause
-fold_stmt-returns-in-Observe-clause-cause t c =
-    blames_as c.args.turns c.args.attempts _ _ _ _ _ (ap statement_of c.in-Observe.is ∙ observe_view c.in-Observe.e)
-    (observe_blames c.args.turns c.args.attempts (expression_of c.in-Observe.e) c.args.table.states.entries c.args.ended.now _ c.in-Err-split.ensures.cause)
+pub fold_stmt-returns-in_err-first-in-Observe-clause-cause : goal.fold_stmt-returns-in_err-first-in-Observe-clause-cause
+fold_stmt-returns-in_err-first-in-Observe-clause-cause t c =
+    let out : c.from_residual.result ≡ Err c.in_err-first-in-Observe.field-0.0 = grind arith in
+    rw out (blames_as c.args.turns c.args.attempts _ _ _ _ _ (ap statement_of c.in-Observe.is ∙ observe_view c.in-Observe.e)
+    (observe_blames c.args.turns c.args.attempts (expression_of c.in-Observe.e) c.args.table.states.entries c.args.ended.now _ c.in_err-first-in-Observe.ensures.cause))
 
 pub fold_stmt-fold_block-requires : goal.fold_stmt-fold_block-requires
 fold_stmt-fold_block-requires t c =
     let q = (ap statement_of c.in-If.is ∙ if_view c.in-If.e c.in-If.a c.in-If.c) in
-    (search (rules, the_lemmas), (subst (λ m. BlockBelow m (statements_of c.in-If.a)) (sym c.in-Ok-split-2.ensures.vars.0) (below_as _ _ _ q c.requires.below).1, ((weights_as _ _ q c.requires.weights).0, c.requires.some)))
+    (search (rules, the_lemmas), (subst (λ m. BlockBelow m (statements_of c.in-If.a)) (sym c.in_ok-first-in-If.ensures.vars.0) (below_as _ _ _ q c.requires.below).1, ((weights_as _ _ q c.requires.weights).0, c.requires.some)))
 
-pub fold_stmt-fold_block-requires-in-Ok-fold_block : goal.fold_stmt-fold_block-requires-in-Ok-fold_block
-fold_stmt-fold_block-requires-in-Ok-fold_block t c =
+pub fold_stmt-fold_block-requires-in-If : goal.fold_stmt-fold_block-requires-in-If
+fold_stmt-fold_block-requires-in-If t c =
     let q = (ap statement_of c.in-If.is ∙ if_view c.in-If.e c.in-If.a c.in-If.c) in
-    (search (rules, the_lemmas), (subst (λ m. BlockBelow m (statements_of c.in-If.c)) (sym c.in-Ok-split-2.ensures.vars.1) (below_as _ _ _ q c.requires.below).2, ((weights_as _ _ q c.requires.weights).1, c.requires.some)))
+    (search (rules, the_lemmas), (subst (λ m. BlockBelow m (statements_of c.in-If.c)) (sym c.in_ok-first-in-If.ensures.vars.1) (below_as _ _ _ q c.requires.below).2, ((weights_as _ _ q c.requires.weights).1, c.requires.some)))
 
-pub fold_stmt-returns-in-Ok-merge-clause-ok : goal.fold_stmt-returns-in-Ok-merge-clause-ok
-fold_stmt-returns-in-Ok-merge-clause-ok t c =
+pub fold_stmt-returns-in_ok-merge-in-If-clause-ok : goal.fold_stmt-returns-in_ok-merge-in-If-clause-ok
+fold_stmt-returns-in_ok-merge-in-If-clause-ok t c =
     folds_as c.args.turns c.args.attempts _ _ _ _ _ _ (ap statement_of c.in-If.is ∙ if_view c.in-If.e c.in-If.a c.in-If.c)
-    (fold_branch c.args.turns c.args.attempts (expression_of c.in-If.e) (statements_of c.in-If.a) (statements_of c.in-If.c) c.args.table.states.entries _ _ c.args.ended.now _ c.in-Ok-split-2.ensures.first c.in-Ok-split-2.ensures.second _ _ _ _ _ c.in-Ok-fold_block.ensures.ok c.in-Ok-fold_block-2.ensures.ok c.in-Ok-merge.ensures.ok)
+    (fold_branch c.args.turns c.args.attempts (expression_of c.in-If.e) (statements_of c.in-If.a) (statements_of c.in-If.c) c.args.table.states.entries _ _ c.args.ended.now _ c.in_ok-first-in-If.ensures.first c.in_ok-first-in-If.ensures.second _ _ _ _ _ c.in_ok-left-in-If.ensures.ok c.in_ok-right-in-If.ensures.ok c.in_ok-merge-in-If.ensures.ok)
 
-pub fold_stmt-returns-in-Ok-fold_block-2-clause-cause : goal.fold_stmt-returns-in-Ok-fold_block-2-clause-cause
-fold_stmt-returns-in-Ok-fold_block-2-clause-cause t c =
-    blames_as c.args.turns c.args.attempts _ _ _ _ _ (ap statement_of c.in-If.is ∙ if_view c.in-If.e c.in-If.a c.in-If.c)
-    (let ws = weights_as _ _ (ap statement_of c.in-If.is ∙ if_view c.in-If.e c.in-If.a c.in-If.c) c.requires.weights in branches.both_blame c.args.turns c.args.attempts (expression_of c.in-If.e) (statements_of c.in-If.a) (statements_of c.in-If.c) c.args.table.states.entries _ _ c.args.ended.now _ c.in-Ok-split-2.ensures.first c.in-Ok-split-2.ensures.second _ _ c.in-Ok-fold_block.ensures.ok ws.0 _ _ _ ws.1 c.in-Ok-fold_block-2.ensures.ok c.in-Err-merge.ensures.cause)
+pub fold_stmt-returns-in_err-merge-in-If-clause-cause : goal.fold_stmt-returns-in_err-merge-in-If-clause-cause
+fold_stmt-returns-in_err-merge-in-If-clause-cause t c =
+    let out : c.from_residual-in_err-merge-in-If.result ≡ Err c.in_err-merge-in-If.field-0.0 = grind arith in
+    rw out (blames_as c.args.turns c.args.attempts _ _ _ _ _ (ap statement_of c.in-If.is ∙ if_view c.in-If.e c.in-If.a c.in-If.c)
+    (let ws = weights_as _ _ (ap statement_of c.in-If.is ∙ if_view c.in-If.e c.in-If.a c.in-If.c) c.requires.weights in branches.both_blame c.args.turns c.args.attempts (expression_of c.in-If.e) (statements_of c.in-If.a) (statements_of c.in-If.c) c.args.table.states.entries _ _ c.args.ended.now _ c.in_ok-first-in-If.ensures.first c.in_ok-first-in-If.ensures.second _ _ c.in_ok-left-in-If.ensures.ok ws.0 _ _ _ ws.1 c.in_ok-right-in-If.ensures.ok c.in_err-merge-in-If.ensures.cause))
 
-pub fold_stmt-returns-in-Ok-fold_block-clause-cause : goal.fold_stmt-returns-in-Ok-fold_block-clause-cause
-fold_stmt-returns-in-Ok-fold_block-clause-cause t c =
-    blames_as c.args.turns c.args.attempts _ _ _ _ _ (ap statement_of c.in-If.is ∙ if_view c.in-If.e c.in-If.a c.in-If.c)
-    (let ws = weights_as _ _ (ap statement_of c.in-If.is ∙ if_view c.in-If.e c.in-If.a c.in-If.c) c.requires.weights in branches.second_blames c.args.turns c.args.attempts (expression_of c.in-If.e) (statements_of c.in-If.a) (statements_of c.in-If.c) c.args.table.states.entries _ _ c.args.ended.now _ c.in-Ok-split-2.ensures.first c.in-Ok-split-2.ensures.second _ _ c.in-Ok-fold_block.ensures.ok ws.0 _ c.in-Err-fold_block-2.ensures.cause)
+pub fold_stmt-returns-in_err-right-in-If-clause-cause : goal.fold_stmt-returns-in_err-right-in-If-clause-cause
+fold_stmt-returns-in_err-right-in-If-clause-cause t c =
+    let out : c.from_residual-in_err-right-in-If.result ≡ Err c.in_err-right-in-If.field-0.0 = grind arith in
+    rw out (blames_as c.args.turns c.args.attempts _ _ _ _ _ (ap statement_of c.in-If.is ∙ if_view c.in-If.e c.in-If.a c.in-If.c)
+    (let ws = weights_as _ _ (ap statement_of c.in-If.is ∙ if_view c.in-If.e c.in-If.a c.in-If.c) c.requires.weights in branches.second_blames c.args.turns c.args.attempts (expression_of c.in-If.e) (statements_of c.in-If.a) (statements_of c.in-If.c) c.args.table.states.entries _ _ c.args.ended.now _ c.in_ok-first-in-If.ensures.first c.in_ok-first-in-If.ensures.second _ _ c.in_ok-left-in-If.ensures.ok ws.0 _ c.in_err-right-in-If.ensures.cause))
 
-pub fold_stmt-returns-in-Ok-split-2-clause-cause : goal.fold_stmt-returns-in-Ok-split-2-clause-cause
-fold_stmt-returns-in-Ok-split-2-clause-cause t c =
-    blames_as c.args.turns c.args.attempts _ _ _ _ _ (ap statement_of c.in-If.is ∙ if_view c.in-If.e c.in-If.a c.in-If.c)
-    (branches.first_blames c.args.turns c.args.attempts (expression_of c.in-If.e) (statements_of c.in-If.a) (statements_of c.in-If.c) c.args.table.states.entries _ _ c.args.ended.now _ c.in-Ok-split-2.ensures.first c.in-Ok-split-2.ensures.second _ c.in-Err-fold_block.ensures.cause)
+pub fold_stmt-returns-in_err-left-in-If-clause-cause : goal.fold_stmt-returns-in_err-left-in-If-clause-cause
+fold_stmt-returns-in_err-left-in-If-clause-cause t c =
+    let out : c.from_residual-in_err-left-in-If.result ≡ Err c.in_err-left-in-If.field-0.0 = grind arith in
+    rw out (blames_as c.args.turns c.args.attempts _ _ _ _ _ (ap statement_of c.in-If.is ∙ if_view c.in-If.e c.in-If.a c.in-If.c)
+    (branches.first_blames c.args.turns c.args.attempts (expression_of c.in-If.e) (statements_of c.in-If.a) (statements_of c.in-If.c) c.args.table.states.entries _ _ c.args.ended.now _ c.in_ok-first-in-If.ensures.first c.in_ok-first-in-If.ensures.second _ c.in_err-left-in-If.ensures.cause))
 
-pub fold_stmt-returns-in-If-clause-cause : goal.fold_stmt-returns-in-If-clause-cause
-fold_stmt-returns-in-If-clause-cause t c =
-    blames_as c.args.turns c.args.attempts _ _ _ _ _ (ap statement_of c.in-If.is ∙ if_view c.in-If.e c.in-If.a c.in-If.c)
-    (branches.branch_blames c.args.turns c.args.attempts (expression_of c.in-If.e) (statements_of c.in-If.a) (statements_of c.in-If.c) c.args.table.states.entries c.args.ended.now _ c.in-Err-split-2.ensures.cause)
+pub fold_stmt-returns-in_err-first-in-If-clause-cause : goal.fold_stmt-returns-in_err-first-in-If-clause-cause
+fold_stmt-returns-in_err-first-in-If-clause-cause t c =
+    let out : c.from_residual-in_err-first-in-If.result ≡ Err c.in_err-first-in-If.field-0.0 = grind arith in
+    rw out (blames_as c.args.turns c.args.attempts _ _ _ _ _ (ap statement_of c.in-If.is ∙ if_view c.in-If.e c.in-If.a c.in-If.c)
+    (branches.branch_blames c.args.turns c.args.attempts (expression_of c.in-If.e) (statements_of c.in-If.a) (statements_of c.in-If.c) c.args.table.states.entries c.args.ended.now _ c.in_err-first-in-If.ensures.cause))
 
 pub fold_stmt-fold_loop-requires : goal.fold_stmt-fold_loop-requires
 fold_stmt-fold_loop-requires t c =
     let q = (ap statement_of c.in-While.is ∙ while_view c.in-While.e c.in-While.body) in
     (search (rules, the_lemmas), ((below_as _ _ _ q c.requires.below).0, ((below_as _ _ _ q c.requires.below).1, (weights_as _ _ q c.requires.weights, c.requires.some))))
 
-pub fold_stmt-returns-in-Ok-fold_loop-clause-ok : goal.fold_stmt-returns-in-Ok-fold_loop-clause-ok
-fold_stmt-returns-in-Ok-fold_loop-clause-ok t c =
-    folds_as c.args.turns c.args.attempts _ _ _ _ _ _ (ap statement_of c.in-While.is ∙ while_view c.in-While.e c.in-While.body)
-    (c.in-Ok-fold_loop.ensures.ok)
+pub fold_stmt-returns-in-While-clause-ok : goal.fold_stmt-returns-in-While-clause-ok
+fold_stmt-returns-in-While-clause-ok t c =
+    IfOk-weaker c.fold_loop.result _ _
+    (λ next a. folds_as c.args.turns c.args.attempts _ _ _ _ _ _ (ap statement_of c.in-While.is ∙ while_view c.in-While.e c.in-While.body)
+    (a))
+    c.fold_loop.ensures.ok
 
 pub fold_stmt-returns-in-While-clause-cause : goal.fold_stmt-returns-in-While-clause-cause
 fold_stmt-returns-in-While-clause-cause t c =
-    blames_as c.args.turns c.args.attempts _ _ _ _ _ (ap statement_of c.in-While.is ∙ while_view c.in-While.e c.in-While.body)
-    (c.in-Err-fold_loop.ensures.cause)
+    IfErr-weaker c.fold_loop.result _ _
+    (λ e a. blames_as c.args.turns c.args.attempts _ _ _ _ _ (ap statement_of c.in-While.is ∙ while_view c.in-While.e c.in-While.body)
+    (a))
+    c.fold_loop.ensures.cause
 
 pub fold_stmt-sides-requires-clause-weight : goal.fold_stmt-sides-requires-clause-weight
 fold_stmt-sides-requires-clause-weight t c =
     (weights_as _ _ (ap statement_of c.in-Choice.is ∙ choice_view c.in-Choice.p c.in-Choice.a c.in-Choice.c) c.requires.weights).0
 
-pub fold_stmt-fold_block-requires-in-Ok-sides : goal.fold_stmt-fold_block-requires-in-Ok-sides
-fold_stmt-fold_block-requires-in-Ok-sides t c =
+pub fold_stmt-fold_block-requires-in-Choice : goal.fold_stmt-fold_block-requires-in-Choice
+fold_stmt-fold_block-requires-in-Choice t c =
     let q = (ap statement_of c.in-Choice.is ∙ choice_view c.in-Choice.p c.in-Choice.a c.in-Choice.c) in
-    (search (rules, the_lemmas), (subst (λ m. BlockBelow m (statements_of c.in-Choice.a)) (sym c.in-Ok-sides.ensures.vars.0) (below_as _ _ _ q c.requires.below).0, ((weights_as _ _ q c.requires.weights).1, c.requires.some)))
+    (search (rules, the_lemmas), (subst (λ m. BlockBelow m (statements_of c.in-Choice.a)) (sym c.in_ok-first-in-Choice.ensures.vars.0) (below_as _ _ _ q c.requires.below).0, ((weights_as _ _ q c.requires.weights).1, c.requires.some)))
 
-pub fold_stmt-fold_block-requires-in-Ok-fold_block-3 : goal.fold_stmt-fold_block-requires-in-Ok-fold_block-3
-fold_stmt-fold_block-requires-in-Ok-fold_block-3 t c =
+pub fold_stmt-fold_block-requires-in-Choice-2 : goal.fold_stmt-fold_block-requires-in-Choice-2
+fold_stmt-fold_block-requires-in-Choice-2 t c =
     let q = (ap statement_of c.in-Choice.is ∙ choice_view c.in-Choice.p c.in-Choice.a c.in-Choice.c) in
-    (search (rules, the_lemmas), (subst (λ m. BlockBelow m (statements_of c.in-Choice.c)) (sym c.in-Ok-sides.ensures.vars.1) (below_as _ _ _ q c.requires.below).1, ((weights_as _ _ q c.requires.weights).2, c.requires.some)))
+    (search (rules, the_lemmas), (subst (λ m. BlockBelow m (statements_of c.in-Choice.c)) (sym c.in_ok-first-in-Choice.ensures.vars.1) (below_as _ _ _ q c.requires.below).1, ((weights_as _ _ q c.requires.weights).2, c.requires.some)))
 
-pub fold_stmt-returns-in-Ok-merge-2-clause-ok : goal.fold_stmt-returns-in-Ok-merge-2-clause-ok
-fold_stmt-returns-in-Ok-merge-2-clause-ok t c =
+pub fold_stmt-returns-in_ok-merge-in-Choice-clause-ok : goal.fold_stmt-returns-in_ok-merge-in-Choice-clause-ok
+fold_stmt-returns-in_ok-merge-in-Choice-clause-ok t c =
     folds_as c.args.turns c.args.attempts _ _ _ _ _ _ (ap statement_of c.in-Choice.is ∙ choice_view c.in-Choice.p c.in-Choice.a c.in-Choice.c)
-    (let ws = weights_as _ _ (ap statement_of c.in-Choice.is ∙ choice_view c.in-Choice.p c.in-Choice.a c.in-Choice.c) c.requires.weights in fold_choice c.args.turns c.args.attempts c.in-Choice.p (statements_of c.in-Choice.a) (statements_of c.in-Choice.c) ws.0 c.args.table.states.entries c.args.ended.now _ _ _ c.in-Ok-sides.ensures.ok _ _ _ _ _ c.in-Ok-fold_block-3.ensures.ok c.in-Ok-fold_block-4.ensures.ok c.in-Ok-merge-2.ensures.ok)
+    (let ws = weights_as _ _ (ap statement_of c.in-Choice.is ∙ choice_view c.in-Choice.p c.in-Choice.a c.in-Choice.c) c.requires.weights in fold_choice c.args.turns c.args.attempts c.in-Choice.p (statements_of c.in-Choice.a) (statements_of c.in-Choice.c) ws.0 c.args.table.states.entries c.args.ended.now _ _ _ c.in_ok-first-in-Choice.ensures.ok _ _ _ _ _ c.in_ok-left-in-Choice.ensures.ok c.in_ok-right-in-Choice.ensures.ok c.in_ok-merge-in-Choice.ensures.ok)
 
-pub fold_stmt-returns-in-Ok-fold_block-4-clause-cause : goal.fold_stmt-returns-in-Ok-fold_block-4-clause-cause
-fold_stmt-returns-in-Ok-fold_block-4-clause-cause t c =
-    blames_as c.args.turns c.args.attempts _ _ _ _ _ (ap statement_of c.in-Choice.is ∙ choice_view c.in-Choice.p c.in-Choice.a c.in-Choice.c)
-    (let ws = weights_as _ _ (ap statement_of c.in-Choice.is ∙ choice_view c.in-Choice.p c.in-Choice.a c.in-Choice.c) c.requires.weights in choices.both_blame c.args.turns c.args.attempts c.in-Choice.p (statements_of c.in-Choice.a) (statements_of c.in-Choice.c) ws.0 c.args.table.states.entries c.args.ended.now _ _ _ c.in-Ok-sides.ensures.ok _ _ c.in-Ok-fold_block-3.ensures.ok ws.1 _ _ _ ws.2 c.in-Ok-fold_block-4.ensures.ok c.in-Err-merge-2.ensures.cause)
+pub fold_stmt-returns-in_err-merge-in-Choice-clause-cause : goal.fold_stmt-returns-in_err-merge-in-Choice-clause-cause
+fold_stmt-returns-in_err-merge-in-Choice-clause-cause t c =
+    let out : c.from_residual-in_err-merge-in-Choice.result ≡ Err c.in_err-merge-in-Choice.field-0.0 = grind arith in
+    rw out (blames_as c.args.turns c.args.attempts _ _ _ _ _ (ap statement_of c.in-Choice.is ∙ choice_view c.in-Choice.p c.in-Choice.a c.in-Choice.c)
+    (let ws = weights_as _ _ (ap statement_of c.in-Choice.is ∙ choice_view c.in-Choice.p c.in-Choice.a c.in-Choice.c) c.requires.weights in choices.both_blame c.args.turns c.args.attempts c.in-Choice.p (statements_of c.in-Choice.a) (statements_of c.in-Choice.c) ws.0 c.args.table.states.entries c.args.ended.now _ _ _ c.in_ok-first-in-Choice.ensures.ok _ _ c.in_ok-left-in-Choice.ensures.ok ws.1 _ _ _ ws.2 c.in_ok-right-in-Choice.ensures.ok c.in_err-merge-in-Choice.ensures.cause))
 
-pub fold_stmt-returns-in-Ok-fold_block-3-clause-cause : goal.fold_stmt-returns-in-Ok-fold_block-3-clause-cause
-fold_stmt-returns-in-Ok-fold_block-3-clause-cause t c =
-    blames_as c.args.turns c.args.attempts _ _ _ _ _ (ap statement_of c.in-Choice.is ∙ choice_view c.in-Choice.p c.in-Choice.a c.in-Choice.c)
-    (let ws = weights_as _ _ (ap statement_of c.in-Choice.is ∙ choice_view c.in-Choice.p c.in-Choice.a c.in-Choice.c) c.requires.weights in choices.second_blames c.args.turns c.args.attempts c.in-Choice.p (statements_of c.in-Choice.a) (statements_of c.in-Choice.c) ws.0 c.args.table.states.entries c.args.ended.now _ _ _ c.in-Ok-sides.ensures.ok _ _ c.in-Ok-fold_block-3.ensures.ok ws.1 _ c.in-Err-fold_block-4.ensures.cause)
+pub fold_stmt-returns-in_err-right-in-Choice-clause-cause : goal.fold_stmt-returns-in_err-right-in-Choice-clause-cause
+fold_stmt-returns-in_err-right-in-Choice-clause-cause t c =
+    let out : c.from_residual-in_err-right-in-Choice.result ≡ Err c.in_err-right-in-Choice.field-0.0 = grind arith in
+    rw out (blames_as c.args.turns c.args.attempts _ _ _ _ _ (ap statement_of c.in-Choice.is ∙ choice_view c.in-Choice.p c.in-Choice.a c.in-Choice.c)
+    (let ws = weights_as _ _ (ap statement_of c.in-Choice.is ∙ choice_view c.in-Choice.p c.in-Choice.a c.in-Choice.c) c.requires.weights in choices.second_blames c.args.turns c.args.attempts c.in-Choice.p (statements_of c.in-Choice.a) (statements_of c.in-Choice.c) ws.0 c.args.table.states.entries c.args.ended.now _ _ _ c.in_ok-first-in-Choice.ensures.ok _ _ c.in_ok-left-in-Choice.ensures.ok ws.1 _ c.in_err-right-in-Choice.ensures.cause))
 
-pub fold_stmt-returns-in-Ok-sides-clause-cause : goal.fold_stmt-returns-in-Ok-sides-clause-cause
-fold_stmt-returns-in-Ok-sides-clause-cause t c =
-    blames_as c.args.turns c.args.attempts _ _ _ _ _ (ap statement_of c.in-Choice.is ∙ choice_view c.in-Choice.p c.in-Choice.a c.in-Choice.c)
-    (let ws = weights_as _ _ (ap statement_of c.in-Choice.is ∙ choice_view c.in-Choice.p c.in-Choice.a c.in-Choice.c) c.requires.weights in choices.first_blames c.args.turns c.args.attempts c.in-Choice.p (statements_of c.in-Choice.a) (statements_of c.in-Choice.c) ws.0 c.args.table.states.entries c.args.ended.now _ _ _ c.in-Ok-sides.ensures.ok _ c.in-Err-fold_block-3.ensures.cause)
+pub fold_stmt-returns-in_err-left-in-Choice-clause-cause : goal.fold_stmt-returns-in_err-left-in-Choice-clause-cause
+fold_stmt-returns-in_err-left-in-Choice-clause-cause t c =
+    let out : c.from_residual-in_err-left-in-Choice.result ≡ Err c.in_err-left-in-Choice.field-0.0 = grind arith in
+    rw out (blames_as c.args.turns c.args.attempts _ _ _ _ _ (ap statement_of c.in-Choice.is ∙ choice_view c.in-Choice.p c.in-Choice.a c.in-Choice.c)
+    (let ws = weights_as _ _ (ap statement_of c.in-Choice.is ∙ choice_view c.in-Choice.p c.in-Choice.a c.in-Choice.c) c.requires.weights in choices.first_blames c.args.turns c.args.attempts c.in-Choice.p (statements_of c.in-Choice.a) (statements_of c.in-Choice.c) ws.0 c.args.table.states.entries c.args.ended.now _ _ _ c.in_ok-first-in-Choice.ensures.ok _ c.in_err-left-in-Choice.ensures.cause))
 
-pub fold_stmt-returns-in-Choice-clause-cause : goal.fold_stmt-returns-in-Choice-clause-cause
-fold_stmt-returns-in-Choice-clause-cause t c =
-    blames_as c.args.turns c.args.attempts _ _ _ _ _ (ap statement_of c.in-Choice.is ∙ choice_view c.in-Choice.p c.in-Choice.a c.in-Choice.c)
-    (let ws = weights_as _ _ (ap statement_of c.in-Choice.is ∙ choice_view c.in-Choice.p c.in-Choice.a c.in-Choice.c) c.requires.weights in sides_blame c.args.turns c.args.attempts c.in-Choice.p (statements_of c.in-Choice.a) (statements_of c.in-Choice.c) ws.0 c.args.table.states.entries c.args.ended.now _ (λ e. c.if-len-eq0.false (c.len.ensures.len ∙ ap length e)) c.in-Err-sides.ensures.cause)
+pub fold_stmt-returns-in_err-first-in-Choice-clause-cause : goal.fold_stmt-returns-in_err-first-in-Choice-clause-cause
+fold_stmt-returns-in_err-first-in-Choice-clause-cause t c =
+    let out : c.from_residual-in_err-first-in-Choice.result ≡ Err c.in_err-first-in-Choice.field-0.0 = grind arith in
+    rw out (blames_as c.args.turns c.args.attempts _ _ _ _ _ (ap statement_of c.in-Choice.is ∙ choice_view c.in-Choice.p c.in-Choice.a c.in-Choice.c)
+    (let ws = weights_as _ _ (ap statement_of c.in-Choice.is ∙ choice_view c.in-Choice.p c.in-Choice.a c.in-Choice.c) c.requires.weights in sides_blame c.args.turns c.args.attempts c.in-Choice.p (statements_of c.in-Choice.a) (statements_of c.in-Choice.c) ws.0 c.args.table.states.entries c.args.ended.now _ (λ e. c.if-len-eq0.false (c.len.ensures.len ∙ ap length e)) c.in_err-first-in-Choice.ensures.cause))
 
 pub fold_stmt-returns-then-len-eq0-clause-bits : goal.fold_stmt-returns-then-len-eq0-clause-bits
 fold_stmt-returns-then-len-eq0-clause-bits t c =
     meters_empty c.args.turns c.args.attempts _ c.args.table.states.entries c.args.ended.now c.args.meter.now c.requires.weights (empty_of c.args.table.states.entries (sym c.len.ensures.len ∙ c.if-len-eq0.true))
 
-pub fold_stmt-returns-in-Ok-draw-clause-bits : goal.fold_stmt-returns-in-Ok-draw-clause-bits
-fold_stmt-returns-in-Ok-draw-clause-bits t c =
-    meters_as c.args.turns c.args.attempts _ _ _ _ _ _ (ap statement_of c.in-Uniform.is ∙ uniform_view c.in-Uniform.x c.in-Uniform.e)
-    (uniform_meters c.args.turns c.args.attempts c.in-Uniform.x (expression_of c.in-Uniform.e) c.args.table.states.entries c.args.ended.now _ _ c.count_uniform.ensures)
+pub fold_stmt-returns-in-Uniform-clause-bits : goal.fold_stmt-returns-in-Uniform-clause-bits
+fold_stmt-returns-in-Uniform-clause-bits t c =
+    IfOk-weaker c.draw.result _ _
+    (λ next _. meters_as c.args.turns c.args.attempts _ _ _ _ _ _ (ap statement_of c.in-Uniform.is ∙ uniform_view c.in-Uniform.x c.in-Uniform.e)
+    (uniform_meters c.args.turns c.args.attempts c.in-Uniform.x (expression_of c.in-Uniform.e) c.args.table.states.entries c.args.ended.now _ _ c.count_uniform.ensures))
+    c.draw.ensures.ok
 
-pub fold_stmt-returns-in-Ok-merge-clause-bits : goal.fold_stmt-returns-in-Ok-merge-clause-bits
-fold_stmt-returns-in-Ok-merge-clause-bits t c =
+pub fold_stmt-returns-in_ok-merge-in-If-clause-bits : goal.fold_stmt-returns-in_ok-merge-in-If-clause-bits
+fold_stmt-returns-in_ok-merge-in-If-clause-bits t c =
     meters_as c.args.turns c.args.attempts _ _ _ _ _ _ (ap statement_of c.in-If.is ∙ if_view c.in-If.e c.in-If.a c.in-If.c)
-    (branch_meters c.args.turns c.args.attempts (expression_of c.in-If.e) (statements_of c.in-If.a) (statements_of c.in-If.c) c.args.table.states.entries _ _ c.args.ended.now _ c.in-Ok-split-2.ensures.first c.in-Ok-split-2.ensures.second _ _ _ _ _ c.in-Ok-fold_block.ensures.ok c.in-Ok-fold_block.ensures.bits c.in-Ok-fold_block-2.ensures.bits)
+    (branch_meters c.args.turns c.args.attempts (expression_of c.in-If.e) (statements_of c.in-If.a) (statements_of c.in-If.c) c.args.table.states.entries _ _ c.args.ended.now _ c.in_ok-first-in-If.ensures.first c.in_ok-first-in-If.ensures.second _ _ _ _ _ c.in_ok-left-in-If.ensures.ok c.in_ok-left-in-If.ensures.bits c.in_ok-right-in-If.ensures.bits)
 
-pub fold_stmt-returns-in-Ok-fold_loop-clause-bits : goal.fold_stmt-returns-in-Ok-fold_loop-clause-bits
-fold_stmt-returns-in-Ok-fold_loop-clause-bits t c =
-    meters_as c.args.turns c.args.attempts _ _ _ _ _ _ (ap statement_of c.in-While.is ∙ while_view c.in-While.e c.in-While.body)
-    (c.in-Ok-fold_loop.ensures.bits)
+pub fold_stmt-returns-in-While-clause-bits : goal.fold_stmt-returns-in-While-clause-bits
+fold_stmt-returns-in-While-clause-bits t c =
+    IfOk-weaker c.fold_loop.result _ _
+    (λ next a. meters_as c.args.turns c.args.attempts _ _ _ _ _ _ (ap statement_of c.in-While.is ∙ while_view c.in-While.e c.in-While.body)
+    (a))
+    c.fold_loop.ensures.bits
 
-pub fold_stmt-returns-in-Ok-merge-2-clause-bits : goal.fold_stmt-returns-in-Ok-merge-2-clause-bits
-fold_stmt-returns-in-Ok-merge-2-clause-bits t c =
+pub fold_stmt-returns-in_ok-merge-in-Choice-clause-bits : goal.fold_stmt-returns-in_ok-merge-in-Choice-clause-bits
+fold_stmt-returns-in_ok-merge-in-Choice-clause-bits t c =
     meters_as c.args.turns c.args.attempts _ _ _ _ _ _ (ap statement_of c.in-Choice.is ∙ choice_view c.in-Choice.p c.in-Choice.a c.in-Choice.c)
     (let ws = weights_as _ _ (ap statement_of c.in-Choice.is ∙ choice_view c.in-Choice.p c.in-Choice.a c.in-Choice.c) c.requires.weights in
-    choice_meters c.args.turns c.args.attempts c.in-Choice.p (statements_of c.in-Choice.a) (statements_of c.in-Choice.c) ws.0 c.args.table.states.entries c.args.ended.now _ _ _ c.in-Ok-sides.ensures.ok _ _ _ _ _ _ c.count_choice.ensures c.in-Ok-fold_block-3.ensures.ok c.in-Ok-fold_block-3.ensures.bits c.in-Ok-fold_block-4.ensures.bits)
+    choice_meters c.args.turns c.args.attempts c.in-Choice.p (statements_of c.in-Choice.a) (statements_of c.in-Choice.c) ws.0 c.args.table.states.entries c.args.ended.now _ _ _ c.in_ok-first-in-Choice.ensures.ok _ _ _ _ _ _ c.count_choice.ensures c.in_ok-left-in-Choice.ensures.ok c.in_ok-left-in-Choice.ensures.bits c.in_ok-right-in-Choice.ensures.bits)
 
--- ---- choices among several
 pub fold_stmt-count_arms-requires-clause-parts : goal.fold_stmt-count_arms-requires-clause-parts
 fold_stmt-count_arms-requires-clause-parts t c = (weights_as _ _ (ap statement_of c.in-Choose.is ∙ choose_view c.in-Choose.arms) c.requires.weights).0
 
@@ -313,27 +346,35 @@ fold_stmt-fold_arms-requires t c =
     let q = (ap statement_of c.in-Choose.is ∙ choose_view c.in-Choose.arms) in
     let w = weights_as _ _ q c.requires.weights in
     let some : 1 ≤ length c.args.table.states.entries = omega (arith, c.if-len-eq0.false, c.len.ensures.len) in
-    let equal = subst (λ b. IsEqual c.in-Ok-undecided.part (class_weight b c.args.attempts 1)) c.total.ensures c.in-Ok-undecided.ensures.equal in
-    (search (rules, the_lemmas), (below_as _ _ _ q c.requires.below, (w.0, (w.1, (c.in-Ok-undecided.ensures.above, (equal, (c.requires.some, some)))))))
+    let equal = subst (λ b. IsEqual c.in_ok-part-in-Choose.part (class_weight b c.args.attempts 1)) c.total.ensures c.in_ok-part-in-Choose.ensures.equal in
+    (search (rules, the_lemmas), (below_as _ _ _ q c.requires.below, (w.0, (w.1, (c.in_ok-part-in-Choose.ensures.above, (equal, (c.requires.some, some)))))))
 
-pub fold_stmt-returns-in-Ok-fold_arms-clause-ok : goal.fold_stmt-returns-in-Ok-fold_arms-clause-ok
-fold_stmt-returns-in-Ok-fold_arms-clause-ok t c = folds_as c.args.turns c.args.attempts _ _ _ _ _ _ (ap statement_of c.in-Choose.is ∙ choose_view c.in-Choose.arms) (c.in-Ok-fold_arms.ensures.ok c.args.ended.now (subst (λ b. UndecidedTo b c.args.attempts c.args.table.states.entries c.args.ended.now c.undecided.new.ended) c.total.ensures c.in-Ok-undecided.ensures.ok))
+pub fold_stmt-returns-in_ok-part-in-Choose-clause-ok : goal.fold_stmt-returns-in_ok-part-in-Choose-clause-ok
+fold_stmt-returns-in_ok-part-in-Choose-clause-ok t c =
+    IfOk-weaker c.fold_arms.result _ _
+    (λ next a. folds_as c.args.turns c.args.attempts _ _ _ _ _ _ (ap statement_of c.in-Choose.is ∙ choose_view c.in-Choose.arms) (a c.args.ended.now (subst (λ b. UndecidedTo b c.args.attempts c.args.table.states.entries c.args.ended.now c.undecided.new.ended) c.total.ensures c.in_ok-part-in-Choose.ensures.ok)))
+    c.fold_arms.ensures.ok
 
-pub fold_stmt-returns-in-Ok-fold_arms-clause-bits : goal.fold_stmt-returns-in-Ok-fold_arms-clause-bits
-fold_stmt-returns-in-Ok-fold_arms-clause-bits t c =
-    meters_as c.args.turns c.args.attempts _ _ _ _ _ _ (ap statement_of c.in-Choose.is ∙ choose_view c.in-Choose.arms)
-    (c.in-Ok-fold_arms.ensures.bits c.args.ended.now (subst (λ b. UndecidedTo b c.args.attempts c.args.table.states.entries c.args.ended.now c.undecided.new.ended) c.total.ensures c.in-Ok-undecided.ensures.ok) c.args.meter.now c.count_arms.ensures)
+pub fold_stmt-returns-in_ok-part-in-Choose-clause-bits : goal.fold_stmt-returns-in_ok-part-in-Choose-clause-bits
+fold_stmt-returns-in_ok-part-in-Choose-clause-bits t c =
+    IfOk-weaker c.fold_arms.result _ _
+    (λ next a. meters_as c.args.turns c.args.attempts _ _ _ _ _ _ (ap statement_of c.in-Choose.is ∙ choose_view c.in-Choose.arms)
+    (a c.args.ended.now (subst (λ b. UndecidedTo b c.args.attempts c.args.table.states.entries c.args.ended.now c.undecided.new.ended) c.total.ensures c.in_ok-part-in-Choose.ensures.ok) c.args.meter.now c.count_arms.ensures))
+    c.fold_arms.ensures.bits
 
-pub fold_stmt-returns-in-Ok-undecided-clause-cause : goal.fold_stmt-returns-in-Ok-undecided-clause-cause
-fold_stmt-returns-in-Ok-undecided-clause-cause t c =
-    blames_as c.args.turns c.args.attempts _ _ _ _ _ (ap statement_of c.in-Choose.is ∙ choose_view c.in-Choose.arms) (c.in-Err-fold_arms.ensures.cause c.args.ended.now (subst (λ b. UndecidedTo b c.args.attempts c.args.table.states.entries c.args.ended.now c.undecided.new.ended) c.total.ensures c.in-Ok-undecided.ensures.ok))
+pub fold_stmt-returns-in_ok-part-in-Choose-clause-cause : goal.fold_stmt-returns-in_ok-part-in-Choose-clause-cause
+fold_stmt-returns-in_ok-part-in-Choose-clause-cause t c =
+    IfErr-weaker c.fold_arms.result _ _
+    (λ e a. blames_as c.args.turns c.args.attempts _ _ _ _ _ (ap statement_of c.in-Choose.is ∙ choose_view c.in-Choose.arms) (a c.args.ended.now (subst (λ b. UndecidedTo b c.args.attempts c.args.table.states.entries c.args.ended.now c.undecided.new.ended) c.total.ensures c.in_ok-part-in-Choose.ensures.ok)))
+    c.fold_arms.ensures.cause
 
-pub fold_stmt-returns-clause-cause : goal.fold_stmt-returns-clause-cause
-fold_stmt-returns-clause-cause t c =
+pub fold_stmt-returns-in_err-part-in-Choose-clause-cause : goal.fold_stmt-returns-in_err-part-in-Choose-clause-cause
+fold_stmt-returns-in_err-part-in-Choose-clause-cause t c =
     let w = weights_as _ _ (ap statement_of c.in-Choose.is ∙ choose_view c.in-Choose.arms) c.requires.weights in
-    blames_as c.args.turns c.args.attempts _ _ _ _ _ (ap statement_of c.in-Choose.is ∙ choose_view c.in-Choose.arms)
-    (undecided_blames c.args.turns c.args.attempts (list_of_arms c.in-Choose.arms) w.0 c.args.table.states.entries c.args.ended.now c.in-Err-undecided.error (λ e. c.if-len-eq0.false (c.len.ensures.len ∙ ap length e))
-    (subst (λ b. UndecidedBlames b c.args.attempts c.args.table.states.entries c.args.ended.now c.in-Err-undecided.error) c.total.ensures c.in-Err-undecided.ensures.cause))
+    let out : c.from_residual-in_err-part-in-Choose.result ≡ Err c.in_err-part-in-Choose.field-0.0 = grind arith in
+    rw out (blames_as c.args.turns c.args.attempts _ _ _ _ _ (ap statement_of c.in-Choose.is ∙ choose_view c.in-Choose.arms)
+    (undecided_blames c.args.turns c.args.attempts (list_of_arms c.in-Choose.arms) w.0 c.args.table.states.entries c.args.ended.now c.in_err-part-in-Choose.field-0.0 (λ e. c.if-len-eq0.false (c.len.ensures.len ∙ ap length e))
+    (subst (λ b. UndecidedBlames b c.args.attempts c.args.table.states.entries c.args.ended.now c.in_err-part-in-Choose.field-0.0) c.total.ensures c.in_err-part-in-Choose.ensures.cause)))
 
 pub fold_arms-loop-count-init : goal.fold_arms-loop-count-init
 fold_arms-loop-count-init t c =
@@ -347,35 +388,41 @@ fold_arms-loop-count-init t c =
       bits = λ E u m k. metered_as c.args.turns c.args.attempts (list_of_arms c.args.arms.now) c.requires.parts c.args.table.now.states.entries E m _ _ c.args.meter.now (sym same) (metered_start c.args.turns c.args.attempts (list_of_arms c.args.arms.now) c.requires.parts c.args.table.now.states.entries E m c.args.meter.now k);
     }
 
-pub fold_arms-returns-in-Err-clause-cause : goal.fold_arms-returns-in-Err-clause-cause
-fold_arms-returns-in-Err-clause-cause t c E u =
+pub fold_arms-returns-in_err-side-clause-cause : goal.fold_arms-returns-in_err-side-clause-cause
+fold_arms-returns-in_err-side-clause-cause t c =
+    let out : c.from_residual.result ≡ Err c.in_err-side.field-0.0 = grind arith in
+    rw out (λ E u.
     let next = arms_next c.deref-count-items.result.now c.loop-count.count-index c.loop-count-item.result c.loop-count-test.true c.loop-count-item.is in
     let e = ap (λ a. sum (parts_of a)) next in
-    weighed_blames c.args.turns c.args.attempts (list_of_arms c.args.arms.now) c.requires.parts c.args.table.now.states.entries E c.loop-count-item.result.0 (statements_of c.loop-count-item.result.1) (arm_list_of (drop (c.loop-count.count-index + 1) c.deref-count-items.result.now)) c.loop-count.out.states.entries c.loop-count.ended (arms_as c.args.turns c.args.attempts (list_of_arms c.args.arms.now) c.requires.parts c.args.table.now.states.entries E _ _ c.loop-count.out.states.entries c.loop-count.ended next (c.loop-count.invariant.so_far E u)) c.args.part.now c.requires.equal c.in-Err.error (λ e. some_states c.args.table.now.states.entries c.requires.any e) c.requires.weights (subst ArmsAreWeighed next c.loop-count.invariant.weights)
-    (omega (arith, e, c.loop-count.invariant.few)) c.in-Err.ensures.cause
+    weighed_blames c.args.turns c.args.attempts (list_of_arms c.args.arms.now) c.requires.parts c.args.table.now.states.entries E c.loop-count-item.result.0 (statements_of c.loop-count-item.result.1) (arm_list_of (drop (c.loop-count.count-index + 1) c.deref-count-items.result.now)) c.loop-count.out.states.entries c.loop-count.ended (arms_as c.args.turns c.args.attempts (list_of_arms c.args.arms.now) c.requires.parts c.args.table.now.states.entries E _ _ c.loop-count.out.states.entries c.loop-count.ended next (c.loop-count.invariant.so_far E u)) c.args.part.now c.requires.equal c.in_err-side.field-0.0 (λ e. some_states c.args.table.now.states.entries c.requires.any e) c.requires.weights (subst ArmsAreWeighed next c.loop-count.invariant.weights)
+    (omega (arith, e, c.loop-count.invariant.few)) c.in_err-side.ensures.cause)
 
 pub fold_arms-fold_block-requires : goal.fold_arms-fold_block-requires
 fold_arms-fold_block-requires t c =
     let next = arms_next c.deref-count-items.result.now c.loop-count.count-index c.loop-count-item.result c.loop-count-test.true c.loop-count-item.is in (
       search (rules, the_lemmas),
       (
-        subst (λ m. BlockBelow m (statements_of c.loop-count-item.result.1)) (sym c.in-Ok.ensures.vars) (subst (ArmsBelow c.args.table.now.vars) next c.loop-count.invariant.below).0,
+        subst (λ m. BlockBelow m (statements_of c.loop-count-item.result.1)) (sym c.in_ok-side.ensures.vars) (subst (ArmsBelow c.args.table.now.vars) next c.loop-count.invariant.below).0,
         ((subst ArmsAreWeighed next c.loop-count.invariant.weights).0, c.requires.some),
       ),
     )
 
-pub fold_arms-returns-in-Err-fold_block-clause-cause : goal.fold_arms-returns-in-Err-fold_block-clause-cause
-fold_arms-returns-in-Err-fold_block-clause-cause t c E u =
+pub fold_arms-returns-in_err-left-clause-cause : goal.fold_arms-returns-in_err-left-clause-cause
+fold_arms-returns-in_err-left-clause-cause t c =
+    let out : c.from_residual-in_err-left.result ≡ Err c.in_err-left.field-0.0 = grind arith in
+    rw out (λ E u.
     let next = arms_next c.deref-count-items.result.now c.loop-count.count-index c.loop-count-item.result c.loop-count-test.true c.loop-count-item.is in
-    block_blames c.args.turns c.args.attempts (list_of_arms c.args.arms.now) c.requires.parts c.args.table.now.states.entries E c.loop-count-item.result.0 (statements_of c.loop-count-item.result.1) (arm_list_of (drop (c.loop-count.count-index + 1) c.deref-count-items.result.now)) c.loop-count.out.states.entries c.loop-count.ended (arms_as c.args.turns c.args.attempts (list_of_arms c.args.arms.now) c.requires.parts c.args.table.now.states.entries E _ _ c.loop-count.out.states.entries c.loop-count.ended next (c.loop-count.invariant.so_far E u)) c.args.part.now c.requires.equal _ c.in-Ok.ensures.ok c.in-Err-fold_block.error c.requires.weights (subst ArmsAreWeighed next c.loop-count.invariant.weights) c.in-Err-fold_block.ensures.cause
+    block_blames c.args.turns c.args.attempts (list_of_arms c.args.arms.now) c.requires.parts c.args.table.now.states.entries E c.loop-count-item.result.0 (statements_of c.loop-count-item.result.1) (arm_list_of (drop (c.loop-count.count-index + 1) c.deref-count-items.result.now)) c.loop-count.out.states.entries c.loop-count.ended (arms_as c.args.turns c.args.attempts (list_of_arms c.args.arms.now) c.requires.parts c.args.table.now.states.entries E _ _ c.loop-count.out.states.entries c.loop-count.ended next (c.loop-count.invariant.so_far E u)) c.args.part.now c.requires.equal _ c.in_ok-side.ensures.ok c.in_err-left.field-0.0 c.requires.weights (subst ArmsAreWeighed next c.loop-count.invariant.weights) c.in_err-left.ensures.cause)
 
 pub fold_arms-merge-requires : goal.fold_arms-merge-requires
-fold_arms-merge-requires t c = c.in-Ok-fold_block.ensures.vars ∙ c.in-Ok.ensures.vars ∙ sym c.loop-count.invariant.vars
+fold_arms-merge-requires t c = c.in_ok-left.ensures.vars ∙ c.in_ok-side.ensures.vars ∙ sym c.loop-count.invariant.vars
 
-pub fold_arms-returns-in-Err-merge-clause-cause : goal.fold_arms-returns-in-Err-merge-clause-cause
-fold_arms-returns-in-Err-merge-clause-cause t c E u =
+pub fold_arms-returns-in_err-merge-clause-cause : goal.fold_arms-returns-in_err-merge-clause-cause
+fold_arms-returns-in_err-merge-clause-cause t c =
+    let out : c.from_residual-in_err-merge.result ≡ Err c.in_err-merge.field-0.0 = grind arith in
+    rw out (λ E u.
     let next = arms_next c.deref-count-items.result.now c.loop-count.count-index c.loop-count-item.result c.loop-count-test.true c.loop-count-item.is in
-    arm_blames c.args.turns c.args.attempts (list_of_arms c.args.arms.now) c.requires.parts c.args.table.now.states.entries E c.loop-count-item.result.0 (statements_of c.loop-count-item.result.1) (arm_list_of (drop (c.loop-count.count-index + 1) c.deref-count-items.result.now)) c.loop-count.out.states.entries c.loop-count.ended (arms_as c.args.turns c.args.attempts (list_of_arms c.args.arms.now) c.requires.parts c.args.table.now.states.entries E _ _ c.loop-count.out.states.entries c.loop-count.ended next (c.loop-count.invariant.so_far E u)) c.args.part.now c.requires.equal _ c.in-Ok.ensures.ok _ _ c.in-Ok-fold_block.ensures.ok c.in-Err-merge.error c.requires.weights c.in-Err-merge.ensures.cause
+    arm_blames c.args.turns c.args.attempts (list_of_arms c.args.arms.now) c.requires.parts c.args.table.now.states.entries E c.loop-count-item.result.0 (statements_of c.loop-count-item.result.1) (arm_list_of (drop (c.loop-count.count-index + 1) c.deref-count-items.result.now)) c.loop-count.out.states.entries c.loop-count.ended (arms_as c.args.turns c.args.attempts (list_of_arms c.args.arms.now) c.requires.parts c.args.table.now.states.entries E _ _ c.loop-count.out.states.entries c.loop-count.ended next (c.loop-count.invariant.so_far E u)) c.args.part.now c.requires.equal _ c.in_ok-side.ensures.ok _ _ c.in_ok-left.ensures.ok c.in_err-merge.field-0.0 c.requires.weights c.in_err-merge.ensures.cause)
 
 pub fold_arms-loop-count-preserved : goal.fold_arms-loop-count-preserved
 fold_arms-loop-count-preserved t c =
@@ -385,8 +432,8 @@ fold_arms-loop-count-preserved t c =
       below = (subst (ArmsBelow c.args.table.now.vars) next c.loop-count.invariant.below).1;
       weights = (subst ArmsAreWeighed next c.loop-count.invariant.weights).1;
       few = let s = sum_next c.deref-count-items.result.now c.loop-count.count-index c.loop-count-item.result c.loop-count-test.true c.loop-count-item.is in omega (arith, s, c.loop-count.invariant.few);
-      so_far = λ E u. arm_turn c.args.turns c.args.attempts (list_of_arms c.args.arms.now) c.requires.parts c.args.table.now.states.entries E c.loop-count-item.result.0 (statements_of c.loop-count-item.result.1) (arm_list_of (drop (c.loop-count.count-index + 1) c.deref-count-items.result.now)) c.loop-count.out.states.entries c.loop-count.ended (arms_as c.args.turns c.args.attempts (list_of_arms c.args.arms.now) c.requires.parts c.args.table.now.states.entries E _ _ c.loop-count.out.states.entries c.loop-count.ended next (c.loop-count.invariant.so_far E u)) c.args.part.now c.requires.equal _ c.in-Ok.ensures.ok _ _ c.in-Ok-fold_block.ensures.ok _ c.in_default.ensures.ok;
-      bits = λ E u m k. metered_turn c.args.turns c.args.attempts (list_of_arms c.args.arms.now) c.requires.parts c.args.table.now.states.entries E m c.loop-count-item.result.0 (statements_of c.loop-count-item.result.1) (arm_list_of (drop (c.loop-count.count-index + 1) c.deref-count-items.result.now)) c.loop-count.out.states.entries c.loop-count.ended (arms_as c.args.turns c.args.attempts (list_of_arms c.args.arms.now) c.requires.parts c.args.table.now.states.entries E _ _ c.loop-count.out.states.entries c.loop-count.ended next (c.loop-count.invariant.so_far E u)) c.args.part.now c.requires.equal _ c.in-Ok.ensures.ok c.loop-count.meter _ (metered_as c.args.turns c.args.attempts (list_of_arms c.args.arms.now) c.requires.parts c.args.table.now.states.entries E m _ _ c.loop-count.meter next (c.loop-count.invariant.bits E u m k)) c.in-Ok-fold_block.ensures.bits;
+      so_far = λ E u. arm_turn c.args.turns c.args.attempts (list_of_arms c.args.arms.now) c.requires.parts c.args.table.now.states.entries E c.loop-count-item.result.0 (statements_of c.loop-count-item.result.1) (arm_list_of (drop (c.loop-count.count-index + 1) c.deref-count-items.result.now)) c.loop-count.out.states.entries c.loop-count.ended (arms_as c.args.turns c.args.attempts (list_of_arms c.args.arms.now) c.requires.parts c.args.table.now.states.entries E _ _ c.loop-count.out.states.entries c.loop-count.ended next (c.loop-count.invariant.so_far E u)) c.args.part.now c.requires.equal _ c.in_ok-side.ensures.ok _ _ c.in_ok-left.ensures.ok _ c.in_ok-merge.ensures.ok;
+      bits = λ E u m k. metered_turn c.args.turns c.args.attempts (list_of_arms c.args.arms.now) c.requires.parts c.args.table.now.states.entries E m c.loop-count-item.result.0 (statements_of c.loop-count-item.result.1) (arm_list_of (drop (c.loop-count.count-index + 1) c.deref-count-items.result.now)) c.loop-count.out.states.entries c.loop-count.ended (arms_as c.args.turns c.args.attempts (list_of_arms c.args.arms.now) c.requires.parts c.args.table.now.states.entries E _ _ c.loop-count.out.states.entries c.loop-count.ended next (c.loop-count.invariant.so_far E u)) c.args.part.now c.requires.equal _ c.in_ok-side.ensures.ok c.loop-count.meter _ (metered_as c.args.turns c.args.attempts (list_of_arms c.args.arms.now) c.requires.parts c.args.table.now.states.entries E m _ _ c.loop-count.meter next (c.loop-count.invariant.bits E u m k)) c.in_ok-left.ensures.bits;
     }
 
 pub fold_arms-returns-clause-ok : goal.fold_arms-returns-clause-ok

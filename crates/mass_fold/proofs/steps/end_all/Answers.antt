@@ -9,7 +9,7 @@ loop-f-preserved c = record {
   next = tt;
   finite = tt;
   so_far = doing_stop none_kept (all_stopped (end_of c.args.x)) [] c.args.table.states.entries c.args.ended.now [] c.loop-f.ended c.in-Some.field-0-0 c.in-Some.f c.next.new.self
-      (doing_along _ _ _ _ _ _ _ _ _ c.in-Some.ensures.steps c.loop-f.invariant.so_far) c.add.new.self c.args.x c.in_default.ensures.ok (λ G. refl) (λ G. refl);
+      (doing_along _ _ _ _ _ _ _ _ _ c.in-Some.ensures.steps c.loop-f.invariant.so_far) c.add.new.self c.args.x c.in_ok-add.ensures.ok (λ G. refl) (λ G. refl);
 }
 
 pub returns-clause-ok : goal.returns-clause-ok

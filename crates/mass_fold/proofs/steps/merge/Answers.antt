@@ -10,7 +10,7 @@ loop-s-preserved c = record {
   finite = tt;
   vars = c.put.ensures.vars ∙ c.loop-s.invariant.vars;
   so_far = λ E. doing_go all_kept none_stopped c.args.into.now.states.entries c.args.table.states.entries E c.loop-s.into.states.entries E c.in-Some.s c.in-Some.f c.next.new.self
-      (doing_along _ _ _ _ _ _ _ _ _ c.in-Some.ensures.steps (c.loop-s.invariant.so_far E)) c.put.new.self.states.entries c.in-Some.s c.in_default.ensures.ok (λ G. refl) (λ G. refl);
+      (doing_along _ _ _ _ _ _ _ _ _ c.in-Some.ensures.steps (c.loop-s.invariant.so_far E)) c.put.new.self.states.entries c.in-Some.s c.in_ok-put.ensures.ok (λ G. refl) (λ G. refl);
 }
 
 pub put-requires : goal.put-requires

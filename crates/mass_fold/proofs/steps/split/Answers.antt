@@ -1,4 +1,4 @@
-use Rattle.std.proofs.Common.{◌≡◌, ◌∙◌, [], length, pos, of_z, w64, sym, ap, arith}
+use Rattle.std.proofs.Common.{◌≡◌, ◌∙◌, [], length, pos, of_z, w64, sym, ap, arith, Err}
 use Rattle.std.proofs.lemmas.Int.{to_z-of_z}
 use Rattle.gcl_core.specs.meaning.Views.{expression_of}
 use Rattle.gcl_core.specs.meaning.Value.{value_of}
@@ -9,8 +9,8 @@ use Rattle.mass_fold.proofs.Moves.{stopped_ok, stopped_err, reads_at, kept_most,
 use Rattle.mass_fold.proofs.Sizes.{sized_at}
 use Rattle.mass_fold.proofs.steps.split.Goals as goal
 
-pub loop-s-preserved-in_default : goal.loop-s-preserved-in_default
-loop-s-preserved-in_default c =
+pub loop-s-preserved-in-Continue-1 : goal.loop-s-preserved-in-Continue-1
+loop-s-preserved-in-Continue-1 c =
     let v = value_of (expression_of c.args.e.now) in
     let z : c.in-Ok.v ≡ pos 0 = grind (arith, to_z-of_z, c.if-v-eq0.true) in
     record {
@@ -20,14 +20,14 @@ loop-s-preserved-in_default c =
       first_vars = c.loop-s.invariant.first_vars;
       second = doing_go (kept_if (fails v)) (stopped v) [] c.args.table.states.entries c.args.ended.now c.loop-s.second.states.entries c.loop-s.ended c.in-Some.s c.in-Some.f c.next.new.self
           (doing_along _ _ _ _ _ _ _ _ _ c.in-Some.ensures.steps c.loop-s.invariant.second)
-          c.put.new.self.states.entries c.in-Some.s c.in_default.ensures.ok (second_zero v _ _ _ c.in-Ok.ensures c.values.ensures z) (stopped_ok v _ _ _ c.in-Ok.ensures c.values.ensures);
+          c.put.new.self.states.entries c.in-Some.s c.in_ok-put-in-Ok.ensures.ok (second_zero v _ _ _ c.in-Ok.ensures c.values.ensures z) (stopped_ok v _ _ _ c.in-Ok.ensures c.values.ensures);
       first = doing_skip (kept_if (holds v)) (stopped v) [] c.args.table.states.entries c.args.ended.now c.loop-s.first.states.entries c.loop-s.ended c.in-Some.s c.in-Some.f c.next.new.self
           (doing_along _ _ _ _ _ _ _ _ _ c.in-Some.ensures.steps c.loop-s.invariant.first)
           (first_zero v _ _ _ c.in-Ok.ensures c.values.ensures z) (stopped_ok v _ _ _ c.in-Ok.ensures c.values.ensures);
     }
 
-pub loop-s-preserved-in_default-put : goal.loop-s-preserved-in_default-put
-loop-s-preserved-in_default-put c =
+pub loop-s-preserved-in-Continue-branch-2 : goal.loop-s-preserved-in-Continue-branch-2
+loop-s-preserved-in-Continue-branch-2 c =
     let v = value_of (expression_of c.args.e.now) in
     let z : ¬ (c.in-Ok.v ≡ pos 0) = λ e. c.if-v-eq0.false (ap (of_z w64) e) in
     record {
@@ -37,36 +37,39 @@ loop-s-preserved-in_default-put c =
       second_vars = c.loop-s.invariant.second_vars;
       first = doing_go (kept_if (holds v)) (stopped v) [] c.args.table.states.entries c.args.ended.now c.loop-s.first.states.entries c.loop-s.ended c.in-Some.s c.in-Some.f c.next.new.self
           (doing_along _ _ _ _ _ _ _ _ _ c.in-Some.ensures.steps c.loop-s.invariant.first)
-          c.put-else-v-eq0.new.self.states.entries c.in-Some.s c.in_default-put.ensures.ok (first_not v _ _ _ c.in-Ok.ensures c.values.ensures z) (stopped_ok v _ _ _ c.in-Ok.ensures c.values.ensures);
+          c.put-else-v-eq0.new.self.states.entries c.in-Some.s c.in_ok-put-in-Ok-2.ensures.ok (first_not v _ _ _ c.in-Ok.ensures c.values.ensures z) (stopped_ok v _ _ _ c.in-Ok.ensures c.values.ensures);
       second = doing_skip (kept_if (fails v)) (stopped v) [] c.args.table.states.entries c.args.ended.now c.loop-s.second.states.entries c.loop-s.ended c.in-Some.s c.in-Some.f c.next.new.self
           (doing_along _ _ _ _ _ _ _ _ _ c.in-Some.ensures.steps c.loop-s.invariant.second)
           (second_not v _ _ _ c.in-Ok.ensures c.values.ensures z) (stopped_ok v _ _ _ c.in-Ok.ensures c.values.ensures);
     }
 
-pub returns-in-Err-put-clause-cause : goal.returns-in-Err-put-clause-cause
-returns-in-Err-put-clause-cause c =
+pub returns-in_err-put-in-Ok-clause-cause : goal.returns-in_err-put-in-Ok-clause-cause
+returns-in_err-put-in-Ok-clause-cause c =
     let v = value_of (expression_of c.args.e.now) in
     let z : c.in-Ok.v ≡ pos 0 = grind (arith, to_z-of_z, c.if-v-eq0.true) in
-    blame_within (kept_if (fails v)) (stopped v) [] c.args.table.states.entries c.args.ended.now _ (kept_most (fails v))
+    let out : c.from_residual.result ≡ Err c.in_err-put-in-Ok.field-0.0 = grind arith in
+    rw out (blame_within (kept_if (fails v)) (stopped v) [] c.args.table.states.entries c.args.ended.now _ (kept_most (fails v))
     (blame_go (kept_if (fails v)) (stopped v) [] c.args.table.states.entries c.args.ended.now c.loop-s.second.states.entries c.loop-s.ended c.in-Some.s c.in-Some.f c.next.new.self
     (doing_along _ _ _ _ _ _ _ _ _ c.in-Some.ensures.steps c.loop-s.invariant.second)
-    _ c.in-Some.s c.in-Err-put.ensures.cause (second_zero v _ _ _ c.in-Ok.ensures c.values.ensures z))
+    _ c.in-Some.s c.in_err-put-in-Ok.ensures.cause (second_zero v _ _ _ c.in-Ok.ensures c.values.ensures z)))
 
-pub returns-in-Err-put-2-clause-cause : goal.returns-in-Err-put-2-clause-cause
-returns-in-Err-put-2-clause-cause c =
+pub returns-in_err-put-in-Ok-2-clause-cause : goal.returns-in_err-put-in-Ok-2-clause-cause
+returns-in_err-put-in-Ok-2-clause-cause c =
     let v = value_of (expression_of c.args.e.now) in
     let z : ¬ (c.in-Ok.v ≡ pos 0) = λ e. c.if-v-eq0.false (ap (of_z w64) e) in
-    blame_within (kept_if (holds v)) (stopped v) [] c.args.table.states.entries c.args.ended.now _ (kept_most (holds v))
+    let out : c.from_residual-in_err-put-in-Ok-2.result ≡ Err c.in_err-put-in-Ok-2.field-0.0 = grind arith in
+    rw out (blame_within (kept_if (holds v)) (stopped v) [] c.args.table.states.entries c.args.ended.now _ (kept_most (holds v))
     (blame_go (kept_if (holds v)) (stopped v) [] c.args.table.states.entries c.args.ended.now c.loop-s.first.states.entries c.loop-s.ended c.in-Some.s c.in-Some.f c.next.new.self
     (doing_along _ _ _ _ _ _ _ _ _ c.in-Some.ensures.steps c.loop-s.invariant.first)
-    _ c.in-Some.s c.in-Err-put-2.ensures.cause (first_not v _ _ _ c.in-Ok.ensures c.values.ensures z))
+    _ c.in-Some.s c.in_err-put-in-Ok-2.ensures.cause (first_not v _ _ _ c.in-Ok.ensures c.values.ensures z)))
 
-pub returns-in-Err-add-clause-cause : goal.returns-in-Err-add-clause-cause
-returns-in-Err-add-clause-cause c =
+pub returns-in_err-add-in-Err-clause-cause : goal.returns-in_err-add-in-Err-clause-cause
+returns-in_err-add-in-Err-clause-cause c =
     let v = value_of (expression_of c.args.e.now) in
-    blame_within (kept_if (holds v)) (stopped v) [] c.args.table.states.entries c.args.ended.now _ (kept_most (holds v))
+    let out : c.from_residual-in_err-add-in-Err.result ≡ Err c.in_err-add-in-Err.field-0.0 = grind arith in
+    rw out (blame_within (kept_if (holds v)) (stopped v) [] c.args.table.states.entries c.args.ended.now _ (kept_most (holds v))
     (blame_stop (kept_if (holds v)) (stopped v) [] c.args.table.states.entries c.args.ended.now c.loop-s.first.states.entries c.loop-s.ended c.in-Some.s c.in-Some.f c.next.new.self
-    (doing_along _ _ _ _ _ _ _ _ _ c.in-Some.ensures.steps c.loop-s.invariant.first) _ c.gone-kind.result c.in-Err-add.ensures.cause (stopped_err v _ _ _ _ c.in-Err.ensures c.values.ensures c.gone-kind.ensures))
+    (doing_along _ _ _ _ _ _ _ _ _ c.in-Some.ensures.steps c.loop-s.invariant.first) _ c.gone.result c.in_err-add-in-Err.ensures.cause (stopped_err v _ _ _ _ c.in-Err.ensures c.values.ensures c.gone.ensures)))
 
 pub loop-s-preserved : goal.loop-s-preserved
 loop-s-preserved c =
@@ -77,9 +80,9 @@ loop-s-preserved c =
       first_vars = c.loop-s.invariant.first_vars;
       second_vars = c.loop-s.invariant.second_vars;
       first = doing_stop (kept_if (holds v)) (stopped v) [] c.args.table.states.entries c.args.ended.now c.loop-s.first.states.entries c.loop-s.ended c.in-Some.s c.in-Some.f c.next.new.self
-          (doing_along _ _ _ _ _ _ _ _ _ c.in-Some.ensures.steps c.loop-s.invariant.first) c.add.new.self c.gone-kind.result c.in_default-add.ensures.ok (first_err v _ _ _ c.in-Err.ensures c.values.ensures) (stopped_err v _ _ _ _ c.in-Err.ensures c.values.ensures c.gone-kind.ensures);
+          (doing_along _ _ _ _ _ _ _ _ _ c.in-Some.ensures.steps c.loop-s.invariant.first) c.add.new.self c.gone.result c.in_ok-add-in-Err.ensures.ok (first_err v _ _ _ c.in-Err.ensures c.values.ensures) (stopped_err v _ _ _ _ c.in-Err.ensures c.values.ensures c.gone.ensures);
       second = doing_stop (kept_if (fails v)) (stopped v) [] c.args.table.states.entries c.args.ended.now c.loop-s.second.states.entries c.loop-s.ended c.in-Some.s c.in-Some.f c.next.new.self
-          (doing_along _ _ _ _ _ _ _ _ _ c.in-Some.ensures.steps c.loop-s.invariant.second) c.add.new.self c.gone-kind.result c.in_default-add.ensures.ok (second_err v _ _ _ c.in-Err.ensures c.values.ensures) (stopped_err v _ _ _ _ c.in-Err.ensures c.values.ensures c.gone-kind.ensures);
+          (doing_along _ _ _ _ _ _ _ _ _ c.in-Some.ensures.steps c.loop-s.invariant.second) c.add.new.self c.gone.result c.in_ok-add-in-Err.ensures.ok (second_err v _ _ _ c.in-Err.ensures c.values.ensures) (stopped_err v _ _ _ _ c.in-Err.ensures c.values.ensures c.gone.ensures);
     }
 
 pub returns-clause-first : goal.returns-clause-first
