@@ -22,7 +22,7 @@ use Rattle.weighing_law.proofs.BlockMatching.{statement_matches}
 use Rattle.weighing_law.proofs.WeightedLists.{EachEntry, each-append, each-scaled, each_taken_on}
 use Rattle.cost_law.specs.ExpectedBits.{number_bits}
 use Rattle.mass_tables.specs.Tables.{Table, going_on, holds, fails, only, faults, all_end, both, loop_flow, statement_flow, block_flow, arms_flow, draws_each, draw_weights}
-use Rattle.mass_tables.specs.Reached.{Reached, drawn_each, drawn_bound, loop_draws, statement_draws, block_draws, arms_draws}
+use Rattle.mass_tables.specs.Reached.{ReachedDraws, drawn_each, drawn_bound, loop_draws, statement_draws, block_draws, arms_draws}
 use Rattle.mass_tables.specs.Scale.{whole, amount, weight, Wholes, Within}
 use Rattle.mass_tables.proofs.Amounts.{amount_append, both_first, both_second, all_second, tables_first, tables_second, ends_first, ends_second, all_first}
 use Rattle.mass_tables.proofs.Kept.{guard_weight, ends_whole, choice_kept, head_whole, arms_weight, choose_inside, first_arm, other_arms, arms_kept, kept_one, kept_all}
@@ -50,7 +50,7 @@ fit_going ((w, fault f) ∷ m) h = fit_going m h.1
 fit_going ((w, limit l) ∷ m) h = fit_going m h.1
 
 -- ---- lists of draws
-wholes_append : (N : ℕ) (a b : Reached) → Wholes N a → Wholes N b → Wholes N (a ++ b)
+wholes_append : (N : ℕ) (a b : ReachedDraws) → Wholes N a → Wholes N b → Wholes N (a ++ b)
 wholes_append N [] b h k = k
 wholes_append N (e ∷ a) b h k = (h.0, wholes_append N a b h.1 k)
 
@@ -72,7 +72,7 @@ wholes_bound N v (e ∷ I) h = wholes_append N _ (drawn_bound v I) (by_state (v 
     by_state (Err f) = tt
 
 -- draws of the weight W, whole at N, of at most so many bits each, in parts of M
-pub record DrawsMost (r N M : ℕ) (D : Reached) (W bits : ℕ) : Type 0 where
+pub record DrawsMost (r N M : ℕ) (D : ReachedDraws) (W bits : ℕ) : Type 0 where
   pub whole : Wholes N D
   pub most : amount N (price (Some r) M) D ≤ W * (M * bits)
 
@@ -80,18 +80,18 @@ module _ (r N M : ℕ) where
   none_most : (W bits : ℕ) → DrawsMost r N M [] W bits
   none_most W bits = record { whole = tt; most = omega arith }
 
-  most_up : (D : Reached) (W V a b : ℕ) → W ≤ V → a ≤ b → DrawsMost r N M D W a → DrawsMost r N M D V b
+  most_up : (D : ReachedDraws) (W V a b : ℕ) → W ≤ V → a ≤ b → DrawsMost r N M D W a → DrawsMost r N M D V b
   most_up D W V a b h k d =
       let x = mul-le-mul_right (M * a) h in
       let y = mul-le-mul_left (V * M) k in
       record { whole = d.whole; most = let z = d.most in omega arith }
 
   -- one part of the weight, and another
-  most_beside : (D E : Reached) (W V a : ℕ) → DrawsMost r N M D W a → DrawsMost r N M E V a → DrawsMost r N M (D ++ E) (W + V) a
+  most_beside : (D E : ReachedDraws) (W V a : ℕ) → DrawsMost r N M D W a → DrawsMost r N M E V a → DrawsMost r N M (D ++ E) (W + V) a
   most_beside D E W V a d e = record { whole = wholes_append N D E d.whole e.whole; most = let x = amount_append N (price (Some r) M) D E in let y = d.most in let z = e.most in omega arith }
 
   -- one after the other
-  most_after : (D E : Reached) (W a b : ℕ) → DrawsMost r N M D W a → DrawsMost r N M E W b → DrawsMost r N M (D ++ E) W (a + b)
+  most_after : (D E : ReachedDraws) (W a b : ℕ) → DrawsMost r N M D W a → DrawsMost r N M E W b → DrawsMost r N M (D ++ E) W (a + b)
   most_after D E W a b d e = record { whole = wholes_append N D E d.whole e.whole; most = let x = amount_append N (price (Some r) M) D E in let y = d.most in let z = e.most in omega arith }
 
   most_each : (ends : List ℕ) (I : Table) → Wholes N I → Priced (Some r) M (drawn_each ends I) → DrawsMost r N M (drawn_each ends I) (weight N I) (number_bits ends * r)
@@ -105,7 +105,7 @@ module _ (r N M : ℕ) where
   most_bound e [] f a w p = none_most 0 (63 * r)
   most_bound e (d ∷ I) f a w p =
       let v = value_of e in
-      let one : Reached = by_value (v d.1) (λ f. []) (λ z. by_bound z [] (λ m. (d.0, uniform_ends m) ∷ [])) in
+      let one : ReachedDraws = by_value (v d.1) (λ f. []) (λ z. by_bound z [] (λ m. (d.0, uniform_ends m) ∷ [])) in
       let i = most_bound e I f a.1 w.1 (priced_second (Some r) M one (drawn_bound v I) p) in
       let h : amount N (price (Some r) M) one ≤ U * (M * (63 * r)) = by_state (v d.1) refl (priced_first (Some r) M one (drawn_bound v I) p) in
       let x : amount N (price (Some r) M) (drawn_bound v (d ∷ I)) ≡ amount N (price (Some r) M) one + amount N (price (Some r) M) (drawn_bound v I) = amount_append N (price (Some r) M) one (drawn_bound v I) in

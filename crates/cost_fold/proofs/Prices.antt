@@ -7,7 +7,7 @@ use Rattle.gcl_core.specs.weighing.Fractions.{power_sum}
 use Rattle.gcl_core.specs.weighing.WeightedEnds.{class_weight}
 use Rattle.cost_law.specs.ExpectedBits.{number_bits, attempt_bits, again_weight, draw_bits}
 use Rattle.draw_cost.proofs.Stretches.{by_numbers, undecided_most}
-use Rattle.mass_tables.specs.Reached.{Reached}
+use Rattle.mass_tables.specs.Reached.{ReachedDraws}
 use Rattle.mass_tables.specs.Scale.{whole, Whole}
 use Rattle.mass_tables.proofs.Wholes.{whole_from}
 use Rattle.mass_fold.specs.Metering.{IsPriced, Priced, price}
@@ -88,7 +88,7 @@ power_whole x j g le =
     turned : (x a b c : ℕ) → a * b ≡ c → a * (x * b) ≡ x * c
     turned x a b c e = let z = ap (λ z. x * z) e in omega arith
 
-pub priced_at : (r g : ℕ) (D : Reached) → most_bits r D ≤ g → Priced (Some r) (2 ^ g) D
+pub priced_at : (r g : ℕ) (D : ReachedDraws) → most_bits r D ≤ g → Priced (Some r) (2 ^ g) D
 priced_at r g [] h = tt
 priced_at r g (e ∷ D) h =
     let b = last_end e.1 in

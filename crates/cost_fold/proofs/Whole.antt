@@ -21,7 +21,7 @@ use Rattle.cost_law.proofs.CostLaw.{costs_exactly, expected_pos}
 use Rattle.cost_law.proofs.DrawBits.{draw_bits_pos}
 use Rattle.frac128.specs.Fraction.{InLowest, IsEqual, lowest}
 use Rattle.frac128.proofs.Divisors.{product_pos, lowest_equal, lowest_in_lowest, cancel}
-use Rattle.mass_tables.specs.Reached.{Reached, draws_of}
+use Rattle.mass_tables.specs.Reached.{ReachedDraws, draws_of}
 use Rattle.mass_tables.specs.Scale.{whole, Whole, Wholes, amount, weight}
 use Rattle.mass_tables.specs.Tables.{Table, peak_of}
 use Rattle.mass_tables.specs.Width.{round_width, denominator}
@@ -83,7 +83,7 @@ sum_share f g pos e k =
     cancel f.1 _ _ pos (s ∙ ap (λ z. S.0 * z) (pow-suc f.1 k) ∙ (let z : S.0 * (f.1 ^ k * f.1) ≡ f.1 * (S.0 * f.1 ^ k) = omega arith in z))
 
 -- ---- one round
-shares_of : (r M : ℕ) (D : Reached) → Priced (Some r) M D → EachShare M (cost_of r) (price (Some r) M) D
+shares_of : (r M : ℕ) (D : ReachedDraws) → Priced (Some r) M D → EachShare M (cost_of r) (price (Some r) M) D
 shares_of r M [] k = tt
 shares_of r M (e ∷ D) k = (price_share e.1 r M k.0, shares_of r M D k.1)
 
@@ -100,7 +100,7 @@ module _ (p : SourceProgram) (l : Limits) (ok : IsChecked p) where
   abbrev Q : ℕ
   Q = round_width p n (Some r)
 
-  abbrev D : Reached
+  abbrev D : ReachedDraws
   D = draws_of p n (Some r)
 
   abbrev M : ℕ
@@ -150,11 +150,11 @@ module _ (p : SourceProgram) (l : Limits) (ok : IsChecked p) where
       let b = share_along A B X N pA e a in
       alone body.0 body.1 X N b
     where
-      positive_of : (D : Reached) → Wholes Q D → Positive D
+      positive_of : (D : ReachedDraws) → Wholes Q D → Positive D
       positive_of [] w = tt
       positive_of (e ∷ D) w = (w.0.positive, positive_of D w.1)
 
-      average_of_draws : (D : Reached) → Wholes Q D → 0 < (on_average D (cost_of r)).1
+      average_of_draws : (D : ReachedDraws) → Wholes Q D → 0 < (on_average D (cost_of r)).1
       average_of_draws D w = average_positive D (cost_of r) (positive_of D w) (λ ends. draw_bits_pos ends r)
 
       alone : (a b X N : ℕ) → 1 * b * 1 * X ≡ (1 * a * 1 + 0 * (1 * b)) * N → b * X ≡ a * N

@@ -5,11 +5,11 @@ use Rattle.gcl_core.specs.weighing.LongestReading.{longest}
 use Rattle.gcl_core.specs.weighing.Mass.{failed_mass}
 use Rattle.gcl_core.specs.meaning.Syntax.{SourceProgram}
 use Rattle.cost_law.specs.ExpectedBits.{number_bits}
-use Rattle.mass_tables.specs.Reached.{Reached, draws_of}
+use Rattle.mass_tables.specs.Reached.{ReachedDraws, draws_of}
 use Rattle.mass_tables.specs.Width.{denominator, round_width}
 
 -- the most bits that one of the draws reads by at most r attempts, or 0
-abbrev pub most_bits : ℕ → Reached → ℕ
+abbrev pub most_bits : ℕ → ReachedDraws → ℕ
 most_bits r [] = 0
 most_bits r (e ∷ m) = max (number_bits e.1 * r) (most_bits r m)
 

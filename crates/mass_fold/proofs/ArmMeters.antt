@@ -10,7 +10,7 @@ use Rattle.gcl_core.specs.weighing.WeightedEnds.{Weighted, scaled, class_weight}
 use Rattle.gcl_core.proofs.PartialSums.{last_is}
 use Rattle.frac128.specs.Fraction.{IsEqual}
 use Rattle.mass_tables.specs.Tables.{Table, Flow, statement_flow, block_flow, arms_flow}
-use Rattle.mass_tables.specs.Reached.{Reached, drawn_each, statement_draws, block_draws, arms_draws}
+use Rattle.mass_tables.specs.Reached.{ReachedDraws, drawn_each, statement_draws, block_draws, arms_draws}
 use Rattle.mass_tables.specs.Scale.{amount}
 use Rattle.mass_tables.proofs.Kept.{first_arm}
 use Rattle.mass_fold.specs.declared.ended.Ended.{Ended}
@@ -23,7 +23,7 @@ use Rattle.mass_fold.proofs.Meters.{counted_none}
 use Rattle.mass_fold.proofs.MeterFolds.{priced_first, priced_second, both_counted, draw_counts}
 
 -- in the midst of the arms: whatever the draws of the others count, all do
-pub record ArmsMetered (r : Option ℕ) (whole : Table → Flow) (draws rest : Table → Reached) (es : Entries) (E : Ended) (m mid : Meter) : Type 0 where
+pub record ArmsMetered (r : Option ℕ) (whole : Table → Flow) (draws rest : Table → ReachedDraws) (es : Entries) (E : Ended) (m mid : Meter) : Type 0 where
   pub left : (M : ℕ) (I : Table) → Priced r M (draws I) → Priced r M (rest I)
   pub counted : (m' : Meter) (N M L : ℕ) (I : Table) (J : Weighted End) → 0 < N → 0 < M → Stands N es I → EndStands N E J → Around N L I (whole I) → Priced r M (draws I) →
       Counted (N * M) (amount N (price r M) (rest I)) mid m' → Counted (N * M) (amount N (price r M) (draws I)) m m'
@@ -35,7 +35,7 @@ module _ (n : ℕ) (r : Option ℕ) (all : ArmList) (ps : AreParts (parts_of all
   abbrev whole : Table → Flow
   whole I = statement_flow n r (Choose all) I
 
-  abbrev draws : Table → Reached
+  abbrev draws : Table → ReachedDraws
   draws I = statement_draws n r (Choose all) I
 
   pub metered_start : (mid : Meter) → CountsDraws r b (partial_sums (parts_of all)) es m mid → ArmsMetered r whole draws (arms_draws n r b all) es E m mid

@@ -15,7 +15,7 @@ use Rattle.mass_fold.specs.declared.error.MassError.{MassError}
 use Rattle.mass_fold.specs.declared.error.MassError.TheVariants.{TooWide}
 use Rattle.mass_fold.specs.declared.ended.Gone.{Gone}
 use Rattle.mass_fold.specs.declared.ended.Ended.{Ended}
-use Rattle.mass_fold.specs.Amounts.{Entries, held, Held, Blames, PutGives, PutBlames}
+use Rattle.mass_fold.specs.Amounts.{Entries, held, AreHeld, Blames, PutGives, PutBlames}
 use Rattle.mass_fold.specs.Ended.{end_of, rows_of, EndGives, EndBlames}
 use Rattle.mass_fold.specs.Steps.{DrawsOn, DrawBlames, PartsBlame, AddedBy, StoppedBy, BlamedBy, SpreadGives, SpreadBlames, at_numbers}
 use Rattle.mass_fold.proofs.Insertion.{whole_pos, numerator_pos}
@@ -129,7 +129,7 @@ blamed_all u fs F f g x e z N L I Np hs we fp a du dv b bv part most few most' =
 
 -- ---- x set to each number below a bound
 pub spread_none : (es fs : Entries) (x : ℕ) (s : State) (h : Fraction) → es ≡ fs → SpreadGives es fs x 0 s h
-spread_none es fs x s h e N Np k hp w = (subst (Held N) e k, λ G. ap (held N G) (sym e) ∙ omega arith)
+spread_none es fs x s h e N Np k hp w = (subst (AreHeld N) e k, λ G. ap (held N G) (sym e) ∙ omega arith)
 
 pub spread_next : (es fs fs' : Entries) (x m : ℕ) (s t : State) (h : Fraction) → SpreadGives es fs x m s h → t ≡ slice_set s x (pos m) → PutGives fs fs' t h → SpreadGives es fs' x (m + 1) s h
 spread_next es fs fs' x m s t h d e g = subst (λ n. SpreadGives es fs' x n s h) (let q : suc m ≡ m + 1 = omega arith in q)

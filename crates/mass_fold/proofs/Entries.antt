@@ -16,7 +16,7 @@ use Rattle.gcl_core.specs.meaning.Value.{State}
 use Rattle.gcl_core.specs.weighing.Fractions.{Fraction}
 use Rattle.mass_tables.specs.Tables.{Table, states}
 use Rattle.mass_tables.specs.Scale.{whole, Whole, amount}
-use Rattle.mass_fold.specs.Amounts.{Entries, held, Held, PartOf, order, found}
+use Rattle.mass_fold.specs.Amounts.{Entries, held, AreHeld, PartOf, order, found}
 use Rattle.mass_fold.proofs.Insertion.{whole_pos}
 use Rattle.mass_fold.specs.declared.table.TheConstants.{MOST_STATES}
 
@@ -43,7 +43,7 @@ equal_is x y e = (same_is x y).0 (same_order x y ∙ ap is_eq e)
 abbrev pub at : State → State → ℕ
 at q s = cond (same q s) 1 0
 
-held_at : (N : ℕ) (q : State) (es : Entries) → 0 < N → Held N es → is_member same (keys_of es) q ≡ true → 0 < held N (at q) es
+held_at : (N : ℕ) (q : State) (es : Entries) → 0 < N → AreHeld N es → is_member same (keys_of es) q ≡ true → 0 < held N (at q) es
 held_at N q [] pos h m = cc
 held_at N q (e ∷ es) pos h m = at_head (same q e.0) refl (λ p. held_at N q es pos h.2 p)
   where
@@ -86,7 +86,7 @@ member_unique (x ∷ xs) q h = at_head (is_member same xs x) (same q x) refl ref
     at_head false false p r k i = rw r (i k)
 
 pub put_many : (s : State) (f : Fraction) (es : Entries) (N : ℕ) (I : Table) → IsStrictlySortedBy order (keys_of es) → found order s es ≡ None → MOST_STATES ≤ length es →
-    0 < N → Held N es → 0 < f.0 → Whole N f → PartOf N es s f I → MOST_STATES < states I
+    0 < N → AreHeld N es → 0 < f.0 → Whole N f → PartOf N es s f I → MOST_STATES < states I
 put_many s f es N I h e full pos k p w within =
     let ks = keys_of es in
     let d : IsDistinct same ks = subst (λ E. IsDistinct E ks) (sym same_is_eq) (IsDistinct-from_sorted order ks h) in

@@ -9,7 +9,7 @@ use Rattle.frac128.proofs.Divisors.{product_pos}
 use Rattle.mass_tables.specs.Scale.{whole, Whole}
 use Rattle.mass_tables.proofs.Wholes.{whole_from}
 use Rattle.mass_fold.specs.declared.error.MassError.{MassError}
-use Rattle.mass_fold.specs.Amounts.{held, Held}
+use Rattle.mass_fold.specs.Amounts.{held, AreHeld}
 use Rattle.mass_fold.specs.Outcomes.{AddGives, AddBlames}
 use Rattle.mass_fold.specs.Rounds.{geometric, scale_of, TableParts, InRounds, RoundsBlame}
 use Rattle.mass_fold.specs.Rows.{Rows}
@@ -78,7 +78,7 @@ pub rows_room : (f : Fraction) (rows : Rows) (R : ℕ) → 1 ≤ R → f.0 ≤ f
 rows_room f rows R some small N h = let a = (at_scale f rows R some small N h).room in omega arith
 
 module _ (f : Fraction) (R : ℕ) (some : 1 ≤ R) (small : f.0 ≤ f.1) (rows masses : Rows)
-    (sums : (N : ℕ) → TableParts N rows f → Held (scale_of N f R) masses × ((G : Outcome → ℕ) → held (scale_of N f R) G masses ≡ geometric f R * held N G rows)) where
+    (sums : (N : ℕ) → TableParts N rows f → AreHeld (scale_of N f R) masses × ((G : Outcome → ℕ) → held (scale_of N f R) G masses ≡ geometric f R * held N G rows)) where
   module _ (g : Fraction) (is : IsPower f R g) where
     pub with_limit : (masses' : Rows) → AddGives masses masses' (outcome.Limit Rounds) g → InRounds f R rows masses'
     with_limit masses' a N h =

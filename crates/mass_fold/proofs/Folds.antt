@@ -21,7 +21,7 @@ use Rattle.mass_tables.proofs.NoneReached.{none_counts}
 use Rattle.mass_fold.specs.declared.error.MassError.{MassError}
 use Rattle.mass_fold.specs.declared.ended.Gone.TheVariants as gone_kind
 use Rattle.mass_fold.specs.declared.ended.Ended.{Ended}
-use Rattle.mass_fold.specs.Amounts.{Entries, held, Held, Blames, order}
+use Rattle.mass_fold.specs.Amounts.{Entries, held, AreHeld, Blames, order}
 use Rattle.mass_fold.specs.Ended.{end_of, rows_of}
 use Rattle.mass_fold.specs.Steps.{StepsTo, StepBlames, Shares, shared, BothWhole, UniformTo, UniformBlames}
 use Rattle.mass_fold.specs.Fold.{Stands, EndStands, FoldsTo, FoldBlames, Around, FoldsOne, OneBlames}
@@ -69,7 +69,7 @@ merge_blamed N L es fs E e I K M J Np d w s t p most few m =
     d N L M Np s.kept t.kept w.kept (λ G. let a = p G in let b = s.same G in let c = t.same G in omega arith) most few (let a = held_none N fs in let b = w.same (λ x. 1) in omega arith)
 
 pub nothing_stands : (N : ℕ) (es : Entries) (I : Table) → es ≡ [] → weight N I ≡ 0 → Stands N es I
-nothing_stands N es I e h = record { kept = subst (Held N) (sym e) tt; same = λ G. ap (held N G) e ∙ sym (none_counts N G I h) }
+nothing_stands N es I e h = record { kept = subst (AreHeld N) (sym e) tt; same = λ G. ap (held N G) e ∙ sym (none_counts N G I h) }
 
 pub ends_more : (N : ℕ) (E : Ended) (J K : Weighted End) → weight N K ≡ 0 → EndStands N E J → EndStands N E (J ++ K)
 ends_more N E J K h t = end_along N E J (J ++ K) (λ G. let a = amount_append N G J K in let b = none_counts N G K h in omega arith) t

@@ -13,7 +13,7 @@ use Rattle.frac128.specs.Fraction.{InLowest, sum_of}
 use Rattle.frac128.proofs.Divisors.{product_pos, factor_pos}
 use Rattle.mass_tables.specs.Scale.{whole, Whole}
 use Rattle.mass_tables.proofs.Wholes.{sum_whole, sum_refused}
-use Rattle.mass_fold.specs.Amounts.{held, Held, PutGives, found, SumAt}
+use Rattle.mass_fold.specs.Amounts.{held, AreHeld, PutGives, found, SumAt}
 
 pub product_below : (a b : ℕ) → 0 < a * b → 0 < a
 product_below zero b h = absurd (omega arith)
@@ -36,7 +36,7 @@ pub record Found {K : Type 0} (N : ℕ) (es : List (K × Fraction)) (g : Fractio
   pub within : whole N g ≤ held N (λ k. 1) es
 
 module _ {K : Type 0} (at : K → Bool) where
-  found_held : (N : ℕ) (g : Fraction) (es : List (K × Fraction)) → Held N es → lookup at es ≡ Some g → Found N es g
+  found_held : (N : ℕ) (g : Fraction) (es : List (K × Fraction)) → AreHeld N es → lookup at es ≡ Some g → Found N es g
   found_held N g [] h e = cc
   found_held N g (d ∷ es) h e = at_head (at d.0) e (λ p. found_held N g es h.2 p)
     where
@@ -48,7 +48,7 @@ module _ {K : Type 0} (at : K → Bool) where
 
   -- a sum is refused for its width only
   pub put_wide : (f g : Fraction) (es : List (K × Fraction)) (N : ℕ) → lookup at es ≡ Some g → InLowest g → InLowest f → sum_of g f ≡ None →
-      0 < N → Held N es → Whole N f → held N (λ k. 1) es + whole N f ≤ N → 2 ^ 128 ≤ N
+      0 < N → AreHeld N es → Whole N f → held N (λ k. 1) es + whole N f ≤ N → 2 ^ 128 ≤ N
   put_wide f g es N e lg lf q pos r w most =
       let d = found_held N g es r e in
       sum_refused N g f pos d.is_whole w lg lf (omega (arith, d.within)) q
@@ -65,11 +65,11 @@ module _ {K : Type 0} (order : K → K → Ordering) (total : IsTotalOrder order
       at_head Equal p i = rw p (rw (ap G (equal_is k e.0 p)) (omega arith))
       at_head Greater p i = rw p (omega arith)
 
-  kept_insert : (N : ℕ) (k : K) (v : Fraction) (es : List (K × Fraction)) → 0 < v.0 → Whole N v → Held N es → Held N (insert_entry order es k v)
+  kept_insert : (N : ℕ) (k : K) (v : Fraction) (es : List (K × Fraction)) → 0 < v.0 → Whole N v → AreHeld N es → AreHeld N (insert_entry order es k v)
   kept_insert N k v [] p w h = (p, w, tt)
   kept_insert N k v (e ∷ es) p w h = at_head (order k e.0) refl (kept_insert N k v es p w h.2)
     where
-      at_head : (o : Ordering) → order k e.0 ≡ o → Held N (insert_entry order es k v) → Held N (insert_entry order (e ∷ es) k v)
+      at_head : (o : Ordering) → order k e.0 ≡ o → AreHeld N (insert_entry order es k v) → AreHeld N (insert_entry order (e ∷ es) k v)
       at_head Less q i = rw q (p, w, h)
       at_head Equal q i = rw q (p, w, h.2)
       at_head Greater q i = rw q (h.0, h.1, i)

@@ -11,7 +11,7 @@ use Rattle.gcl_core.specs.meaning.Blocks.{by_value, by_bound}
 use Rattle.gcl_core.specs.meaning.Draw.{last_end, choice_ends, uniform_ends}
 use Rattle.gcl_core.proofs.EqualClasses.{last_of_equal}
 use Rattle.mass_tables.specs.Tables.{Table, Flow, holds, fails, only, faults, statement_flow, block_flow}
-use Rattle.mass_tables.specs.Reached.{Reached, drawn_each, drawn_bound, statement_draws, block_draws}
+use Rattle.mass_tables.specs.Reached.{ReachedDraws, drawn_each, drawn_bound, statement_draws, block_draws}
 use Rattle.mass_tables.specs.Scale.{amount, weight}
 use Rattle.mass_tables.specs.Counts.{stopped, kept_if}
 use Rattle.mass_tables.proofs.Amounts.{amount_append, both_first, both_second}
@@ -28,15 +28,15 @@ use Rattle.mass_fold.proofs.Shares.{EachIn, each_state}
 use Rattle.mass_fold.proofs.Sides as choices
 
 -- ---- draws one after the other
-pub priced_first : (r : Option ℕ) (M : ℕ) (a b : Reached) → Priced r M (a ++ b) → Priced r M a
+pub priced_first : (r : Option ℕ) (M : ℕ) (a b : ReachedDraws) → Priced r M (a ++ b) → Priced r M a
 priced_first r M [] b k = tt
 priced_first r M (e ∷ a) b k = (k.0, priced_first r M a b k.1)
 
-pub priced_second : (r : Option ℕ) (M : ℕ) (a b : Reached) → Priced r M (a ++ b) → Priced r M b
+pub priced_second : (r : Option ℕ) (M : ℕ) (a b : ReachedDraws) → Priced r M (a ++ b) → Priced r M b
 priced_second r M [] b k = k
 priced_second r M (e ∷ a) b k = priced_second r M a b k.1
 
-pub both_counted : (N X : ℕ) (H : List ℕ → ℕ) (a b : Reached) (m now m' : Meter) → Counted X (amount N H a) m now → Counted X (amount N H b) now m' → Counted X (amount N H (a ++ b)) m m'
+pub both_counted : (N X : ℕ) (H : List ℕ → ℕ) (a b : ReachedDraws) (m now m' : Meter) → Counted X (amount N H a) m now → Counted X (amount N H b) now m' → Counted X (amount N H (a ++ b)) m m'
 both_counted N X H a b m now m' x y = counted_as X _ _ m m' (sym (amount_append N H a b)) (counted_then X (amount N H a) (amount N H b) m now m' x y)
 
 -- ---- the draws of one statement
@@ -84,7 +84,7 @@ module _ (n : ℕ) (r : Option ℕ) where
       counted_as (N * M) 0 _ m m (sym (none_one n r N L (price r M) st I ws w.before w.inside z)) (counted_none (N * M) m)
 
   -- ---- sequences, by what is left of them
-  abbrev pub MetersOn : (Table → Flow) → (Table → Reached) → Statements → Entries → Ended → Meter → Entries → Ended → Meter → Type 0
+  abbrev pub MetersOn : (Table → Flow) → (Table → ReachedDraws) → Statements → Entries → Ended → Meter → Entries → Ended → Meter → Type 0
   MetersOn all draws b es E m now F mid = (m' : Meter) → Meters r (block_flow n r b) (block_draws n r b) now F mid m' → Meters r all draws es E m m'
 
   meters_seq : (st : Statement) (b : Statements) (es gs : Entries) (E F : Ended) (m mid m' : Meter) → FoldsOne (statement_flow n r st) es E gs F → MetersOne r (statement_flow n r st) (statement_draws n r st) es E m mid →
@@ -97,7 +97,7 @@ module _ (n : ℕ) (r : Option ℕ) where
       (c N M L I J Np Mp s t p.0 (priced_first r M (statement_draws n r st I) (block_draws n r b f.next) k))
       (y N M L f.next (J ++ f.ended) Np Mp u.0 u.1 p.1 (priced_second r M (statement_draws n r st I) (block_draws n r b f.next) k))
 
-  pub meters_next : (all : Table → Flow) (draws : Table → Reached) (b rest : Statements) (st : Statement) (es now gs : Entries) (E F G : Ended) (m mid mid' : Meter) → b ≡ st ▸ rest → MetersOn all draws b es E m now F mid →
+  pub meters_next : (all : Table → Flow) (draws : Table → ReachedDraws) (b rest : Statements) (st : Statement) (es now gs : Entries) (E F G : Ended) (m mid mid' : Meter) → b ≡ st ▸ rest → MetersOn all draws b es E m now F mid →
       FoldsOne (statement_flow n r st) now F gs G → MetersOne r (statement_flow n r st) (statement_draws n r st) now F mid mid' → MetersOn all draws rest es E m gs G mid'
   meters_next all draws b rest st es now gs E F G m mid mid' p a x c m' d =
       subst (λ b. MetersOn all draws b es E m now F mid) p a m' (meters_seq st rest now gs F G mid mid' m' x c d)

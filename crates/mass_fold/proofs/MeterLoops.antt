@@ -6,7 +6,7 @@ use Rattle.gcl_core.specs.meaning.Value.{value_of}
 use Rattle.gcl_core.specs.meaning.Blocks.{End}
 use Rattle.gcl_core.specs.weighing.WeightedEnds.{Weighted}
 use Rattle.mass_tables.specs.Tables.{Table, Flow, holds, fails, only, faults, loop_flow, block_flow}
-use Rattle.mass_tables.specs.Reached.{Reached, loop_draws, block_draws}
+use Rattle.mass_tables.specs.Reached.{ReachedDraws, loop_draws, block_draws}
 use Rattle.mass_tables.specs.Scale.{Within, amount, weight}
 use Rattle.mass_tables.specs.Counts.{stopped, kept_if, none_stopped, all_kept}
 use Rattle.mass_tables.proofs.Amounts.{amount_append}
@@ -23,21 +23,21 @@ use Rattle.mass_fold.proofs.Meters.{counted_none, counted_then, counted_as}
 use Rattle.mass_fold.proofs.MeterFolds.{priced_first, priced_second}
 
 -- a loop with t turns left: what stands, and the draws that are counted and those that are left
-pub record MeterAt (r : Option ℕ) (flow : ℕ → Table → Flow) (draws : ℕ → Table → Reached) (n t : ℕ) (now exits : Entries) (F : Ended) (m mid : Meter) (N M L : ℕ) (I : Table) (J : Weighted End) : Type 0 where
+pub record MeterAt (r : Option ℕ) (flow : ℕ → Table → Flow) (draws : ℕ → Table → ReachedDraws) (n t : ℕ) (now exits : Entries) (F : Ended) (m mid : Meter) (N M L : ℕ) (I : Table) (J : Weighted End) : Type 0 where
   pub at : LoopAt flow n t now exits F N L I J
   pub many : ℕ
   pub counted : Counted (N * M) many m mid
   pub all : many + amount N (price r M) (draws t at.table) ≡ amount N (price r M) (draws n I)
   pub left : Priced r M (draws t at.table)
 
-abbrev pub MetersLoop : Option ℕ → (ℕ → Table → Flow) → (ℕ → Table → Reached) → ℕ → ℕ → Entries → Ended → Entries → Entries → Ended → Meter → Meter → Type 0
+abbrev pub MetersLoop : Option ℕ → (ℕ → Table → Flow) → (ℕ → Table → ReachedDraws) → ℕ → ℕ → Entries → Ended → Entries → Entries → Ended → Meter → Meter → Type 0
 MetersLoop r flow draws n t es E now exits F m mid = (N M L : ℕ) (I : Table) (J : Weighted End) → 0 < N → 0 < M → Stands N es I → EndStands N E J → Within N L (flow n I) → Priced r M (draws n I) → MeterAt r flow draws n t now exits F m mid N M L I J
 
 module _ (n : ℕ) (r : Option ℕ) (e : Expression) (b : Statements) (es : Entries) (E : Ended) (m : Meter) where
   abbrev turns : ℕ → Table → Flow
   turns t I = loop_flow (value_of e) (block_flow n r b) t I
 
-  abbrev pub draws : ℕ → Table → Reached
+  abbrev pub draws : ℕ → Table → ReachedDraws
   draws t I = loop_draws (value_of e) (block_draws n r b) (block_flow n r b) t I
 
   pub meter_start : (exits : Entries) → exits ≡ [] → MetersLoop r turns draws n n es E es exits E m m
@@ -96,5 +96,5 @@ module _ (n : ℕ) (r : Option ℕ) (e : Expression) (b : Statements) (es : Entr
       counted_as (N * M) a.many _ m mid (let y = a.all in omega arith) a.counted
   meter_end (suc t) now exits F mid e l N M L I J Np Mp s u w pr = absurd (omega arith)
 
-pub meters_at : (r : Option ℕ) (flow : ℕ → Table → Flow) (draws : ℕ → Table → Reached) (n t t' : ℕ) (es now exits : Entries) (E F : Ended) (m mid : Meter) → t ≡ t' → MetersLoop r flow draws n t es E now exits F m mid → MetersLoop r flow draws n t' es E now exits F m mid
+pub meters_at : (r : Option ℕ) (flow : ℕ → Table → Flow) (draws : ℕ → Table → ReachedDraws) (n t t' : ℕ) (es now exits : Entries) (E F : Ended) (m mid : Meter) → t ≡ t' → MetersLoop r flow draws n t es E now exits F m mid → MetersLoop r flow draws n t' es E now exits F m mid
 meters_at r flow draws n t t' es now exits E F m mid p l = subst (λ t. MetersLoop r flow draws n t es E now exits F m mid) p l

@@ -13,7 +13,7 @@ use Rattle.frac128.specs.Fraction.{InLowest, IsEqual, lowest}
 use Rattle.frac128.proofs.Divisors.{gauss, along_to, lowest_from, product_pos, cancel, factor_pos}
 use Rattle.mass_tables.specs.Scale.{whole, Whole}
 use Rattle.mass_fold.specs.declared.error.MassError.{MassError}
-use Rattle.mass_fold.specs.Amounts.{held, Held}
+use Rattle.mass_fold.specs.Amounts.{held, AreHeld}
 use Rattle.mass_fold.specs.Masses.{counted, HoldMasses}
 use Rattle.mass_fold.specs.Rows.{Rows, outcomes_of, Ascending, EachLowest, AreMasses}
 use Rattle.mass_fold.proofs.Insertion.{whole_pos}
@@ -74,7 +74,7 @@ record IsRow (N : ℕ) (rows : Rows) (x : Outcome) (f : Fraction) : Type 0 where
   pub exact : Whole N f
   pub in_lowest : InLowest f
 
-row_at : (N : ℕ) (x : Outcome) (f : Fraction) (rows : Rows) (k : ℕ) → k < length rows → slice_index_or rows k (x, f) ≡ (x, f) → Ascending rows → Held N rows → EachLowest rows → IsRow N rows x f
+row_at : (N : ℕ) (x : Outcome) (f : Fraction) (rows : Rows) (k : ℕ) → k < length rows → slice_index_or rows k (x, f) ≡ (x, f) → Ascending rows → AreHeld N rows → EachLowest rows → IsRow N rows x f
 row_at N x f [] k l e a h m = absurd (omega arith)
 row_at N x f (row ∷ rows) zero l e a h m = subst (λ r. IsRow N (row ∷ rows) r.0 r.1) e (record {
   sum = let z = none_behind N row.0 rows (all_after row.0 (outcomes_of rows) a) in let y = ap (λ b. whole N row.1 * cond b 1 0) (outcome_itself row.0) in omega arith;

@@ -4,15 +4,15 @@ use Rattle.gcl_core.specs.declared.answers.Outcome.{Outcome}
 use Rattle.gcl_core.specs.weighing.Fractions.{Fraction}
 use Rattle.mass_tables.specs.Scale.{whole, Whole}
 use Rattle.mass_fold.specs.declared.error.MassError.{MassError}
-use Rattle.mass_fold.specs.Amounts.{held, Held, Blames}
+use Rattle.mass_fold.specs.Amounts.{held, AreHeld, Blames}
 use Rattle.mass_fold.specs.Outcomes.{AddGives, AddBlames}
 use Rattle.mass_fold.specs.Rounds.{ArePartsOfOne, TableParts}
 use Rattle.mass_fold.specs.Rows.{Rows}
 
 -- what stands once the rest is left: each weight at scale M is C times what it was at scale N
 pub record Passing (N M C : ℕ) (rows masses rest : Rows) : Type 0 where
-  pub kept : Held M masses
-  pub left : Held N rest
+  pub kept : AreHeld M masses
+  pub left : AreHeld N rest
   pub less : held N (λ x. 1) rest ≤ held N (λ x. 1) rows
   pub sums : (G : Outcome → ℕ) → held M G masses + C * held N G rest ≡ C * held N G rows
 
@@ -29,7 +29,7 @@ module _ (M C : ℕ → ℕ) (f : Fraction) (rows : Rows) where
   passing_start masses rest p q N h =
       subst (λ m. Passing N (M N) (C N) rows m rest) (sym p) (subst (Passing N (M N) (C N) rows []) (sym q) (record { kept = tt; left = h.kept; less = omega arith; sums = λ G. omega arith }))
 
-  pub passing_end : (masses rest : Rows) → rest ≡ [] → PassesOn masses rest → (N : ℕ) → TableParts N rows f → Held (M N) masses × ((G : Outcome → ℕ) → held (M N) G masses ≡ C N * held N G rows)
+  pub passing_end : (masses rest : Rows) → rest ≡ [] → PassesOn masses rest → (N : ℕ) → TableParts N rows f → AreHeld (M N) masses × ((G : Outcome → ℕ) → held (M N) G masses ≡ C N * held N G rows)
   passing_end masses rest p on N h = let a = subst (Passing N (M N) (C N) rows masses) p (on N h) in (a.kept, λ G. let z = a.sums G in omega arith)
 
   module _ (masses rest : Rows) (x : Outcome) (s : Fraction) (rest' : Rows) (p : rest ≡ (x, s) ∷ rest') (on : PassesOn masses rest) where

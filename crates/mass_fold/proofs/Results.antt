@@ -7,18 +7,18 @@ use Rattle.gcl_core.specs.meaning.Syntax.{Expression}
 use Rattle.gcl_core.specs.meaning.Value.{State, value_of}
 use Rattle.mass_tables.specs.Scale.{whole}
 use Rattle.mass_fold.specs.declared.error.MassError.{MassError}
-use Rattle.mass_fold.specs.Amounts.{Entries, held, Held}
+use Rattle.mass_fold.specs.Amounts.{Entries, held, AreHeld}
 use Rattle.mass_fold.specs.Rows.{Rows}
 use Rattle.mass_fold.specs.Outcomes.{AddGives, AddBlames, by_result, ResultsGive, ResultsBlame}
 
 -- what stands once the rest of the states is left
 pub record Left (N : ℕ) (result : Expression) (table : Entries) (es fs : Rows) (rest : Entries) : Type 0 where
-  pub kept : Held N fs
-  pub left : Held N rest
+  pub kept : AreHeld N fs
+  pub left : AreHeld N rest
   pub sums : (G : Outcome → ℕ) → held N G fs + held N (by_result result G) rest ≡ held N G es + held N (by_result result G) table
 
 abbrev pub ResultsOn : Expression → Entries → Rows → Rows → Entries → Type 0
-ResultsOn result table es fs rest = (N : ℕ) → 0 < N → Held N table → Held N es → Left N result table es fs rest
+ResultsOn result table es fs rest = (N : ℕ) → 0 < N → AreHeld N table → AreHeld N es → Left N result table es fs rest
 
 module _ (result : Expression) (table : Entries) (es : Rows) where
   pub results_start : (rest : Entries) → rest ≡ table → ResultsOn result table es es rest

@@ -18,7 +18,7 @@ use Rattle.mass_tables.proofs.Paths.{ends_positive, sum_positive}
 use Rattle.mass_fold.specs.declared.ended.Ended.{Ended}
 use Rattle.mass_fold.specs.declared.error.MassError.{MassError}
 use Rattle.mass_fold.specs.declared.error.MassError.TheVariants.{TooWide, TooManyStates, AllFailed, OutOfMemory}
-use Rattle.mass_fold.specs.Amounts.{Entries, held, Held, Blames}
+use Rattle.mass_fold.specs.Amounts.{Entries, held, AreHeld, Blames}
 use Rattle.mass_fold.specs.Body.{BodyGives}
 use Rattle.mass_fold.specs.Ended.{rows_of}
 use Rattle.mass_fold.specs.Masses.{counted, RoundGives}
@@ -50,8 +50,8 @@ module _ (p : SourceProgram) (n : ℕ) (r : Option ℕ) (w : BlockIsWeighed p.bo
       omega arith
 
   module _ (es : Entries) (E : Ended) (b : BodyGives p n r es E) (none : Rows) (is_none : none ≡ []) where
-    nothing_held : Held Q none × ((G : Outcome → ℕ) → held Q G none ≡ 0)
-    nothing_held = subst (λ none. Held Q none × ((G : Outcome → ℕ) → held Q G none ≡ 0)) (sym is_none) (tt, λ G. refl)
+    nothing_held : AreHeld Q none × ((G : Outcome → ℕ) → held Q G none ≡ 0)
+    nothing_held = subst (λ none. AreHeld Q none × ((G : Outcome → ℕ) → held Q G none ≡ 0)) (sym is_none) (tt, λ G. refl)
 
     pub results_refused : (e : MassError) → ResultsBlame e es none → RoundRefused e p n r
     results_refused e h =
@@ -59,7 +59,7 @@ module _ (p : SourceProgram) (n : ℕ) (r : Option ℕ) (w : BlockIsWeighed p.bo
         refused_by p n r e (h Q (peak_of p n r) (at_width p n r w).positive b.stands.kept z.0 (let y = z.1 (λ x. 1) in let t = b.total in omega arith))
 
     module _ (rows : Rows) (results : ResultsGive p.result es none rows) where
-      first : Held Q rows × ((G : Outcome → ℕ) → held Q G rows ≡ held Q (by_result p.result G) es)
+      first : AreHeld Q rows × ((G : Outcome → ℕ) → held Q G rows ≡ held Q (by_result p.result G) es)
       first =
           let z = nothing_held in
           let s = results Q (at_width p n r w).positive b.stands.kept z.0 in

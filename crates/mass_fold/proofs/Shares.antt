@@ -20,7 +20,7 @@ use Rattle.mass_tables.proofs.Wholes.{whole_from}
 use Rattle.mass_tables.proofs.Draws.{share, class_pos, no_class_pos}
 use Rattle.mass_tables.proofs.EqualFractions.{equal_times}
 use Rattle.mass_tables.proofs.Kept.{times_swap}
-use Rattle.mass_fold.specs.Amounts.{Entries, held, Held, order}
+use Rattle.mass_fold.specs.Amounts.{Entries, held, AreHeld, order}
 use Rattle.mass_fold.specs.Steps.{Shares, shared, EachState, BothWhole}
 use Rattle.mass_fold.specs.Fold.{Stands}
 use Rattle.mass_fold.proofs.Entries.{same, same_is, same_is_eq, at}
@@ -40,7 +40,7 @@ found_in Fact N q (e ∷ I) h k = at_head (same q e.1) refl (λ p. found_in Fact
     at_head true p i = subst Fact (sym ((same_is q e.1).0 p)) k.0
     at_head false p i = i (let z = ap (λ b. whole N e.0 * cond b 1 0) p in omega arith)
 
-each_from : (Fact : State → Type 0) (N : ℕ) (all es : Entries) (I : Table) → 0 < N → Held N es → ((q : State) → held N (at q) es ≤ held N (at q) all) → ((q : State) → held N (at q) all ≡ amount N (at q) I) → EachIn Fact I → EachState Fact es
+each_from : (Fact : State → Type 0) (N : ℕ) (all es : Entries) (I : Table) → 0 < N → AreHeld N es → ((q : State) → held N (at q) es ≤ held N (at q) all) → ((q : State) → held N (at q) all ≡ amount N (at q) I) → EachIn Fact I → EachState Fact es
 each_from Fact N all [] I Np h k e f = tt
 each_from Fact N all (d ∷ es) I Np h k e f =
     let self : same d.0 d.0 ≡ true = (same_is d.0 d.0).1 refl in
@@ -56,7 +56,7 @@ none_at N s [] h = refl
 none_at N s (e ∷ es) h = let i = none_at N s es h.1 in let z = ap (λ b. whole N e.1 * cond b 1 0) h.0 in omega arith
 
 module _ (p : State → Fraction) (above : (s : State) → 0 < (p s).1) where
-  shares_from : (N : ℕ) (V : State → ℕ) (es : Entries) → Held N es → IsDistinct same (keys_of es) → ((s : State) → (p s).1 * V s ≡ (p s).0 * held N (at s) es) → Shares N p es
+  shares_from : (N : ℕ) (V : State → ℕ) (es : Entries) → AreHeld N es → IsDistinct same (keys_of es) → ((s : State) → (p s).1 * V s ≡ (p s).0 * held N (at s) es) → Shares N p es
   shares_from N V [] k d h = tt
   shares_from N V (e ∷ es) k d h =
       let none = none_at N e.0 es (IsDistinct-head same e.0 (keys_of es) d) in
@@ -132,7 +132,7 @@ module _ (p : State → Fraction) (above : (s : State) → 0 < (p s).1) where
       let x = one_cleared (p e.1).1 (p e.1).0 (K / (p e.1).1) K (whole N (times e.0 (p e.1))) (whole N e.0) (G e.1) (mul-div_cancel' (p e.1).1 c.0) (share N e.0 (p e.1) a.0 b.0) in
       omega arith
 
-  shared_cleared : (N K : ℕ) (G : State → ℕ) (es : Entries) → Held N es → Shares N p es → EachState (λ s. (p s).1 ∣ K) es → K * shared N p G es ≡ held N (cleared K G) es
+  shared_cleared : (N K : ℕ) (G : State → ℕ) (es : Entries) → AreHeld N es → Shares N p es → EachState (λ s. (p s).1 ∣ K) es → K * shared N p G es ≡ held N (cleared K G) es
   shared_cleared N K G [] a b c = omega arith
   shared_cleared N K G (e ∷ es) a b c =
       let i = shared_cleared N K G es a.2 b.1 c.1 in
@@ -151,7 +151,7 @@ module _ (p : State → Fraction) (above : (s : State) → 0 < (p s).1) where
       (sh, λ G. cancel K _ _ (dens_pos I) (shared_cleared N K G es s.kept sh c' ∙ s.same (cleared K G) ∙ sym (amount_cleared N K G I w m c)))
 
 -- ---- other terms of the same fractions
-pub shares_equal : (N : ℕ) (p q : State → Fraction) (es : Entries) → ((s : State) → 0 < (q s).1) → ((s : State) → IsEqual (q s) (p s)) → Held N es → Shares N p es → Shares N q es × ((G : State → ℕ) → shared N q G es ≡ shared N p G es)
+pub shares_equal : (N : ℕ) (p q : State → Fraction) (es : Entries) → ((s : State) → 0 < (q s).1) → ((s : State) → IsEqual (q s) (p s)) → AreHeld N es → Shares N p es → Shares N q es × ((G : State → ℕ) → shared N q G es ≡ shared N p G es)
 shares_equal N p q [] h e k s = (tt, λ G. refl)
 shares_equal N p q (d ∷ es) h e k s =
     let i = shares_equal N p q es h e k.2 s.1 in

@@ -23,9 +23,9 @@ held N G [] = 0
 held N G (e ∷ es) = whole N e.1 * G e.0 + held N G es
 
 -- each weight is whole at scale N, and above 0
-abbrev pub Held : {K : Type 0} → ℕ → List (K × Fraction) → Type 0
-Held N [] = Unit {0}
-Held N (e ∷ es) = (0 < e.1.0) × Whole N e.1 × Held N es
+abbrev pub AreHeld : {K : Type 0} → ℕ → List (K × Fraction) → Type 0
+AreHeld N [] = Unit {0}
+AreHeld N (e ∷ es) = (0 < e.1.0) × Whole N e.1 × AreHeld N es
 
 -- why work is refused whose fractions are whole at scale N, and whose tables have at most L states
 abbrev pub Blames : MassError → ℕ → ℕ → Type 0
@@ -47,11 +47,11 @@ SumAt order es k f v = MatchOption (found order k es) (v ≡ f) (λ g. sum_of g 
 
 -- after the weight f of a key was added
 abbrev pub PutGives : {K : Type 0} → List (K × Fraction) → List (K × Fraction) → K → Fraction → Type 0
-PutGives {K = K} es fs k f = (N : ℕ) → 0 < N → Held N es → 0 < f.0 → Whole N f → Held N fs × ((G : K → ℕ) → held N G fs ≡ held N G es + whole N f * G k)
+PutGives {K = K} es fs k f = (N : ℕ) → 0 < N → AreHeld N es → 0 < f.0 → Whole N f → AreHeld N fs × ((G : K → ℕ) → held N G fs ≡ held N G es + whole N f * G k)
 
 -- es with the weight f of s is a part of I
 abbrev pub PartOf : ℕ → Entries → State → Fraction → Table → Type 0
 PartOf N es s f I = (G : State → ℕ) → held N G es + whole N f * G s ≤ amount N G I
 
 abbrev pub PutBlames : MassError → Entries → State → Fraction → Type 0
-PutBlames e es s f = (N L : ℕ) (I : Table) → 0 < N → Held N es → 0 < f.0 → Whole N f → PartOf N es s f I → weight N I ≤ N → states I ≤ L → Blames e N L
+PutBlames e es s f = (N L : ℕ) (I : Table) → 0 < N → AreHeld N es → 0 < f.0 → Whole N f → PartOf N es s f I → weight N I ≤ N → states I ≤ L → Blames e N L

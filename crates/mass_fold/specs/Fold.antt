@@ -13,12 +13,12 @@ use Rattle.mass_tables.specs.Tables.{Table, Flow, all_end, states, statement_flo
 use Rattle.mass_tables.specs.Scale.{Whole, Wholes, Within, amount, weight}
 use Rattle.mass_fold.specs.declared.error.MassError.{MassError}
 use Rattle.mass_fold.specs.declared.ended.Ended.{Ended}
-use Rattle.mass_fold.specs.Amounts.{Entries, held, Held, Blames}
+use Rattle.mass_fold.specs.Amounts.{Entries, held, AreHeld, Blames}
 use Rattle.mass_fold.specs.Ended.{rows_of}
 
 -- a table with each state once stands for a list of states, at a scale: whatever counts a state, both count the same
 pub record Stands (N : ℕ) (es : Entries) (I : Table) : Type 0 where
-  pub kept : Held N es
+  pub kept : AreHeld N es
   pub same : (G : State → ℕ) → held N G es ≡ amount N G I
 
 pub record EndStands (N : ℕ) (E : Ended) (J : Weighted End) : Type 0 where

@@ -6,7 +6,7 @@ use Rattle.gcl_core.specs.weighing.Mass.{round_mass, failed_mass}
 use Rattle.gcl_core.specs.meaning.Syntax.{SourceProgram}
 use Rattle.frac128.specs.Fraction.{IsEqual}
 use Rattle.mass_tables.specs.Width.{round_width}
-use Rattle.mass_fold.specs.Amounts.{held, Held}
+use Rattle.mass_fold.specs.Amounts.{held, AreHeld}
 use Rattle.mass_fold.specs.Rounds.{TableParts}
 use Rattle.mass_fold.specs.Rows.{Rows}
 
@@ -16,7 +16,7 @@ counted meant x = cond (meant x) 1 0
 -- whatever outcomes are meant, the rows hold as much as the masses give them
 pub record HoldMasses (N : ℕ) (mass : (Outcome → Bool) → Fraction) (rows : Rows) : Type 0 where
   pub positive : 0 < N
-  pub kept : Held N rows
+  pub kept : AreHeld N rows
   pub fraction : (meant : Outcome → Bool) → 0 < (mass meant).1
   pub sums : (meant : Outcome → Bool) → (mass meant).1 * held N (counted meant) rows ≡ (mass meant).0 * N
 
@@ -32,5 +32,5 @@ pub record WholeWithin (most : ℕ) (rows : Rows) : Type 0 where
   pub scale : ℕ
   pub positive : 0 < scale
   pub within : scale ≤ most
-  pub kept : Held scale rows
+  pub kept : AreHeld scale rows
   pub sum : held scale (λ x. 1) rows ≤ scale

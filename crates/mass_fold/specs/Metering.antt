@@ -11,12 +11,12 @@ use Rattle.gcl_core.specs.meaning.Parts.{partial_sums}
 use Rattle.gcl_core.specs.meaning.Syntax.{Choose, Expression, Statements, ArmList}
 use Rattle.cost_law.specs.ExpectedBits.{attempt_bits}
 use Rattle.mass_tables.specs.Tables.{Table, Flow, statement_flow, block_flow}
-use Rattle.mass_tables.specs.Reached.{Reached, statement_draws, block_draws, loop_draws}
+use Rattle.mass_tables.specs.Reached.{ReachedDraws, statement_draws, block_draws, loop_draws}
 use Rattle.mass_tables.specs.Scale.{whole, Whole, Within, amount}
 use Rattle.mass_fold.specs.declared.ended.Ended.{Ended}
 use Rattle.mass_fold.specs.declared.meter.Meter.{Meter}
 use Rattle.mass_fold.specs.declared.meter.Meter.TheVariants.{Off, Bits, TooWide}
-use Rattle.mass_fold.specs.Amounts.{Entries, held, Held}
+use Rattle.mass_fold.specs.Amounts.{Entries, held, AreHeld}
 use Rattle.mass_fold.specs.Steps.{EachState}
 use Rattle.mass_fold.specs.Fold.{Stands, EndStands, Around, AfterUndecided}
 use Rattle.frac128.specs.Fraction.{Overfills}
@@ -47,7 +47,7 @@ pub record IsPriced (r : Option ℕ) (M b : ℕ) : Type 0 where
   pub one : Whole M (class_weight b r 1)
   pub none : Whole M (no_class_weight b r)
 
-abbrev pub Priced : Option ℕ → ℕ → Reached → Type 0
+abbrev pub Priced : Option ℕ → ℕ → ReachedDraws → Type 0
 Priced r M [] = Unit {0}
 Priced r M (e ∷ m) = IsPriced r M (last_end e.1) × Priced r M m
 
@@ -83,7 +83,7 @@ PriceBlames undecided b r = (M C : ℕ) → 0 < M → 1 ≤ C → IsPriced r M b
 
 -- the draw of each entry, where Fact holds of its state at M
 abbrev pub CountsAll : (ℕ → State → Type 0) → (ℕ → State → ℕ) → Entries → Meter → Meter → Type 0
-CountsAll Fact p es m m' = (N M : ℕ) → 0 < N → 0 < M → Held N es → EachState (Fact M) es → Counted (N * M) (held N (p M) es) m m'
+CountsAll Fact p es m m' = (N M : ℕ) → 0 < N → 0 < M → AreHeld N es → EachState (Fact M) es → Counted (N * M) (held N (p M) es) m m'
 
 -- the same draw of each entry, with b numbers
 abbrev pub CountsDraws : Option ℕ → ℕ → List ℕ → Entries → Meter → Meter → Type 0
@@ -95,14 +95,14 @@ CountsRest Fact p es m now rest = (m' : Meter) → CountsAll Fact p rest now m' 
 
 -- ---- blocks and statements
 
-abbrev pub Meters : Option ℕ → (Table → Flow) → (Table → Reached) → Entries → Ended → Meter → Meter → Type 0
+abbrev pub Meters : Option ℕ → (Table → Flow) → (Table → ReachedDraws) → Entries → Ended → Meter → Meter → Type 0
 Meters r flow draws es E m m' = (N M L : ℕ) (I : Table) (J : Weighted _) → 0 < N → 0 < M → Stands N es I → EndStands N E J → Within N L (flow I) → Priced r M (draws I) → Counted (N * M) (amount N (price r M) (draws I)) m m'
 
-abbrev pub MetersOne : Option ℕ → (Table → Flow) → (Table → Reached) → Entries → Ended → Meter → Meter → Type 0
+abbrev pub MetersOne : Option ℕ → (Table → Flow) → (Table → ReachedDraws) → Entries → Ended → Meter → Meter → Type 0
 MetersOne r flow draws es E m m' = (N M L : ℕ) (I : Table) (J : Weighted _) → 0 < N → 0 < M → Stands N es I → EndStands N E J → Around N L I (flow I) → Priced r M (draws I) → Counted (N * M) (amount N (price r M) (draws I)) m m'
 
 -- a loop of at most n turns
-abbrev pub turns_draws : ℕ → Option ℕ → Expression → Statements → Table → Reached
+abbrev pub turns_draws : ℕ → Option ℕ → Expression → Statements → Table → ReachedDraws
 turns_draws n r e a = loop_draws (value_of e) (block_draws n r a) (block_flow n r a) n
 
 -- the arms of a choice among several, where their draws were counted before

@@ -9,7 +9,7 @@ use Rattle.gcl_core.specs.weighing.Fractions.{Fraction, zero_share, plus}
 use Rattle.gcl_core.specs.meaning.Order.{is_before}
 use Rattle.gcl_core.specs.meaning.Outcomes.{same_outcome}
 use Rattle.gcl_core.proofs.SameOutcomes.{same_outcomes, outcome_itself}
-use Rattle.mass_fold.specs.Amounts.{held, Held}
+use Rattle.mass_fold.specs.Amounts.{held, AreHeld}
 use Rattle.mass_fold.specs.Rows as masses
 use Rattle.mass_fold.proofs.OutcomeRows.{ascending_rest, all_after}
 use Rattle.mass_tables.specs.Scale.{whole, Whole}
@@ -58,7 +58,7 @@ pub record Part (N : ℕ) (f : Fraction) (all : ℕ) : Type 0 where
   pub exact : Whole N f
   pub within : whole N f ≤ all
 
-row_part : (N : ℕ) (x : Outcome) (f : Fraction) (rows : masses.Rows) → Held N rows → Contains rows (x, f) → Part N f (held N (λ x. 1) rows)
+row_part : (N : ℕ) (x : Outcome) (f : Fraction) (rows : masses.Rows) → AreHeld N rows → Contains rows (x, f) → Part N f (held N (λ x. 1) rows)
 row_part N x f [] h c = absurd (omega (arith, c.1))
 row_part N x f (row ∷ rows) h c = by (in_cons row rows (x, f) c) (row_part N x f rows h.2)
   where
@@ -66,7 +66,7 @@ row_part N x f (row ∷ rows) h c = by (in_cons row rows (x, f) c) (row_part N x
     by (inl e) i = subst (λ r. Part N r.1 (held N (λ x. 1) (row ∷ rows))) e (record { exact = h.1; within = omega arith })
     by (inr c) i = let j = i c in record { exact = j.exact; within = let z = j.within in omega arith }
 
-pub mass_part : (N : ℕ) (x : Outcome) (rows : masses.Rows) → Held N rows → Part N (mass_in x rows) (held N (λ x. 1) rows)
+pub mass_part : (N : ℕ) (x : Outcome) (rows : masses.Rows) → AreHeld N rows → Part N (mass_in x rows) (held N (λ x. 1) rows)
 mass_part N x rows h = by (in_or_none x rows)
   where
     by : Contains rows (x, mass_in x rows) ⊎ ((mass_in x rows ≡ lowest zero_share) × NoRow x rows) → Part N (mass_in x rows) (held N (λ x. 1) rows)
@@ -79,7 +79,7 @@ pub record Beside (N : ℕ) (f g : Fraction) (all : ℕ) : Type 0 where
   pub second : Whole N g
   pub sum : whole N f + whole N g ≤ all
 
-pub beside : (N : ℕ) (x y : Outcome) (f : Fraction) (rows : masses.Rows) → same_outcome y x ≡ false → Held N rows → Contains rows (x, f) → Beside N f (mass_in y rows) (held N (λ x. 1) rows)
+pub beside : (N : ℕ) (x y : Outcome) (f : Fraction) (rows : masses.Rows) → same_outcome y x ≡ false → AreHeld N rows → Contains rows (x, f) → Beside N f (mass_in y rows) (held N (λ x. 1) rows)
 beside N x y f [] d h c = absurd (omega (arith, c.1))
 beside N x y f (row ∷ rows) d h c = by (in_cons row rows (x, f) c) (same_outcome y row.0) refl (beside N x y f rows d h.2)
   where
