@@ -21,8 +21,8 @@ use Rattle.mass_tables.proofs.Draws.{class_pos}
 use Rattle.mass_fold.specs.declared.error.MassError.{MassError}
 use Rattle.mass_fold.specs.declared.ended.Ended.{Ended}
 use Rattle.mass_fold.specs.Amounts.{Entries}
-use Rattle.mass_fold.specs.Steps.{StepsTo, StepBlames}
-use Rattle.mass_fold.specs.Fold.{Stands, EndStands, FoldsTo, FoldBlames, Around, FoldsOne, OneBlames, UndecidedTo, UndecidedBlames, WeighedBy, WeighBlamesBy}
+use Rattle.mass_fold.specs.inner.Steps.{StepsTo, StepBlames}
+use Rattle.mass_fold.specs.inner.Fold.{Stands, EndStands, FoldsTo, FoldBlames, Around, FoldsOne, OneBlames, UndecidedTo, UndecidedBlames, WeighedBy, WeighBlamesBy}
 use Rattle.mass_fold.proofs.Folds.{stands_along, end_along, merged, merge_blamed, head_few}
 use Rattle.mass_fold.proofs.Sides.{count_whole, count_small, count_equal, draws_head}
 

@@ -16,8 +16,9 @@ use Rattle.mass_tables.proofs.Kept.{first_arm}
 use Rattle.mass_fold.specs.declared.ended.Ended.{Ended}
 use Rattle.mass_fold.specs.declared.meter.Meter.{Meter}
 use Rattle.mass_fold.specs.Amounts.{Entries}
-use Rattle.mass_fold.specs.Fold.{Stands, EndStands, Around, WeighedBy}
-use Rattle.mass_fold.specs.Metering.{Counted, Priced, price, CountsDraws, Meters, MetersOne}
+use Rattle.mass_fold.specs.inner.Fold.{Stands, EndStands, Around, WeighedBy}
+use Rattle.mass_fold.specs.Metering.{Priced, price}
+use Rattle.mass_fold.specs.inner.Metering.{Counted, CountsDraws, Meters, MetersOne}
 use Rattle.mass_fold.proofs.ArmFolds.{ArmsOn, side_stands}
 use Rattle.mass_fold.proofs.Meters.{counted_none}
 use Rattle.mass_fold.proofs.MeterFolds.{priced_first, priced_second, both_counted, draw_counts}

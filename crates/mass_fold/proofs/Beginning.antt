@@ -16,11 +16,11 @@ use Rattle.mass_tables.proofs.Wholes.{whole_from}
 use Rattle.mass_fold.specs.declared.error.MassError.{MassError}
 use Rattle.mass_fold.specs.declared.ended.Ended.{Ended}
 use Rattle.mass_fold.specs.Amounts.{Entries, Blames}
-use Rattle.mass_fold.specs.Ended.{IsNoWeight, IsNone}
-use Rattle.mass_fold.specs.Fold.{Stands, EndStands, FoldsTo, FoldBlames}
-use Rattle.mass_fold.specs.Body.{BodyGives, BodyMeters}
+use Rattle.mass_fold.specs.inner.Ended.{IsNoWeight, IsNone}
+use Rattle.mass_fold.specs.inner.Fold.{Stands, EndStands, FoldsTo, FoldBlames}
+use Rattle.mass_fold.specs.inner.Body.{BodyGives, BodyMeters}
 use Rattle.mass_fold.specs.declared.meter.Meter.{Meter}
-use Rattle.mass_fold.specs.Metering.{Meters}
+use Rattle.mass_fold.specs.inner.Metering.{Meters}
 use Rattle.mass_tables.specs.Reached.{block_draws}
 use Rattle.mass_fold.proofs.BodyMasses.{masses_held, failed_equal}
 

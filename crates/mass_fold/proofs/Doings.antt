@@ -9,9 +9,9 @@ use Rattle.mass_fold.specs.declared.error.MassError.{MassError}
 use Rattle.mass_fold.specs.declared.ended.Gone.{Gone}
 use Rattle.mass_fold.specs.declared.ended.Ended.{Ended}
 use Rattle.mass_fold.specs.Amounts.{Entries, held, Blames, PutGives, PutBlames}
-use Rattle.mass_fold.specs.Ended.{end_of, EndGives, EndBlames}
+use Rattle.mass_fold.specs.inner.Ended.{end_of, EndGives, EndBlames}
 use Rattle.mass_tables.specs.Counts.{all_kept}
-use Rattle.mass_fold.specs.Steps.{StepsTo, StepsOn, StepBlames}
+use Rattle.mass_fold.specs.inner.Steps.{StepsTo, StepsOn, StepBlames}
 
 module _ (go : (State → ℕ) → State → ℕ) (stop : (End → ℕ) → State → ℕ) (bs es : Entries) (E : Ended) where
   pub doing_none : StepsOn go stop bs es E bs E es

@@ -8,7 +8,7 @@ use Rattle.mass_tables.proofs.Wholes.{sum_whole, sum_refused}
 use Rattle.mass_fold.specs.declared.ended.Gone.{Gone}
 use Rattle.mass_fold.specs.declared.ended.Gone.TheVariants.{Failed, Overflow, Divisor, Bound, Turns, Attempts}
 use Rattle.mass_fold.specs.declared.ended.Ended.{Ended}
-use Rattle.mass_fold.specs.Ended.{end_of, weight_of, with_weight, rows_of, EndGives, EndBlames}
+use Rattle.mass_fold.specs.inner.Ended.{end_of, weight_of, with_weight, rows_of, EndGives, EndBlames}
 use Rattle.mass_fold.specs.declared.error.MassError.TheVariants.{TooWide}
 
 weight_whole : (N : ℕ) (E : Ended) (x : Gone) → Wholes N (rows_of E) → Whole N (weight_of E x) × (whole N (weight_of E x) ≤ amount N (λ x. 1) (rows_of E))

@@ -8,7 +8,7 @@ use Rattle.mass_tables.specs.Tables.{statement_flow}
 use Rattle.mass_fold.specs.declared.error.MassError.{MassError}
 use Rattle.mass_fold.specs.declared.ended.Ended.{Ended}
 use Rattle.mass_fold.specs.Amounts.{Entries}
-use Rattle.mass_fold.specs.Fold.{FoldsOne, OneBlames}
+use Rattle.mass_fold.specs.inner.Fold.{FoldsOne, OneBlames}
 
 pub below_as : (m : ℕ) (st st' : Statement) → st ≡ st' → StatementBelow m st → StatementBelow m st'
 below_as m st st' p h = subst (StatementBelow m) p h

@@ -22,9 +22,9 @@ use Rattle.mass_fold.specs.declared.error.MassError.{MassError}
 use Rattle.mass_fold.specs.declared.ended.Gone.TheVariants as gone_kind
 use Rattle.mass_fold.specs.declared.ended.Ended.{Ended}
 use Rattle.mass_fold.specs.Amounts.{Entries, held, AreHeld, Blames, order}
-use Rattle.mass_fold.specs.Ended.{end_of, rows_of}
-use Rattle.mass_fold.specs.Steps.{StepsTo, StepBlames, Shares, shared, BothWhole, UniformTo, UniformBlames}
-use Rattle.mass_fold.specs.Fold.{Stands, EndStands, FoldsTo, FoldBlames, Around, FoldsOne, OneBlames}
+use Rattle.mass_fold.specs.inner.Ended.{end_of, rows_of}
+use Rattle.mass_fold.specs.inner.Steps.{StepsTo, StepBlames, Shares, shared, BothWhole, UniformTo, UniformBlames}
+use Rattle.mass_fold.specs.inner.Fold.{Stands, EndStands, FoldsTo, FoldBlames, Around, FoldsOne, OneBlames}
 use Rattle.mass_fold.proofs.Shares.{shares_stand, part_above, rest_above, draws_in, each_state}
 
 -- ---- what stands

@@ -16,9 +16,9 @@ use Rattle.mass_fold.specs.declared.error.MassError.{MassError}
 use Rattle.mass_fold.specs.declared.ended.Gone.TheVariants as gone_kind
 use Rattle.mass_fold.specs.declared.ended.Ended.{Ended}
 use Rattle.mass_fold.specs.Amounts.{Entries, held}
-use Rattle.mass_fold.specs.Ended.{end_of}
-use Rattle.mass_fold.specs.Steps.{StepsTo, StepBlames}
-use Rattle.mass_fold.specs.Fold.{Stands, FoldsTo, FoldBlames, FoldsOne, OneBlames, LoopAt, LoopsOn}
+use Rattle.mass_fold.specs.inner.Ended.{end_of}
+use Rattle.mass_fold.specs.inner.Steps.{StepsTo, StepBlames}
+use Rattle.mass_fold.specs.inner.Fold.{Stands, FoldsTo, FoldBlames, FoldsOne, OneBlames, LoopAt, LoopsOn}
 use Rattle.mass_fold.proofs.Folds.{stands_along, end_along, merged, merge_blamed, split_blamed, end_blamed, looked_first, looked_second}
 
 -- ---- loops

@@ -19,9 +19,10 @@ use Rattle.mass_tables.proofs.NoneReached.{amount_drawn_each, amount_drawn_bound
 use Rattle.mass_fold.specs.declared.ended.Ended.{Ended}
 use Rattle.mass_fold.specs.declared.meter.Meter.{Meter}
 use Rattle.mass_fold.specs.Amounts.{Entries, held}
-use Rattle.mass_fold.specs.Steps.{StepsTo}
-use Rattle.mass_fold.specs.Fold.{Stands, FoldsTo, FoldsOne, SidesTo}
-use Rattle.mass_fold.specs.Metering.{Counted, IsPriced, Priced, price, bound_price, IsValuePriced, IsBoundPriced, CountsAll, CountsDraws, Meters, MetersOne}
+use Rattle.mass_fold.specs.inner.Steps.{StepsTo}
+use Rattle.mass_fold.specs.inner.Fold.{Stands, FoldsTo, FoldsOne, SidesTo}
+use Rattle.mass_fold.specs.Metering.{IsPriced, Priced, price}
+use Rattle.mass_fold.specs.inner.Metering.{Counted, bound_price, IsValuePriced, IsBoundPriced, CountsAll, CountsDraws, Meters, MetersOne}
 use Rattle.mass_fold.proofs.Folds.{first_of, looked_first, looked_second}
 use Rattle.mass_fold.proofs.Meters.{counted_none, counted_then, counted_as}
 use Rattle.mass_fold.proofs.Shares.{EachIn, each_state}

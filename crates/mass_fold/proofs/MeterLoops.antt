@@ -14,9 +14,10 @@ use Rattle.mass_tables.proofs.NoneReached.{none_turns, none_all}
 use Rattle.mass_fold.specs.declared.ended.Ended.{Ended}
 use Rattle.mass_fold.specs.declared.meter.Meter.{Meter}
 use Rattle.mass_fold.specs.Amounts.{Entries, held}
-use Rattle.mass_fold.specs.Steps.{StepsTo}
-use Rattle.mass_fold.specs.Fold.{Stands, EndStands, FoldsTo, LoopAt}
-use Rattle.mass_fold.specs.Metering.{Counted, Priced, price, Meters, MetersOne}
+use Rattle.mass_fold.specs.inner.Steps.{StepsTo}
+use Rattle.mass_fold.specs.inner.Fold.{Stands, EndStands, FoldsTo, LoopAt}
+use Rattle.mass_fold.specs.Metering.{Priced, price}
+use Rattle.mass_fold.specs.inner.Metering.{Counted, Meters, MetersOne}
 use Rattle.mass_fold.proofs.Folds.{looked_first, looked_second}
 use Rattle.mass_fold.proofs.Loops.{turned, turn_inside}
 use Rattle.mass_fold.proofs.Meters.{counted_none, counted_then, counted_as}

@@ -11,8 +11,9 @@ use Rattle.mass_tables.proofs.Wholes.{whole_from, sum_whole, sum_wide, product_w
 use Rattle.mass_fold.specs.declared.meter.Meter.{Meter}
 use Rattle.mass_fold.specs.declared.meter.Meter.TheVariants.{Off, Bits, TooWide}
 use Rattle.mass_fold.specs.Amounts.{Entries, held}
-use Rattle.mass_fold.specs.Steps.{EachState, IsParts, PartsBlame}
-use Rattle.mass_fold.specs.Metering.{Counted, AddsBits, IsPriced, IsPrice, PriceBlames, CountsAll, CountsRest}
+use Rattle.mass_fold.specs.inner.Steps.{EachState, IsParts, PartsBlame}
+use Rattle.mass_fold.specs.Metering.{IsPriced}
+use Rattle.mass_fold.specs.inner.Metering.{Counted, AddsBits, IsPrice, PriceBlames, CountsAll, CountsRest}
 use Rattle.mass_fold.proofs.Insertion.{whole_pos}
 use Rattle.mass_fold.proofs.Powers.{equal_whole}
 

@@ -11,7 +11,7 @@ use Rattle.gcl_core.specs.weighing.Fractions.{Fraction}
 use Rattle.gcl_core.specs.meaning.Order.{is_before}
 use Rattle.mass_fold.specs.Amounts.{SumAt}
 use Rattle.mass_fold.specs.Rows.{Rows}
-use Rattle.mass_fold.specs.Outcomes.{AddGives}
+use Rattle.mass_fold.specs.inner.Outcomes.{AddGives}
 use Rattle.mass_fold.proofs.Insertion.{put_gives}
 
 -- what the order of outcomes tells

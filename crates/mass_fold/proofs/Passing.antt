@@ -5,7 +5,7 @@ use Rattle.gcl_core.specs.weighing.Fractions.{Fraction}
 use Rattle.mass_tables.specs.Scale.{whole, Whole}
 use Rattle.mass_fold.specs.declared.error.MassError.{MassError}
 use Rattle.mass_fold.specs.Amounts.{held, AreHeld, Blames}
-use Rattle.mass_fold.specs.Outcomes.{AddGives, AddBlames}
+use Rattle.mass_fold.specs.inner.Outcomes.{AddGives, AddBlames}
 use Rattle.mass_fold.specs.Rounds.{ArePartsOfOne, TableParts}
 use Rattle.mass_fold.specs.Rows.{Rows}
 

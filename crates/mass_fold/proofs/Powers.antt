@@ -14,7 +14,7 @@ use Rattle.frac128.proofs.Divisors.{coprime_parts, coprime_product, coprime_prod
 use Rattle.mass_tables.specs.Scale.{whole, Whole}
 use Rattle.mass_tables.proofs.Wholes.{whole_from, lowest_divides, product_refused}
 use Rattle.mass_tables.proofs.Draws.{each_part, no_part, all_parts, parts_add_up}
-use Rattle.mass_fold.specs.Steps.{IsPower, PowerBlames, IsParts, PartsBlame}
+use Rattle.mass_fold.specs.inner.Steps.{IsPower, PowerBlames, IsParts, PartsBlame}
 
 -- two fractions of one value
 pub equal_whole : (N : ℕ) (f g : Fraction) → 0 < f.1 → IsEqual f g → Whole N g → (whole N f ≡ whole N g) × Whole N f

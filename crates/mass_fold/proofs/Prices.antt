@@ -11,7 +11,8 @@ use Rattle.mass_tables.specs.Scale.{whole, Whole}
 use Rattle.mass_fold.specs.declared.meter.Meter.{Meter}
 use Rattle.mass_fold.specs.declared.meter.Meter.TheVariants.{Bits, TooWide}
 use Rattle.mass_fold.specs.Amounts.{Entries}
-use Rattle.mass_fold.specs.Metering.{AddsBits, IsPriced, IsPrice, PriceBlames, price, bound_price, IsValuePriced, IsBoundPriced, CountsAll, CountsDraws}
+use Rattle.mass_fold.specs.Metering.{IsPriced, price}
+use Rattle.mass_fold.specs.inner.Metering.{AddsBits, IsPrice, PriceBlames, bound_price, IsValuePriced, IsBoundPriced, CountsAll, CountsDraws}
 use Rattle.mass_fold.proofs.Meters.{counted_as, counts_as, wide_here}
 
 -- ---- a draw with the same ends for each entry

@@ -9,7 +9,7 @@ use Rattle.mass_tables.specs.Scale.{whole}
 use Rattle.mass_fold.specs.declared.error.MassError.{MassError}
 use Rattle.mass_fold.specs.Amounts.{Entries, held, AreHeld}
 use Rattle.mass_fold.specs.Rows.{Rows}
-use Rattle.mass_fold.specs.Outcomes.{AddGives, AddBlames, by_result, ResultsGive, ResultsBlame}
+use Rattle.mass_fold.specs.inner.Outcomes.{AddGives, AddBlames, by_result, ResultsGive, ResultsBlame}
 
 -- what stands once the rest of the states is left
 pub record Left (N : ℕ) (result : Expression) (table : Entries) (es fs : Rows) (rest : Entries) : Type 0 where

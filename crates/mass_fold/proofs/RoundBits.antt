@@ -8,9 +8,10 @@ use Rattle.frac128.specs.Fraction.{InLowest, IsEqual, lowest}
 use Rattle.mass_tables.specs.Width.{round_width}
 use Rattle.mass_fold.specs.declared.meter.Meter.{Meter}
 use Rattle.mass_fold.specs.declared.meter.Meter.TheVariants.{Off, Bits, TooWide}
-use Rattle.mass_fold.specs.Body.{BodyMeters, RoundBits}
-use Rattle.mass_fold.specs.Ended.{IsNoWeight}
-use Rattle.mass_fold.specs.Metering.{bits_of}
+use Rattle.mass_fold.specs.Body.{RoundBits}
+use Rattle.mass_fold.specs.inner.Body.{BodyMeters}
+use Rattle.mass_fold.specs.inner.Ended.{IsNoWeight}
+use Rattle.mass_fold.specs.inner.Metering.{bits_of}
 use Rattle.mass_fold.proofs.Beginning.{no_weight}
 use Rattle.mass_fold.proofs.OutcomeRows.{lowest_is}
 use Rattle.mass_fold.proofs.RoundMasses.{round_positive}

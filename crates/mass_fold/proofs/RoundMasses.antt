@@ -19,10 +19,10 @@ use Rattle.mass_fold.specs.declared.ended.Ended.{Ended}
 use Rattle.mass_fold.specs.declared.error.MassError.{MassError}
 use Rattle.mass_fold.specs.declared.error.MassError.TheVariants.{TooWide, TooManyStates, AllFailed, OutOfMemory}
 use Rattle.mass_fold.specs.Amounts.{Entries, held, AreHeld, Blames}
-use Rattle.mass_fold.specs.Body.{BodyGives}
-use Rattle.mass_fold.specs.Ended.{rows_of}
+use Rattle.mass_fold.specs.inner.Body.{BodyGives}
+use Rattle.mass_fold.specs.inner.Ended.{rows_of}
 use Rattle.mass_fold.specs.Masses.{counted, RoundGives}
-use Rattle.mass_fold.specs.Outcomes.{by_result, ResultsGive, ResultsBlame, EndedGive, EndedBlame}
+use Rattle.mass_fold.specs.inner.Outcomes.{by_result, ResultsGive, ResultsBlame, EndedGive, EndedBlame}
 use Rattle.mass_fold.specs.Refused.{RoundRefused}
 use Rattle.mass_fold.specs.Rows.{Rows}
 

@@ -24,9 +24,9 @@ use Rattle.mass_fold.specs.declared.error.MassError.TheVariants.{TooWide}
 use Rattle.mass_fold.specs.declared.ended.Gone.TheVariants as gone_kind
 use Rattle.mass_fold.specs.declared.ended.Ended.{Ended}
 use Rattle.mass_fold.specs.Amounts.{Entries, order}
-use Rattle.mass_fold.specs.Ended.{end_of, rows_of}
-use Rattle.mass_fold.specs.Steps.{StepsTo, StepBlames, EachState, BothWhole, DrawsTo, DrawBlames, IsParts, PartsBlame}
-use Rattle.mass_fold.specs.Fold.{Stands, FoldsTo, FoldBlames, Around, FoldsOne, OneBlames, UndecidedTo, UndecidedBlames, WeighedBy, WeighBlamesBy, SidesWithin, SidesTo, SidesBlame}
+use Rattle.mass_fold.specs.inner.Ended.{end_of, rows_of}
+use Rattle.mass_fold.specs.inner.Steps.{StepsTo, StepBlames, EachState, BothWhole, DrawsTo, DrawBlames, IsParts, PartsBlame}
+use Rattle.mass_fold.specs.inner.Fold.{Stands, FoldsTo, FoldBlames, Around, FoldsOne, OneBlames, UndecidedTo, UndecidedBlames, WeighedBy, WeighBlamesBy, SidesWithin, SidesTo, SidesBlame}
 use Rattle.mass_fold.proofs.Insertion.{whole_pos, product_below}
 use Rattle.mass_fold.proofs.Powers.{equal_whole, whole_at_most, product_equal}
 use Rattle.mass_fold.proofs.Shares.{scaled_stands}

@@ -1,36 +1,12 @@
--- What the fold of a program's body gives.
-use Rattle.std.specs.Prelude.{◌≡◌, ℕ, ◌+◌, ◌*◌, ◌<◌, ◌≤◌, Bool, cond, length, Option, Some, None}
+-- What the bits of the draws of one round are, and what a mass is.
+use Rattle.std.specs.Prelude.{◌≡◌, ℕ, ◌*◌, ◌<◌, ◌≤◌, Option, Some, None}
 use Rattle.gcl_core.specs.meaning.Syntax.{SourceProgram}
-use Rattle.gcl_core.specs.meaning.Blocks.{End, on}
-use Rattle.gcl_core.specs.meaning.Outcomes.{zeros}
-use Rattle.gcl_core.specs.weighing.WeightedEnds.{weighted_ends}
-use Rattle.gcl_core.specs.weighing.Mass.{sum_of, failed_mass}
-use Rattle.frac128.specs.Fraction.{IsEqual, Overfills}
+use Rattle.frac128.specs.Fraction.{Overfills}
 use Rattle.gcl_core.specs.weighing.Fractions.{Fraction}
 use Rattle.mass_tables.specs.Scale.{whole, Whole, amount}
 use Rattle.mass_tables.specs.Reached.{draws_of}
-use Rattle.mass_tables.specs.Tables.{tables_of}
 use Rattle.mass_tables.specs.Width.{round_width}
-use Rattle.mass_fold.specs.declared.ended.Ended.{Ended}
-use Rattle.mass_fold.specs.declared.meter.Meter.{Meter}
-use Rattle.mass_fold.specs.Amounts.{Entries, held}
-use Rattle.mass_fold.specs.Ended.{rows_of}
-use Rattle.mass_fold.specs.Fold.{Stands, EndStands}
-use Rattle.mass_fold.specs.Metering.{Counted, Priced, price}
-
--- At the common denominator of a round, the table and what ended stand for those of the definition. Whatever ends of the body are
--- meant, in a state or otherwise, they hold together as much as the weighted ends of the body give them.
-pub record BodyGives (p : SourceProgram) (n : ℕ) (r : Option ℕ) (es : Entries) (E : Ended) : Type 0 where
-  pub stands : Stands (round_width p n r) es (tables_of p n r).next
-  pub masses : (is : End → Bool) → (sum_of is (weighted_ends n r p.body (zeros (length p.names)))).1 * (held (round_width p n r) (λ s. cond (is (on s)) 1 0) es + amount (round_width p n r) (λ x. cond (is x) 1 0) (rows_of E))
-      ≡ (sum_of is (weighted_ends n r p.body (zeros (length p.names)))).0 * round_width p n r
-  pub failed : IsEqual E.failed (failed_mass p n r)
-  pub ends : EndStands (round_width p n r) E (tables_of p n r).ended
-  pub total : held (round_width p n r) (λ s. 1) es + amount (round_width p n r) (λ x. 1) (rows_of E) ≡ round_width p n r
-
--- At the common denominator times a scale at which the parts of each draw that is reached are whole, the meter counts their bits.
-abbrev pub BodyMeters : SourceProgram → ℕ → Option ℕ → Meter → Meter → Type 0
-BodyMeters p n r m m' = (M : ℕ) → 0 < M → Priced r M (draws_of p n r) → Counted (round_width p n r * M) (amount (round_width p n r) (price r M) (draws_of p n r)) m m'
+use Rattle.mass_fold.specs.Metering.{Priced, price}
 
 -- so many of X parts of a bit; none, where 128 bits are too few for X times any bound of them
 abbrev pub BitsAt : ℕ → ℕ → Option Fraction → Type 0

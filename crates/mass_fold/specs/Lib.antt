@@ -1,12 +1,9 @@
 pub mod Amounts
-pub mod Ended
-pub mod Steps
-pub mod Fold
 pub mod Body
 pub mod Rows
-pub mod Outcomes
 pub mod Rounds
 pub mod Masses
 pub mod Refused
 pub mod Weighed
 pub mod Metering
+pub mod inner

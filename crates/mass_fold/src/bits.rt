@@ -7,7 +7,7 @@ ghost use Rattle.gcl_core.specs.meaning.Views.{source_of};
 ghost use Rattle.gcl_core.specs.declared.rules.TheConstants.{MOST_LIMIT};
 ghost use Rattle.mass_tables.specs.Width.{round_width};
 ghost use Rattle.mass_fold.specs.Body.{RoundBits, IsMass};
-ghost use Rattle.mass_fold.specs.Metering.{bits_of};
+ghost use Rattle.mass_fold.specs.inner.Metering.{bits_of};
 ghost use Rattle.mass_fold.specs.Refused.{IsLimit, RoundRefused};
 
 use crate::body::fold_body;

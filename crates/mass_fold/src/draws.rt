@@ -10,8 +10,8 @@ ghost use Rattle.gcl_core.specs.meaning.Views.{expression_of};
 ghost use Rattle.gcl_core.specs.meaning.Value.{value_of, ExpressionBelow};
 ghost use Rattle.mass_tables.specs.Counts.{part_at, rest_at, drawn, undrawn, all_kept, none_kept, all_stopped, none_stopped};
 ghost use Rattle.mass_fold.specs.declared.ended.Ended.{Ended};
-ghost use Rattle.mass_fold.specs.Ended.{end_of};
-ghost use Rattle.mass_fold.specs.Steps.{DrawsTo, DrawBlames, IsParts, PartsBlame, IsPower, PowerBlames, SpreadGives, SpreadBlames, AddedBy, StoppedBy, BlamedBy, UniformTo, UniformBlames, EntryBlames, at_numbers};
+ghost use Rattle.mass_fold.specs.inner.Ended.{end_of};
+ghost use Rattle.mass_fold.specs.inner.Steps.{DrawsTo, DrawBlames, IsParts, PartsBlame, IsPower, PowerBlames, SpreadGives, SpreadBlames, AddedBy, StoppedBy, BlamedBy, UniformTo, UniformBlames, EntryBlames, at_numbers};
 
 use crate::ended::{Ended, Gone};
 use crate::error::MassError;

@@ -11,8 +11,8 @@ ghost use Rattle.gcl_core.specs.meaning.Value.{ExpressionBelow};
 ghost use Rattle.gcl_core.specs.weighing.WeightedEnds.{class_weight};
 ghost use Rattle.mass_tables.specs.Tables.{statement_flow, block_flow};
 ghost use Rattle.mass_tables.specs.Reached.{statement_draws, block_draws};
-ghost use Rattle.mass_fold.specs.Fold.{FoldsTo, FoldBlames, FoldsOne, OneBlames, turns_flow, ArmsFold, ArmsBlame};
-ghost use Rattle.mass_fold.specs.Metering.{Meters, MetersOne, turns_draws, ArmsMeter};
+ghost use Rattle.mass_fold.specs.inner.Fold.{FoldsTo, FoldBlames, FoldsOne, OneBlames, turns_flow, ArmsFold, ArmsBlame};
+ghost use Rattle.mass_fold.specs.inner.Metering.{Meters, MetersOne, turns_draws, ArmsMeter};
 
 use crate::choosing::{sides, total, undecided, weighed};
 use crate::draws::draw;

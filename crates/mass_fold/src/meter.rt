@@ -10,7 +10,7 @@ ghost use Rattle.gcl_core.specs.meaning.Parts.{AreParts, partial_sums};
 ghost use Rattle.gcl_core.specs.meaning.Value.{value_of, ExpressionBelow};
 ghost use Rattle.gcl_core.specs.meaning.Views.{expression_of, list_of_arms};
 ghost use Rattle.mass_tables.specs.Scale.{whole, Whole};
-ghost use Rattle.mass_fold.specs.Metering.{CountedOn, AddsBits, IsPrice, PriceBlames, bound_price, IsBoundPriced, CountsAll, CountsDraws};
+ghost use Rattle.mass_fold.specs.inner.Metering.{CountedOn, AddsBits, IsPrice, PriceBlames, bound_price, IsBoundPriced, CountsAll, CountsDraws};
 
 use crate::choosing::total;
 use crate::draws::parts;

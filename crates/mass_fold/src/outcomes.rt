@@ -5,7 +5,7 @@ ghost use Rattle.gcl_core.specs.meaning.Outcomes.{outcome_of};
 ghost use Rattle.gcl_core.specs.meaning.Value.{value_of, ExpressionBelow};
 ghost use Rattle.gcl_core.specs.meaning.Views.{expression_of};
 ghost use Rattle.mass_fold.specs.Amounts.{SumAt};
-ghost use Rattle.mass_fold.specs.Outcomes.{AddGives, AddBlames, ResultsGive, ResultsBlame, EndedGive, EndedBlame};
+ghost use Rattle.mass_fold.specs.inner.Outcomes.{AddGives, AddBlames, ResultsGive, ResultsBlame, EndedGive, EndedBlame};
 
 use crate::ended::Ended;
 use crate::error::MassError;

@@ -2,7 +2,7 @@
 
 ghost use Rattle.std.specs.Prelude.{◌≡◌, ◌≤◌, ◌<◌, IfOk, IfErr, IfSome, IfNone};
 ghost use Rattle.mass_fold.specs.Rounds.{IsRepeated, RepeatBlames, InRounds, RoundsBlame, OverRest, OverRestBlames};
-ghost use Rattle.mass_fold.specs.Steps.{IsPower, PowerBlames};
+ghost use Rattle.mass_fold.specs.inner.Steps.{IsPower, PowerBlames};
 
 use crate::draws::power;
 use crate::error::MassError;

@@ -1,6 +1,6 @@
 use Rattle.std.proofs.Common.{◌≡◌, Err, arith}
 use Rattle.mass_fold.specs.declared.error.MassError.TheVariants.{TooWide}
-use Rattle.mass_fold.specs.Steps.{IsParts}
+use Rattle.mass_fold.specs.inner.Steps.{IsParts}
 use Rattle.mass_fold.proofs.Bounds.{class_above}
 use Rattle.mass_fold.proofs.Fits.{is_wide, some_fits, nothing_fits}
 use Rattle.mass_fold.proofs.Sides.{part_above_zero, parts_refuse, undecided_refused, undecided_to}

@@ -5,7 +5,7 @@ use Rattle.gcl_core.specs.declared.answers.Limit.TheVariants.{Attempts}
 use Rattle.gcl_core.specs.weighing.WeightedEnds.{class_weight, no_class_weight}
 use Rattle.mass_fold.specs.declared.ended.Gone.TheVariants as gone_kind
 use Rattle.mass_fold.specs.declared.error.MassError.TheVariants.{TooWide}
-use Rattle.mass_fold.specs.Steps.{IsParts, at_numbers}
+use Rattle.mass_fold.specs.inner.Steps.{IsParts, at_numbers}
 use Rattle.mass_fold.proofs.Bounds.{class_above}
 use Rattle.mass_fold.proofs.Drawings.{added_spread, blamed_spread, blamed_part, blamed_rest, blamed_parts, blamed_end, stopped_end}
 use Rattle.mass_fold.proofs.Fits.{fits, none_fits, is_wide, some_fits, nothing_fits}

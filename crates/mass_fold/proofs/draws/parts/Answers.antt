@@ -1,6 +1,6 @@
 use Rattle.std.proofs.Common.{◌≡◌, ◌≤◌, ℕ, Option, Some, IfSome, refl, sym, subst, ◌∙◌, arith, None}
 use Rattle.gcl_core.proofs.Classes.{bits_enough}
-use Rattle.mass_fold.specs.Steps.{IsParts, PartsBlame}
+use Rattle.mass_fold.specs.inner.Steps.{IsParts, PartsBlame}
 use Rattle.mass_fold.proofs.Powers.{parts_unlimited, parts_certain, parts_refused, parts_limited, part_refused, as_again, as_over, as_given, as_power}
 use Rattle.mass_fold.proofs.draws.parts.Goals as goal
 

@@ -1,7 +1,7 @@
 use Rattle.std.proofs.Common.{◌≡◌, ◌∙◌, pos, to_z, w64, length, refl, sym, ap, subst, arith, Err}
 use Rattle.std.proofs.lemmas.Int.{ints}
 use Rattle.std.proofs.lemmas.List.{length-set}
-use Rattle.mass_fold.specs.Steps.{SpreadGives}
+use Rattle.mass_fold.specs.inner.Steps.{SpreadGives}
 use Rattle.mass_fold.proofs.Drawings.{spread_none, spread_next, spread_blames, set_as}
 use Rattle.mass_fold.proofs.draws.spread.Goals as goal
 

@@ -10,7 +10,7 @@ use Rattle.frac128.specs.Fraction.{IsEqual}
 use Rattle.gcl_core.specs.meaning.Value.{value_of, ExpressionBelow}
 use Rattle.mass_tables.specs.Tables.{block_flow, loop_flow}
 use Rattle.gcl_core.proofs.ViewLemmas.{skip_view, set_view, observe_view, if_view, while_view, choice_view, choose_view, uniform_view}
-use Rattle.mass_fold.specs.Fold.{FoldBlames, UndecidedTo, UndecidedBlames}
+use Rattle.mass_fold.specs.inner.Fold.{FoldBlames, UndecidedTo, UndecidedBlames}
 use Rattle.mass_fold.proofs.Fitting.{below_as, weights_as, folds_as, blames_as, list_step, below_next, weights_next, along_list, below_list, empty_of, some_states}
 use Rattle.mass_fold.proofs.ArmsLeft.{arms_done, sum_next, arms_next}
 use Rattle.mass_fold.proofs.ArmFolds.{undecided_blames, arms_start, arms_as, weighed_blames, block_blames, arm_blames, arm_turn, arms_end}

@@ -1,6 +1,6 @@
 use Rattle.std.proofs.Common.{◌≡◌, Err, subst, arith}
 use Rattle.gcl_core.specs.meaning.Views.{source_of}
-use Rattle.mass_fold.specs.Outcomes.{ResultsGive}
+use Rattle.mass_fold.specs.inner.Outcomes.{ResultsGive}
 use Rattle.mass_fold.proofs.RoundMasses.{wider, results_refused, ended_refused, round_gives}
 use Rattle.mass_fold.proofs.masses.one_round.Goals as goal
 

@@ -1,5 +1,5 @@
 use Rattle.mass_tables.specs.Scale.{whole, Whole}
-use Rattle.mass_fold.specs.Metering.{CountsRest}
+use Rattle.mass_fold.specs.inner.Metering.{CountsRest}
 use Rattle.mass_fold.proofs.meter.add_each.Given as goal
 
 abbrev pub invariant-loop-f : goal.invariant-loop-f

@@ -3,7 +3,7 @@ use Rattle.gcl_core.specs.meaning.Arms.{parts_of}
 use Rattle.gcl_core.specs.meaning.Parts.{partial_sums}
 use Rattle.gcl_core.specs.meaning.Views.{list_of_arms}
 use Rattle.gcl_core.proofs.PartialSums.{last_is}
-use Rattle.mass_fold.specs.Metering.{PriceBlames, IsPrice}
+use Rattle.mass_fold.specs.inner.Metering.{PriceBlames, IsPrice}
 use Rattle.mass_fold.proofs.Prices.{draw_wide, draw_adds}
 use Rattle.mass_fold.proofs.meter.count_arms.Goals as goal
 use Rattle.std.proofs.Common.{subst}

@@ -2,7 +2,7 @@ use Rattle.std.proofs.Common.{◌≡◌, length}
 use Rattle.std.specs.Map.Iter.{deref_pair}
 use Rattle.gcl_core.specs.meaning.Views.{expression_of}
 use Rattle.gcl_core.specs.meaning.Value.{value_of}
-use Rattle.mass_fold.specs.Metering.{IsBoundPriced, bound_price}
+use Rattle.mass_fold.specs.inner.Metering.{IsBoundPriced, bound_price}
 use Rattle.mass_fold.proofs.Moves.{reads_at}
 use Rattle.mass_fold.proofs.Meters.{rest_turn, rest_end}
 use Rattle.mass_fold.proofs.Sizes.{sized_at}

@@ -1,6 +1,6 @@
 use Rattle.gcl_core.specs.meaning.Views.{expression_of}
 use Rattle.gcl_core.specs.meaning.Value.{value_of}
-use Rattle.mass_fold.specs.Metering.{IsBoundPriced, bound_price, CountsRest}
+use Rattle.mass_fold.specs.inner.Metering.{IsBoundPriced, bound_price, CountsRest}
 use Rattle.mass_fold.proofs.meter.count_uniform.Given as goal
 
 abbrev pub invariant-loop-s : goal.invariant-loop-s

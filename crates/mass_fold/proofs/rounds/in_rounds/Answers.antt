@@ -5,7 +5,7 @@ use Rattle.mass_fold.proofs.Passing.{passing_end, passing_next, passing_blames, 
 use Rattle.mass_fold.proofs.Repeats.{parts_blame, parts_turn}
 use Rattle.mass_fold.proofs.Fits.{is_wide, some_fits, nothing_fits}
 use Rattle.mass_fold.specs.declared.error.MassError.TheVariants.{TooWide}
-use Rattle.mass_fold.specs.Steps.{IsPower}
+use Rattle.mass_fold.specs.inner.Steps.{IsPower}
 use Rattle.mass_fold.proofs.rounds.in_rounds.Goals as goal
 
 pub loop-x-preserved : goal.loop-x-preserved

@@ -1,6 +1,6 @@
 use Rattle.std.proofs.Common.{◌≡◌}
 use Rattle.mass_fold.specs.declared.ended.Ended.{Ended}
-use Rattle.mass_fold.specs.Steps.{StepsOn}
+use Rattle.mass_fold.specs.inner.Steps.{StepsOn}
 use Rattle.mass_tables.specs.Counts.{all_kept, none_stopped}
 use Rattle.mass_fold.proofs.steps.merge.Given as goal
 

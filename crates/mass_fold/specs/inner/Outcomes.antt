@@ -11,7 +11,7 @@ use Rattle.mass_tables.specs.Scale.{whole, Whole, Wholes, amount}
 use Rattle.mass_fold.specs.declared.error.MassError.{MassError}
 use Rattle.mass_fold.specs.declared.ended.Ended.{Ended}
 use Rattle.mass_fold.specs.Amounts.{Entries, held, AreHeld, Blames}
-use Rattle.mass_fold.specs.Ended.{rows_of}
+use Rattle.mass_fold.specs.inner.Ended.{rows_of}
 use Rattle.mass_fold.specs.Rows.{Rows}
 
 -- after the weight f of x was added, which may be 0

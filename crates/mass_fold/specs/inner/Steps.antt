@@ -11,7 +11,7 @@ use Rattle.mass_tables.specs.Counts.{sum_below, part_at, rest_at, drawn, undrawn
 use Rattle.mass_fold.specs.declared.error.MassError.{MassError}
 use Rattle.mass_fold.specs.declared.ended.Ended.{Ended}
 use Rattle.mass_fold.specs.Amounts.{Entries, held, AreHeld, Blames}
-use Rattle.mass_fold.specs.Ended.{rows_of}
+use Rattle.mass_fold.specs.inner.Ended.{rows_of}
 
 -- what each entry of es adds to the table bs, by go, and to what has ended, by stop
 pub record Done (N : ℕ) (go : (State → ℕ) → State → ℕ) (stop : (End → ℕ) → State → ℕ) (bs es : Entries) (E : Ended) (fs : Entries) (F : Ended) : Type 0 where

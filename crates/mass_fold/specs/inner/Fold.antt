@@ -14,7 +14,7 @@ use Rattle.mass_tables.specs.Scale.{Whole, Wholes, Within, amount, weight}
 use Rattle.mass_fold.specs.declared.error.MassError.{MassError}
 use Rattle.mass_fold.specs.declared.ended.Ended.{Ended}
 use Rattle.mass_fold.specs.Amounts.{Entries, held, AreHeld, Blames}
-use Rattle.mass_fold.specs.Ended.{rows_of}
+use Rattle.mass_fold.specs.inner.Ended.{rows_of}
 
 -- a table with each state once stands for a list of states, at a scale: whatever counts a state, both count the same
 pub record Stands (N : ℕ) (es : Entries) (I : Table) : Type 0 where
