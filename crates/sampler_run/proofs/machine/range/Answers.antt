@@ -14,7 +14,7 @@ returns-in-Ok-clause-led c =
     ap (λ d. ranges l c.args.x (expression_in c.args.e.now) m d) (ap drawing_of c.in-Idle.is)
     ∙ c.in-Ok.ensures.bound (λ b. goes (first_attempt l m b))
     ∙ ap (λ (m : Machine). goes (record m { tries = l.attempts; drawing = below b (bits_for b) 0 })) (sym c.bound_for.ensures.same)
-    ∙ ap (λ (d : Drawing). goes (record n { tries = l.attempts; drawing = d })) (sym c.first_attempt-m.ensures)
+    ∙ ap (λ (d : Drawing). goes (record n { tries = l.attempts; drawing = d })) (sym c.new_attempt-m.ensures)
 
 pub returns-in-Err-clause-led : goal.returns-in-Err-clause-led
 returns-in-Err-clause-led c =
