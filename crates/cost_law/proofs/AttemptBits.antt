@@ -3,26 +3,13 @@ use Rattle.std.proofs.Common.{◌≡◌, ℕ, zero, suc, ◌+◌, ◌*◌, ◌^�
 use Rattle.std.specs.Prelude.{◌==◌}
 use Rattle.std.specs.Option.{option_eq}
 use Rattle.gcl_core.specs.meaning.Draw.{class_of, have_one_class, bit, first_of, decides}
-use Rattle.gcl_core.proofs.AttemptTrees.{attempt_tree, decided_same}
+use Rattle.gcl_core.proofs.AttemptTrees.{attempt_tree, decided_same, length-push, free_of, first-push}
 use Rattle.gcl_core.proofs.Classes.{all_below-each, option_same}
 use Rattle.gcl_core.proofs.Strings.{spelled_from-push}
 use Rattle.gcl_core.proofs.Sums.{two_more}
 use Rattle.gcl_core.proofs.Trees.{Tree, leaf, flip}
 use Rattle.cost_law.specs.ExpectedBits.{undecided_from}
 use Rattle.cost_law.proofs.AskedBits.{asks}
-
--- ---- strings with one bit more
-pub length-push : (u : List Bool) (b : Bool) (n k : ℕ) → length u + suc n ≡ k → length (u ++ b ∷ []) + n ≡ k
-length-push u b n k e = omega (arith, length-append u (b ∷ []))
-
-pub free_of : (u : List Bool) (n k : ℕ) → length u + n ≡ k → k - length u ≡ n
-free_of u n k e = omega arith
-
-pub first-push : (k n : ℕ) (u : List Bool) (b : Bool) → length u + suc n ≡ k → first_of k (u ++ b ∷ []) ≡ first_of k u + bit b * 2 ^ n
-first-push k n u b e =
-    let p = free_of (u ++ b ∷ []) n k (length-push u b n k e) in
-    let q = free_of u (suc n) k e in
-    rw (p, q, spelled_from-push 0 u b, two_more n) (omega arith)
 
 bit_fits : (b : Bool) (P j : ℕ) → j < P → bit b * P + j < P + P
 bit_fits true P j lt = omega arith

@@ -4,7 +4,7 @@ use Rattle.std.proofs.lemmas.Nat.{pow_pos}
 use Rattle.gcl_core.specs.meaning.Draw.{have_one_class, first_of, last_end, bits_for}
 use Rattle.gcl_core.proofs.Sums.{two_more}
 use Rattle.cost_law.specs.ExpectedBits.{undecided_from, number_bits, attempt_bits}
-use Rattle.cost_law.proofs.AttemptBits.{length-push, free_of, first-push}
+use Rattle.gcl_core.proofs.AttemptTrees.{length-push, free_of, first-push}
 use Rattle.draw_tree.proofs.Halves.{first_half, second_half}
 use Rattle.draw_cost.specs.inner.Undecided.{undecided_at}
 

@@ -13,9 +13,6 @@ pub record Gathered (g : ℕ) (left all : List ℕ) : Type 0 where
   pub down : (d : ℕ) → d ∣ g → DividesEach d left → DividesEach d all
   pub up : (d : ℕ) → DividesEach d all → (d ∣ g) × DividesEach d left
 
-pub none_gathered : (ps : List ℕ) → Gathered 0 ps ps
-none_gathered ps = record { down = λ d h each. each; up = λ d each. (dvd-zero d, each) }
-
 pub one_gathered : (g h p : ℕ) (left all : List ℕ) → IsGcd g p h → Gathered g (p ∷ left) all → Gathered h left all
 one_gathered g h p left all gcd b = record {
   down = λ d divides each. b.down d (dvd_trans d divides gcd.0) (dvd_trans d divides gcd.1, each);

@@ -1,5 +1,5 @@
 -- Numbers of 64 bits stay numbers of 64 bits: in states, and in the values of expressions.
-use Rattle.std.proofs.Common.{◌≡◌, ◌↔◌, ℕ, zero, suc, ◌^◌, ◌≤◌, ◌<◌, ℤ, pos, negsuc, ◌+ℤ◌, ◌-ℤ◌, ◌*ℤ◌, neg_ℤ, Bool, true, false, ◌&&◌, ◌||◌, Ok, Err, [], ◌∷◌, refl, sym, subst, arith, true≢false}
+use Rattle.std.proofs.Common.{◌≡◌, ◌↔◌, ℕ, zero, suc, ◌^◌, ◌≤◌, ◌<◌, ℤ, pos, negsuc, ◌+ℤ◌, ◌-ℤ◌, ◌*ℤ◌, neg_ℤ, Bool, true, false, ◌&&◌, ◌||◌, Ok, Err, [], ◌∷◌, refl, subst, arith, true≢false}
 use Rattle.std.specs.Prelude.{if◌then◌else◌, FitsSigned, slice_index_or, slice_set, not, int_rem, int_div, int_lt, int_le, unsigned_abs}
 use Rattle.std.specs.Int.{w64}
 use Rattle.std.specs.Ordering.{int_eq}
@@ -14,6 +14,7 @@ use Rattle.gcl_core.specs.meaning.Fitting.{state_fits}
 use Rattle.gcl_core.specs.meaning.Outcomes.{zeros}
 use Rattle.gcl_core.specs.meaning.Syntax.{Expression, Num, Truth, Var, Neg, Not, Bin}
 use Rattle.gcl_core.specs.meaning.Value.{State, Value, value_of, ◌>>=◌, fits_64, within_64, truth_number, is_zero, as_truth, quotient_of, applied}
+use Rattle.gcl_core.proofs.Booleans.{both}
 
 -- ---- numbers
 
@@ -34,11 +35,6 @@ number_fits i b lt h = lt-ltb i (2 ^ 63) (omega arith)
 
 -- ---- states
 
-both_true : (a b : Bool) → (a && b) ≡ true → (a ≡ true) × (b ≡ true)
-both_true true true e = (refl, refl)
-both_true true false e = absurd (true≢false (sym e))
-both_true false b e = absurd (true≢false (sym e))
-
 true_both : (a b : Bool) → a ≡ true → b ≡ true → (a && b) ≡ true
 true_both a b p q = rw (p, q) refl
 
@@ -55,14 +51,14 @@ end_fits (limit l) = true
 
 variable_fits : (s : State) (x : ℕ) → state_fits s ≡ true → fits_64 (slice_index_or s x (pos 0)) ≡ true
 variable_fits [] x h = refl
-variable_fits (z ∷ s) zero h = (both_true (fits_64 z) (state_fits s) h).0
-variable_fits (z ∷ s) (suc x) h = variable_fits s x (both_true (fits_64 z) (state_fits s) h).1
+variable_fits (z ∷ s) zero h = (both (fits_64 z) (state_fits s) h).0
+variable_fits (z ∷ s) (suc x) h = variable_fits s x (both (fits_64 z) (state_fits s) h).1
 
 pub set_fits : (s : State) (x : ℕ) (v : ℤ) → state_fits s ≡ true → fits_64 v ≡ true → state_fits (slice_set s x v) ≡ true
 set_fits [] x v h k = refl
-set_fits (z ∷ s) zero v h k = true_both (fits_64 v) (state_fits s) k (both_true (fits_64 z) (state_fits s) h).1
+set_fits (z ∷ s) zero v h k = true_both (fits_64 v) (state_fits s) k (both (fits_64 z) (state_fits s) h).1
 set_fits (z ∷ s) (suc x) v h k =
-    let p = both_true (fits_64 z) (state_fits s) h in
+    let p = both (fits_64 z) (state_fits s) h in
     true_both (fits_64 z) (state_fits (slice_set s x v)) p.0 (set_fits s x v p.1 k)
 
 -- ---- values

@@ -1,6 +1,6 @@
 -- The parts of a choice among several in lowest terms: their greatest common divisor is taken out of each and of their sum, and no
 -- number above 1 divides all that is left.
-use Rattle.std.proofs.Common.{◌≡◌, ◌∙◌, ⊎_elim, ℕ, zero, suc, ◌+◌, ◌*◌, ◌/◌, ◌%◌, ◌≤◌, ◌<◌, Bool, true, false, ◌&&◌, ◌==◌, List, [], ◌∷◌, length, map, refl, sym, ap, subst, arith}
+use Rattle.std.proofs.Common.{◌≡◌, ◌∙◌, ⊎_elim, ℕ, zero, suc, ◌+◌, ◌*◌, ◌/◌, ◌%◌, ◌≤◌, ◌<◌, true, ◌==◌, List, [], ◌∷◌, length, map, refl, sym, ap, subst, arith}
 use Prim.Native.Nat.{◌∣◌}
 use Rattle.std.specs.List.{All, sum, list_all}
 use Rattle.std.proofs.lemmas.Bool.{cases_lt}
@@ -11,6 +11,7 @@ use Rattle.std.proofs.lemmas.Nat.Gcd.{dvd_of_mod-eq-zero, mod-eq-zero_of_dvd, le
 use Rattle.std.proofs.Math.Nat.{one-dvd, dvd-add, mul_comm, mul-div_cancel', mul-dvd-mul_left, mul-le-mul_left, le_of_mul-le-mul_left, div-one}
 use Rattle.gcl_core.specs.meaning.Lowest.{greatest_of, common_divisor, lowest_parts}
 use Rattle.gcl_core.specs.meaning.Parts.{HaveArmCount}
+use Rattle.gcl_core.proofs.Booleans.{both}
 use Rattle.gcl_core.proofs.Divisors.{by_test}
 
 -- ---- a number that divides each part
@@ -22,11 +23,6 @@ pub from_all : (d : ℕ) (ps : List ℕ) → All (λ p. d ∣ p) ps → DividesE
 from_all d [] all = tt
 from_all d (p ∷ ps) all = (all 0 p (omega arith), from_all d ps (λ k q lt. all (suc k) q (omega (arith, lt))))
 
-both_true : (a b : Bool) → (a && b) ≡ true → (a ≡ true) × (b ≡ true)
-both_true true true e = (refl, refl)
-both_true true false e = absurd (cc)
-both_true false b e = absurd (cc)
-
 passes_each : (n : ℕ) (ps : List ℕ) → DividesEach (suc n) ps → list_all (λ p. p % suc n == 0) ps ≡ true
 passes_each n [] each = refl
 passes_each n (p ∷ ps) each =
@@ -37,10 +33,10 @@ passes_each n (p ∷ ps) each =
 each_passed : (n : ℕ) (ps : List ℕ) → list_all (λ p. p % suc n == 0) ps ≡ true → DividesEach (suc n) ps
 each_passed n [] e = tt
 each_passed n (p ∷ ps) e =
-    let both = both_true (p % suc n == 0) (list_all (λ q. q % suc n == 0) ps) e in
-    let t = both.0 in
+    let q = both (p % suc n == 0) (list_all (λ q. q % suc n == 0) ps) e in
+    let t = q.0 in
     let rest : p % suc n ≡ 0 = grind (arith, nat_tests) in
-    (dvd_of_mod-eq-zero (suc n) rest, each_passed n ps both.1)
+    (dvd_of_mod-eq-zero (suc n) rest, each_passed n ps q.1)
 
 sum_cons : (p : ℕ) (ps : List ℕ) → sum (p ∷ ps) ≡ p + sum ps
 sum_cons p ps = sum_by-cons (λ x. x) p ps

@@ -69,9 +69,6 @@ by_tests true t f = inl refl
 by_tests false true f = inr (inr refl)
 by_tests false false f = inr (inl (f refl refl))
 
-pub before_total : (x y : Outcome) → (is_before x y ≡ true) ⊎ ((x ≡ y) ⊎ (is_before y x ≡ true))
-before_total x y = by_tests (is_before x y) (is_before y x) (neither_before x y)
-
 -- a test that cannot pass fails
 fails_by : (t : Bool) → (t ≡ true → ⊥) → t ≡ false
 fails_by true h = absurd (h refl)

@@ -10,6 +10,7 @@ use Rattle.gcl_core.specs.declared.tokens.PieceKind.TheVariants as kind
 use Rattle.gcl_lex.specs.declared.cutting.Front.{Front}
 use Rattle.gcl_core.specs.text.Names.{Name, same_name, value_named}
 use Rattle.gcl_core.specs.text.Pieces.{is_blank, is_digit, is_letter, goes_on_name, in_comment, symbols, symbol_of, is_piece, Longest, NoPiece}
+use Rattle.gcl_core.proofs.Booleans.{both}
 use Rattle.gcl_lex.specs.inner.Cutting.{one_byte, two_bytes, begins_symbol, kind_begun, symbol_front, front_as, front_of}
 
 prefix_passes : (p : ℕ → Bool) (bs : List ℕ) → list_all p (take (prefix_len p bs) bs) ≡ true
@@ -70,10 +71,6 @@ all_marks = ((refl, refl), (refl, (refl, (refl, (refl, (refl, (refl, (refl, (ref
 pub symbol_mark : (bytes : List ℕ) → is_some (symbol_of bytes) ≡ true → IsMark bytes
 unfolding symbol_of
 symbol_mark bytes h = found_in IsMark bytes symbols all_marks h
-
-pub both : (x z : Bool) → (x && z) ≡ true → (x ≡ true) × (z ≡ true)
-both true z h = (refl, h)
-both false z h = cc
 
 hash_not_blank : (b : ℕ) → (b == 35) ≡ true → is_blank b ≡ false
 hash_not_blank b h = grind (arith, nat_tests)

@@ -13,7 +13,8 @@ use Rattle.gcl_core.specs.text.Pieces.{symbol_of, Piece, Leads, no_piece_more, o
 use Rattle.gcl_core.specs.text.Tokens.{key_of, named_kind, kind_of, tokens_from}
 use Rattle.gcl_core.specs.text.Lexing.{may_stand, stands, IsLexed}
 use Rattle.gcl_core.specs.text.Spans.{IsInRange, StandInOrder}
-use Rattle.gcl_lex.proofs.Cuts.{both, some_len}
+use Rattle.gcl_core.proofs.Booleans.{both}
+use Rattle.gcl_lex.proofs.Cuts.{some_len}
 use Rattle.gcl_lex.proofs.PieceByPiece.{placed, taken}
 
 from_earlier : (a b : ℕ) (ts : List Token) (end : ℕ) → a ≤ b → StandInOrder b ts end → StandInOrder a ts end

@@ -8,7 +8,8 @@ use Rattle.gcl_core.specs.declared.tokens.PieceKind.TheVariants as kind
 use Rattle.gcl_core.specs.text.Pieces.{is_digit, is_letter, goes_on_name, in_comment, is_piece, Longest}
 use Rattle.gcl_lex.specs.PieceEnds.{EndsBefore}
 use Rattle.gcl_lex.specs.inner.Cutting.{two_bytes, front_of, long}
-use Rattle.gcl_lex.proofs.Cuts.{symbol_mark, begins, both, cut_exact}
+use Rattle.gcl_core.proofs.Booleans.{both}
+use Rattle.gcl_lex.proofs.Cuts.{symbol_mark, begins, cut_exact}
 
 -- where all bytes of a run pass and the next does not, the run ends there
 run_ends : (p : ℕ → Bool) (bs : List ℕ) → list_all p bs ≡ true → prefix_len p bs ≡ length bs

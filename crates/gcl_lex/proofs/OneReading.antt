@@ -10,7 +10,8 @@ use Rattle.gcl_core.specs.text.Pieces.{Longest, NoPiece, Piece, Leads, no_piece_
 use Rattle.gcl_core.specs.text.Tokens.{tokens_of}
 use Rattle.gcl_core.specs.text.Lexing.{may_stand, stands, IsLexed, LexRefusal, bad_byte, number_too_wide, name_too_long, PiecesReach, IsRefused, long_text, no_piece, wide_number, long_name}
 use Rattle.gcl_core.specs.declared.rules.TheConstants.{LONGEST_TEXT, GREATEST_LITERAL, LONGEST_NAME}
-use Rattle.gcl_lex.proofs.Cuts.{both, some_len}
+use Rattle.gcl_core.proofs.Booleans.{both}
+use Rattle.gcl_lex.proofs.Cuts.{some_len}
 use Rattle.gcl_lex.proofs.OneCut.{one_length, one_kind, no_longest}
 use Rattle.gcl_lex.proofs.PieceByPiece.{taken}
 

@@ -6,21 +6,13 @@ use Rattle.gcl_core.specs.meaning.Draw.{bits_for, rejected_numbers, strings_to_a
 use Rattle.gcl_core.specs.weighing.Fractions.{Fraction, times}
 use Rattle.gcl_core.specs.weighing.WeightedEnds.{class_weight, no_class_weight}
 use Rattle.gcl_core.proofs.Classes.{bits_enough}
+use Rattle.gcl_core.proofs.DrawTrees.{parts_all}
 use Rattle.mass_tables.specs.Scale.{whole, Whole}
 use Rattle.frac128.proofs.Divisors.{cancel}
 
 pub power_pos : (n : ℕ) → 0 < 2 ^ n
 power_pos zero = rw (pow-zero 2) (omega arith)
 power_pos (suc n) = let i = power_pos n in rw (pow-suc 2 n) (omega arith)
-
-parts_all : (b k q r : ℕ) → b + q ≡ 2 ^ k → b * strings_to_a_number k q r + q ^ r ≡ 2 ^ (k * r)
-parts_all b k q zero e = let p : k * 0 ≡ 0 = omega arith in rw (p, pow-zero q) (omega arith)
-parts_all b k q (suc r) e =
-    let p : k * suc r ≡ k + k * r = omega arith in
-    rw (p, pow-add 2 k (k * r), pow-suc q r) (more b q (strings_to_a_number k q r) (q ^ r) (2 ^ (k * r)) (2 ^ k) (parts_all b k q r e) e)
-  where
-    more : (b q A Q N M : ℕ) → b * A + Q ≡ N → b + q ≡ M → b * (N + q * A) + Q * q ≡ M * N
-    more b q A Q N M h e = let x = ap (λ x. q * x) h in let y = ap (λ x. x * N) e in omega arith
 
 -- the parts of a draw with b parts, as whole numbers of a total
 abbrev pub each_part : ℕ → Option ℕ → ℕ

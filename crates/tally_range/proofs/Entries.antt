@@ -13,7 +13,8 @@ use Rattle.tally_range.specs.Rows.{Rows, counted_at, is_before_all, keys_ascend,
 use Rattle.tally_range.specs.Sums.{count_in}
 use Rattle.gcl_core.proofs.OutcomeOrder.{key_before_differs, key_after_differs, key_before_trans}
 use Rattle.gcl_core.proofs.SameOutcomes.{key_itself}
-use Rattle.tally_range.proofs.InRows.{both, join, before_all_from, counted_itself}
+use Rattle.gcl_core.proofs.Booleans.{both}
+use Rattle.tally_range.proofs.InRows.{join, before_all_from, counted_itself}
 use Rattle.tally_range.proofs.Exact.{not_counted, none_counted}
 
 pub counted_add : (key : TallyKey) (a n : ℕ) (other : TallyKey) → counted_at key (a + n) other ≡ counted_at key a other + counted_at key n other

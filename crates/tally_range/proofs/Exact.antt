@@ -8,7 +8,8 @@ use Rattle.tally_range.specs.Rows.{Rows, counted_at, is_before_all, keys_ascend,
 use Rattle.tally_range.specs.Sums.{count_in}
 use Rattle.gcl_core.proofs.OutcomeOrder.{key_before_differs, key_after_differs}
 use Rattle.gcl_core.proofs.SameOutcomes.{same_keys}
-use Rattle.tally_range.proofs.InRows.{both, before_at, above_at, counted_itself}
+use Rattle.gcl_core.proofs.Booleans.{both}
+use Rattle.tally_range.proofs.InRows.{before_at, above_at, counted_itself}
 
 pub not_counted : (key : TallyKey) (n : ℕ) (other : TallyKey) → same_key key other ≡ false → counted_at key n other ≡ 0
 not_counted key n other h = ap (λ (b : Bool). if b then n else 0) h

@@ -6,13 +6,9 @@ use Rattle.gcl_core.specs.declared.answers.TallyKey.{TallyKey}
 use Rattle.number_lists.specs.Total.{total}
 use Rattle.gcl_core.specs.meaning.Order.{is_key_before}
 use Rattle.tally_range.specs.Rows.{Rows, counted_at, is_before_all, counts_are_above_zero}
+use Rattle.gcl_core.proofs.Booleans.{both}
 use Rattle.gcl_core.proofs.OutcomeOrder.{key_before_trans}
 use Rattle.gcl_core.proofs.SameOutcomes.{key_itself}
-
-pub both : (a b : Bool) → a && b ≡ true → (a ≡ true) × (b ≡ true)
-both true true h = (refl, refl)
-both true false h = (refl, h)
-both false b h = absurd (cc)
 
 pub join : (a b : Bool) → a ≡ true → b ≡ true → a && b ≡ true
 join true b h i = i

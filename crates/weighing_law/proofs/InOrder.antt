@@ -8,6 +8,7 @@ use Rattle.gcl_core.specs.declared.answers.Outcome.{Outcome}
 use Rattle.gcl_core.specs.meaning.Reading.{Reading, gives, more_bits}
 use Rattle.gcl_core.specs.meaning.Runs.{capped, answer_of, run_on}
 use Rattle.gcl_core.specs.meaning.Syntax.{SourceProgram}
+use Rattle.gcl_core.proofs.Booleans.{both}
 use Rattle.gcl_core.proofs.SameOutcomes.{outcome_itself}
 use Rattle.gcl_core.proofs.Trees.{Tree, leaf, flip, run}
 use Rattle.weighing_law.specs.Prefixes.{has_ended_in, needs_more, each_shorter_front, is_just_read, IsReadTo, ReadsInOrder}
@@ -56,13 +57,9 @@ needs_short w (gives x rest) = refl
 needs_short w more_bits = refl
 
 -- ---- fronts
-both_true : (a b : Bool) → (a && b) ≡ true → (a ≡ true) × (b ≡ true)
-both_true true b e = (refl, e)
-both_true false b e = absurd (true≢false (sym e))
-
 front_passes : (test : List Bool → Bool) (u : List Bool) (b : Bool) (v : List Bool) → each_shorter_front test (u ++ b ∷ v) ≡ true → test u ≡ true
-front_passes test [] b v e = (both_true (test []) _ e).0
-front_passes test (c ∷ u) b v e = front_passes (λ u. test (c ∷ u)) u b v (both_true (test []) _ e).1
+front_passes test [] b v e = (both (test []) _ e).0
+front_passes test (c ∷ u) b v e = front_passes (λ u. test (c ∷ u)) u b v (both (test []) _ e).1
 
 not_both : (x : Outcome) (a : Answer) → has_ended_in x a ≡ true → needs_more a ≡ true → ⊥
 not_both x (Ended y read) e h = true≢false (sym h)
@@ -71,7 +68,7 @@ not_both x (MoreBits read) e h = true≢false (sym e)
 pub none_apart : (run : List Bool → Answer) (x y : Outcome) (u v : List Bool) → is_just_read run x u ≡ true → is_just_read run y (u ++ v) ≡ true → v ≡ []
 none_apart run x y u [] e h = refl
 none_apart run x y u (b ∷ v) e h =
-    absurd (not_both x (run u) (both_true _ _ e).1 (front_passes (λ u. needs_more (run u)) u b v (both_true _ _ h).0))
+    absurd (not_both x (run u) (both _ _ e).1 (front_passes (λ u. needs_more (run u)) u b v (both _ _ h).0))
 
 -- ---- whatever answers as a tree does
 module _ (t : Tree Outcome) (answers : List Bool → Answer) (same : (w : List Bool) → answers w ≡ answer_of w (run t w)) where

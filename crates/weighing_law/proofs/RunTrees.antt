@@ -104,7 +104,7 @@ module _ (n r : ℕ) where
 pub tree_of_rounds : (p : SourceProgram) (n r R : ℕ) → HasTree (rounds_on p n r R)
 tree_of_rounds p n r zero = answer_tree (outcome.Limit Rounds)
 tree_of_rounds p n r (suc R) =
-    then_tree (block_on n r p.body (zeros (length p.names))) (λ e rest. by_round p.result (λ x. gives x rest) e (rounds_on p n r R rest))
+    then_tree (block_on n r p.body (zeros (length p.names))) (λ e rest. by_round e p.result (λ x. gives x rest) (rounds_on p n r R rest))
     (block_tree n r p.body (zeros (length p.names)))
     (elim [
       | on s ↦ answer_tree (outcome_of (value_of p.result s))

@@ -64,11 +64,15 @@ module _ (Fact : ℤ → Type 0) where
     ArmsNumbers no_arm = Unit {0}
     ArmsNumbers (arm p b arms) = BlockNumbers b × ArmsNumbers arms
 
+pub record ProgramNumbers (Fact : ℤ → Type 0) (p : SourceProgram) : Type 0 where
+  pub body : BlockNumbers Fact p.body
+  pub result : ExpressionNumbers Fact p.result
+
 -- the number has 64 bits
 abbrev pub NumberFits : ℤ → Type 0
 NumberFits z = IsTrue (fits_64 z)
 
--- each number has
+-- each number of an expression, a statement, a block, some arms or a program has 64 bits
 abbrev pub ExpressionFits : Expression → Type 0
 ExpressionFits = ExpressionNumbers NumberFits
 
@@ -81,9 +85,8 @@ BlockFits = BlockNumbers NumberFits
 abbrev pub ArmsFit : ArmList → Type 0
 ArmsFit = ArmsNumbers NumberFits
 
-pub record NumbersFit (p : SourceProgram) : Type 0 where
-  pub body : BlockFits p.body
-  pub result : ExpressionFits p.result
+abbrev pub NumbersFit : SourceProgram → Type 0
+NumbersFit = ProgramNumbers NumberFits
 
 -- a weight is at most 1, over a number from 1 to the greatest denominator
 pub record IsWeight (w : Weight) : Type 0 where

@@ -14,16 +14,16 @@ use Rattle.gcl_core.specs.meaning.Blocks.{End, on, failed, fault, limit, block_o
 use Rattle.gcl_core.specs.meaning.Outcomes.{zeros, outcome_of}
 
 -- an end of the body ends the run, but for a failed observation
-abbrev pub by_round : {A : Type 0} → Expression → (Outcome → A) → End → A → A
-by_round result stop (on s) again = stop (outcome_of (value_of result s))
-by_round result stop failed again = again
-by_round result stop (fault f) again = stop (outcome.Fault f)
-by_round result stop (limit l) again = stop (outcome.Limit l)
+abbrev pub by_round : {A : Type 0} → End → Expression → (Outcome → A) → A → A
+by_round (on s) result stop again = stop (outcome_of (value_of result s))
+by_round failed result stop again = again
+by_round (fault f) result stop again = stop (outcome.Fault f)
+by_round (limit l) result stop again = stop (outcome.Limit l)
 
 -- At most R rounds of a body, until one ends the run in an outcome.
 abbrev pub rounds_with : (List Bool → Reading End) → Expression → ℕ → List Bool → Reading Outcome
 rounds_with body result zero w = gives (outcome.Limit Rounds) w
-rounds_with body result (suc R) w = after (body w) (λ e rest. by_round result (λ x. gives x rest) e (rounds_with body result R rest))
+rounds_with body result (suc R) w = after (body w) (λ e rest. by_round e result (λ x. gives x rest) (rounds_with body result R rest))
 
 abbrev pub rounds_on : SourceProgram → ℕ → ℕ → ℕ → List Bool → Reading Outcome
 rounds_on p n r R w = rounds_with (block_on n r p.body (zeros (length p.names))) p.result R w

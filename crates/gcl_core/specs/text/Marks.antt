@@ -1,16 +1,13 @@
 -- Marks, of which a canonical text is written: words and blanks. A mark's bytes are a token, a space or a line feed. This project's
 -- own rule.
 use Rattle.std.specs.Prelude.{ℕ, List, [], ◌∷◌, flat_map, codes, decimal, slice_index_or}
-use denote.Enum.Bare.{sameb}
-use Rattle.gcl_core.specs.contracts.tokens.Key as reserved
-use Rattle.gcl_core.specs.contracts.tokens.Sym as symbol
 use Rattle.gcl_core.specs.declared.tokens.Key.{Key}
 use Rattle.gcl_core.specs.declared.tokens.Sym.{Sym}
 use Rattle.gcl_core.specs.declared.words.Word.{Word}
 use Rattle.gcl_core.specs.declared.words.Word.TheVariants as word
 use Rattle.gcl_core.specs.text.Names.{Name, name_where}
-use Rattle.gcl_core.specs.text.Pieces.{symbols}
-use Rattle.gcl_core.specs.text.Tokens.{reserved_names}
+use Rattle.gcl_core.specs.text.Pieces.{same_symbol, symbols}
+use Rattle.gcl_core.specs.text.Tokens.{reserved_names, same_keyword}
 
 pub data Mark : Type 0 where
   a_word : Word → Mark
@@ -29,10 +26,10 @@ words_among (a_line_feed ∷ ms) = words_among ms
 -- ---- bytes
 
 abbrev pub key_text : Key → List ℕ
-key_text k = name_where (sameb reserved.the_type k) reserved_names
+key_text k = name_where (same_keyword k) reserved_names
 
 abbrev pub symbol_text : Sym → List ℕ
-symbol_text s = name_where (sameb symbol.the_type s) symbols
+symbol_text s = name_where (same_symbol s) symbols
 
 -- a number by its digits, without leading zeros; a name by its bytes, and by none where there is no name of its number
 abbrev pub word_text : List Name → Word → List ℕ

@@ -2,6 +2,8 @@
 -- This project's own rule.
 use Rattle.std.specs.Prelude.{◌≡◌, ℕ, ◌<◌, ◌≤◌, ◌==◌, nat_le, Bool, false, ◌&&◌, ◌||◌, not, IsTrue, List, [], ◌∷◌, length, take, drop, Option, is_some, map}
 use Rattle.std.specs.List.{list_all}
+use denote.Enum.Bare.{sameb}
+use Rattle.gcl_core.specs.contracts.tokens.Sym as symbol
 use Rattle.gcl_core.specs.declared.tokens.Sym.{Sym}
 use Rattle.gcl_core.specs.declared.tokens.TheConstants.{SYMBOLS}
 use Rattle.gcl_core.specs.declared.tokens.PieceKind.{PieceKind}
@@ -29,8 +31,12 @@ in_comment b = not (b == 10)
 
 -- ---- symbols
 
+-- the table `SYMBOLS` of the code, each text as its bytes
 abbrev pub symbols : List (Name × Sym)
 symbols = map (λ s. (s.0.now, s.1)) SYMBOLS
+
+abbrev pub same_symbol : Sym → Sym → Bool
+same_symbol = sameb symbol.the_type
 
 -- the symbol that these bytes are
 unfoldable pub symbol_of : List ℕ → Option Sym

@@ -1,7 +1,9 @@
 -- The tokens of pieces: a token for each piece that is no blank and no comment, with the bytes that it spans. This project's own rule.
-use Rattle.std.specs.Prelude.{ℕ, ◌+◌, List, [], ◌∷◌, length, Option, Some, None, option_map, map}
+use Rattle.std.specs.Prelude.{ℕ, ◌+◌, Bool, List, [], ◌∷◌, length, Option, Some, None, option_map, map}
 use Rattle.std.specs.List.{cons_option}
 use Rattle.std.specs.Str.Parse.{digits_value}
+use denote.Enum.Bare.{sameb}
+use Rattle.gcl_core.specs.contracts.tokens.Key as reserved
 use Rattle.gcl_core.specs.declared.tokens.Key.{Key}
 use Rattle.gcl_core.specs.declared.tokens.PieceKind.{PieceKind}
 use Rattle.gcl_core.specs.declared.tokens.PieceKind.TheVariants as kind
@@ -14,9 +16,12 @@ use Rattle.gcl_core.specs.text.Pieces.{symbol_of, Piece}
 
 -- ---- reserved names
 
--- the reserved names
+-- the table `KEYWORDS` of the code, each text as its bytes
 abbrev pub reserved_names : List (Name × Key)
 reserved_names = map (λ k. (k.0.now, k.1)) KEYWORDS
+
+abbrev pub same_keyword : Key → Key → Bool
+same_keyword = sameb reserved.the_type
 
 -- the reserved name that this is
 unfoldable pub key_of : Name → Option Key

@@ -1,13 +1,12 @@
 -- What stands at the front of a list of words.
 use Rattle.std.specs.Prelude.{ℕ, Bool, false, List, [], ◌∷◌, Option, Some, None}
-use denote.Enum.Bare.{sameb}
-use Rattle.gcl_core.specs.contracts.tokens.Key as reserved
-use Rattle.gcl_core.specs.contracts.tokens.Sym as symbol
 use Rattle.gcl_core.specs.declared.tokens.Key.{Key}
 use Rattle.gcl_core.specs.declared.tokens.Sym.{Sym}
 use Rattle.gcl_core.specs.declared.words.Word.{Word}
 use Rattle.gcl_core.specs.declared.words.Word.TheVariants as w
+use Rattle.gcl_core.specs.text.Pieces.{same_symbol}
 use Rattle.gcl_core.specs.text.Spans.{IsInRange}
+use Rattle.gcl_core.specs.text.Tokens.{same_keyword}
 use Rattle.gcl_core.specs.text.Words.{kind_of_word}
 
 abbrev pub first : List Word → Option Word
@@ -25,11 +24,11 @@ AreInRange (v ∷ ws) = IsInRange (kind_of_word v) × AreInRange ws
 
 -- the word is this symbol, or this reserved name
 abbrev pub is_sym : Sym → Word → Bool
-is_sym a (w.Sym b) = sameb symbol.the_type b a
+is_sym a (w.Sym b) = same_symbol b a
 is_sym a _ = false
 
 abbrev pub is_key : Key → Word → Bool
-is_key a (w.Key b) = sameb reserved.the_type b a
+is_key a (w.Key b) = same_keyword b a
 is_key a _ = false
 
 abbrev pub number_at : Option Word → Option ℕ
