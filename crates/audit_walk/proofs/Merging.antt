@@ -62,17 +62,6 @@ pub record Merging (a b out x y : Rows) : Type 0 where
   pub above_left : AreAboveZero x
   pub above_right : AreAboveZero y
 
-pub merging_first : (a b : Rows) → IsRows a → IsRows b → Merging a b [] a b
-merging_first a b h i = record {
-  each = λ o. omega arith;
-  all = omega arith;
-  left = h.ascending;
-  right = i.ascending;
-  above_out = tt;
-  above_left = h.above_zero;
-  above_right = i.above_zero;
-}
-
 -- a row before all that are left
 next : (out x : Rows) (r : Outcome × ℕ) → (out ++ r ∷ []) ++ x ≡ out ++ r ∷ x
 next out x r = append_assoc out (r ∷ []) x
@@ -169,11 +158,6 @@ merge_equal a b out l r new x y xs ys m e f same n =
     let h = subst (λ l. Merging a b out l r) e m in
     let i = subst (λ r. Merging a b out (x ∷ xs) r) f h in
     subst (λ o. Merging a b o xs ys) (sym n) (merging_both a b out xs ys x y same i)
-
--- the counts of one outcome fit, as all do
-pub merge_fits : (a b out l r : Rows) (x y : Outcome × ℕ) (xs ys : Rows) → Merging a b out l r → l ≡ x ∷ xs → r ≡ y ∷ ys →
-    sum_of_counts a + sum_of_counts b < 2 ^ 64 → x.1 + y.1 < 2 ^ 64
-merge_fits a b out l r x y xs ys m e f lt = let h = m.all in let p = ap sum_of_counts e in let q = ap sum_of_counts f in omega arith
 
 none_left : (l : Rows) → length l ≡ 0 → l ≡ []
 none_left [] e = refl

@@ -282,9 +282,6 @@ no_leaf (v ∷ ts) h s = go (is_sym y.LeftParen v) refl
 pub no_atom : {e : Halt} {new : List Word} (ts : List Word) → leaf_at (first ts) ≡ None → Fails (m.sym y.LeftParen ∷ []) ts e new → Fails (phrase l.Atom ∷ []) ts e new
 no_atom ts n f = record { halts = λ h s. no_leaf ts n s ∙ f.halts h (phrase l.Or ∷ m.sym y.RightParen ∷ s) }
 
-pub shorter_end : {mid new : List Word} {v : Word} (old : List Word) → length mid < length old → mid ≡ v ∷ new → length new < length old
-shorter_end {mid} {new} {v} old h e = let y = ap length e in omega (arith, y)
-
 pub one_less : {v : Word} {old new : List Word} → old ≡ v ∷ new → length new < length old
 one_less {v} {old} {new} e = let y = ap length e in omega (arith, y)
 

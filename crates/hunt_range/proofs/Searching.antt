@@ -42,12 +42,6 @@ listed_more j x xs h = let t = times-append j xs (x ∷ []) in dite (ℕ_discret
     (λ ne. let z : times j (x ∷ []) ≡ 0 = grind (arith, nat_tests) in inl (omega arith))
 
 module _ (s : Sought) where
-  pub covers_none : (seen : ℕ) → Covers s [] seen
-  covers_none seen j i h = absurd (omega arith)
-
-  pub wanted_none : AreWanted s []
-  wanted_none x h = absurd (omega arith)
-
   pub covers_less : (dealt : List ℕ) (seen less : ℕ) → Covers s dealt seen → less ≤ seen → Covers s dealt less
   covers_less dealt seen less c le j i h low high inside w = let k = c j i h low high inside w in omega arith
 

@@ -63,9 +63,6 @@ module _ (p : SourceProgram) (n : ℕ) (r : Option ℕ) (rows : Rows) (f : Fract
   pub failed_is : InLowest f → f ≡ lowest g
   failed_is l = lowest_is f g l round.fails round.failed
 
-  pub all_fail : f.0 ≡ f.1 → IsOne g
-  all_fail e = let z = round.failed in let y = ap (λ u. u * g.1) e in sym (cancel f.1 _ _ round.parts.failed.positive (let x : f.1 * g.1 ≡ f.1 * g.0 = omega arith in x))
-
   pub some_pass : f.0 < f.1 → IsBelowOne g
   some_pass h = lt_of_mul-lt-mul_left f.1 (let z = mul-lt-mul_of_pos_right h round.fails in let y = round.failed in omega arith)
 

@@ -20,9 +20,6 @@ module _ (arms : List (ℕ × Block)) (i : ℕ) where
   pub arms_done : length arms ≤ i → arm_list_of (drop i arms) ≡ no_arm
   arms_done le = ap arm_list_of (drop_all i arms le)
 
-  pub sum_done : length arms ≤ i → sum (parts_left arms i) ≡ 0
-  sum_done le = ap sum (no_parts arms i le)
-
   module _ (a : ℕ × Block) (lt : i < length arms) (is : a ≡ get_or arms i a) where
     pub arms_next : arm_list_of (drop i arms) ≡ arm a.0 (statements_of a.1) (arm_list_of (drop (i + 1) arms))
     arms_next = at_drop_more arm_list_of arms i a lt ∙ ap (λ x. arm x.0 (statements_of x.1) (arm_list_of (drop (i + 1) arms))) (sym is)

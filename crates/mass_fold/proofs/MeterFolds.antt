@@ -75,10 +75,6 @@ module _ (n : ℕ) (r : Option ℕ) where
       counted_as (N * M) _ _ m m' (s.same (bound_price v r M) ∙ sym (amount_drawn_bound N (price r M) v I))
       (c N M Np Mp s.kept (each_state (IsBoundPriced v r M) N es I Np s (bound_priced r M v I k)))
 
-  -- no draw, or no state at all
-  pub meters_none : (st : Statement) (es : Entries) (E : Ended) (m : Meter) → ((I : Table) → statement_draws n r st I ≡ []) → MetersOne r (statement_flow n r st) (statement_draws n r st) es E m m
-  meters_none st es E m e N M L I J Np Mp s t w k = counted_as (N * M) 0 _ m m (sym (ap (amount N (price r M)) (e I))) (counted_none (N * M) m)
-
   pub meters_empty : (st : Statement) (es : Entries) (E : Ended) (m : Meter) → StatementIsWeighed st → es ≡ [] → MetersOne r (statement_flow n r st) (statement_draws n r st) es E m m
   meters_empty st es E m ws e N M L I J Np Mp s t w k =
       let z : weight N I ≡ 0 = sym (s.same (λ s. 1)) ∙ ap (held N (λ s. 1)) e in

@@ -77,9 +77,6 @@ module _ (Fact : ℕ → State → Type 0) (p : ℕ → State → ℕ) where
       (counted_then (N * M) (held N (p M) ((s, f) ∷ [])) (held N (p M) es) m now m' (x N M Np Mp (h.0, h.1, tt) (k.0, tt)) (y N M Np Mp h.2 k.1))
 
   module _ (es : Entries) (m : Meter) where
-    pub rest_start : (rest : Entries) → rest ≡ es → CountsRest Fact p es m m rest
-    rest_start rest e m' x = subst (λ es. CountsAll Fact p es m m') e x
-
     pub rest_turn : (now now' : Meter) (rest rest' : Entries) (s : State) (f : Fraction) → rest ≡ (s, f) ∷ rest' → CountsRest Fact p es m now rest → CountsAll Fact p ((s, f) ∷ []) now now' → CountsRest Fact p es m now' rest'
     rest_turn now now' rest rest' s f e d x m' y = d m' (subst (λ es. CountsAll Fact p es now m') (sym e) (counts_next s f rest' now now' m' x y))
 

@@ -25,10 +25,6 @@ module _ (M C : ℕ → ℕ) (f : Fraction) (rows : Rows) where
   abbrev pub TurnsTo : Fraction → Fraction → Type 0
   TurnsTo s t = (N : ℕ) → ArePartsOfOne N s f → Whole (M N) t × (whole (M N) t ≡ C N * whole N s)
 
-  pub passing_start : (masses rest : Rows) → masses ≡ [] → rest ≡ rows → PassesOn masses rest
-  passing_start masses rest p q N h =
-      subst (λ m. Passing N (M N) (C N) rows m rest) (sym p) (subst (Passing N (M N) (C N) rows []) (sym q) (record { kept = tt; left = h.kept; less = omega arith; sums = λ G. omega arith }))
-
   pub passing_end : (masses rest : Rows) → rest ≡ [] → PassesOn masses rest → (N : ℕ) → TableParts N rows f → AreHeld (M N) masses × ((G : Outcome → ℕ) → held (M N) G masses ≡ C N * held N G rows)
   passing_end masses rest p on N h = let a = subst (Passing N (M N) (C N) rows masses) p (on N h) in (a.kept, λ G. let z = a.sums G in omega arith)
 

@@ -122,16 +122,10 @@ pub record Rounds (s f t : Fraction) (k : ℕ) : Type 0 where
   pub some : 1 ≤ k
   pub is : IsRepeated s f k t
 
-pub rounds_one : (s f : Fraction) → Rounds s f s 1
-rounds_one s f = record { some = omega arith; is = repeated_once s f }
-
 pub rounds_next : (s f t u v : Fraction) (k : ℕ) → Rounds s f t k → product_of f t ≡ Some u → sum_of s u ≡ Some v → Rounds s f v (k + 1)
 rounds_next s f t u v zero r e h = absurd (let z = r.some in omega arith)
 rounds_next s f t u v (suc j) r e h =
     subst (Rounds s f v) (let z : suc (suc j) ≡ suc j + 1 = omega arith in z) (record { some = omega arith; is = λ N Np ws wf. repeated_more s f j t r.is N Np ws wf u v e h })
-
-pub rounds_end : (s f t : Fraction) (k R : ℕ) → k ≡ R → Rounds s f t k → IsRepeated s f R t
-rounds_end s f t k R e r = subst (λ k. IsRepeated s f k t) e r.is
 
 pub product_blames : (s f t : Fraction) (k R : ℕ) → k < R → Rounds s f t k → product_of f t ≡ None → RepeatBlames s f R
 product_blames s f t zero R l r e N C p = absurd (let z = r.some in omega arith)

@@ -21,9 +21,6 @@ abbrev pub ResultsOn : Expression → Entries → Rows → Rows → Entries → 
 ResultsOn result table es fs rest = (N : ℕ) → 0 < N → AreHeld N table → AreHeld N es → Left N result table es fs rest
 
 module _ (result : Expression) (table : Entries) (es : Rows) where
-  pub results_start : (rest : Entries) → rest ≡ table → ResultsOn result table es es rest
-  results_start rest p = subst (ResultsOn result table es es) (sym p) (λ N pos h k. record { kept = k; left = h; sums = λ G. refl })
-
   pub results_end : (fs : Rows) (rest : Entries) → rest ≡ [] → ResultsOn result table es fs rest → ResultsGive result table es fs
   results_end fs rest p on N pos h k =
       let l = subst (ResultsOn result table es fs) p on N pos h k in (l.kept, λ G. let z = l.sums G in omega arith)

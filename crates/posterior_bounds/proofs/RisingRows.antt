@@ -61,11 +61,6 @@ module _ (rows : masses.Rows) (i : ℕ) (row : Outcome × Fraction) (at : slice_
     raised_none e = sym (behind (λ l. bounds ++ raised other l) rows i) ∙ joined false e
 
 -- ---- behind the last row
-pub mass_end : (x : Outcome) (rows : masses.Rows) (i : ℕ) (m : Fraction) → length rows ≤ i → mass_in x (drop i rows) ≡ m → lowest zero_share ≡ m
-mass_end x rows i m le so = sym (at_drop_all (mass_in x) rows i le) ∙ so
-
-pub raised_end : (other : Fraction) (rows : masses.Rows) (i : ℕ) (bounds whole : Rows) → length rows ≤ i → bounds ++ raised other (drop i rows) ≡ whole → bounds ≡ whole
-raised_end other rows i bounds whole le so = sym (append-nil bounds) ∙ sym (at_drop_all (λ l. bounds ++ raised other l) rows i le) ∙ so
 
 -- ---- a sum that fits is the sum in lowest terms
 pub sum_is : (p q h : Fraction) → InLowest p → InLowest q → InLowest h → sum_of p q ≡ Some h → h ≡ lowest (plus p q)

@@ -39,23 +39,6 @@ module _ (code : List Instruction) (l : Limits) (old new : Registers) where
     bits = can.bits;
   }
 
-  then_moved : (next : Registers) (before after : ℕ) (p : Move) → machine_of new ≡ machine_of old → MovedTo code l new next before after p → MovedTo code l old next before after p
-  then_moved next before after (move.On read) same moved = subst (λ m. to_go code l after (machine_of next) < to_go code l before m) same moved
-  then_moved next before after move.NeedBit same moved = moved
-  then_moved next before after (move.Ended o) same moved = moved
-
-  pub moved_same : (next : Registers) (word before after : ℕ) (p : Move) → machine_of new ≡ machine_of old → new.stack ≡ old.stack → HasMoved code l new next word before after p →
-      HasMoved code l old next word before after p
-  moved_same next word before after p same stack moved = record {
-    takes = subst (λ m. Takes (rest_of code l m) (rest_of code l (machine_of next)) (low_bits before word) (low_bits after word)) same moved.takes;
-    moved = then_moved next before after p same moved.moved;
-    shape = record {
-      turns = moved.shape.turns ∙ ap (λ (m : Machine). length m.turns) same;
-      vars = moved.shape.vars ∙ ap (λ (m : Machine). length m.vars) same;
-      stack = moved.shape.stack ∙ stack;
-    };
-  }
-
 -- the machine of a draw that is at an attempt
 pub stands_at : (m : Machine) (b : ℕ) (t : Trial) (d : Drawing) → d ≡ below b t.need t.low → (let n : Machine = record m { tries = t.tries; used = t.used; drawing = d } in n) ≡ at_trial m b t
 stands_at m b t d is = ap (λ (d : Drawing). let n : Machine = record m { tries = t.tries; used = t.used; drawing = d } in n) is

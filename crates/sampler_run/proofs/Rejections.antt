@@ -201,11 +201,6 @@ module _ (code : List Instruction) (l : Limits) (x : ℕ) (e : Expression) (b : 
       let f = falls code l (at_trial m b t) (stored (at_trial m b t) x (pos t.low)) h goes_on in
       (takes_none _ _ _ (step_same code l (at_trial m b t) (stored (at_trial m b t) x (pos t.low)) h goes_on), omega (arith, f))
 
-  -- the last one has failed
-  pub trial_out : (m : Machine) (t : Trial) → slice_get code m.index ≡ Some (Range x e) → b ≤ t.low * 2 ^ t.need → t.tries ≤ 1 → step code l (at_trial m b t) ≡ ends (outcome.Limit Attempts)
-  trial_out m t at over tries =
-      step_draws code l x e b (at_trial m b t) t.need t.low at refl ∙ draws_over (at_trial m b t) t.need t.low over ∙ retry_ends (at_trial m b t) t.tries tries
-
 -- ---- one after the other
 
 module _ (code : List Instruction) (l : Limits) where
