@@ -6,7 +6,7 @@ ghost use Rattle.gcl_core.specs.text.Names.{value_named};
 ghost use Rattle.gcl_core.specs.text.Pieces as piece;
 ghost use Rattle.gcl_lex.specs.inner.Cutting as cutting;
 
-use crate::names::is_same;
+use crate::names::value_named;
 use gcl_core::{PieceKind, SYMBOLS, Sym};
 
 /// A piece at the front of a text, by its length in bytes.
@@ -16,24 +16,12 @@ pub struct Front {
     pub len: usize,
 }
 
-fn symbol_among(mut table: &[(&str, Sym)], bytes: &[u8]) -> Option<Sym>
-    ensures { result ≡ value_named (map (λ e. (e.0.now, e.1)) table.entry.now) bytes.now }
-{
-    while let [entry, rest @ ..] = table {
-        if is_same(bytes, entry.0.as_bytes()) {
-            return Some(entry.1);
-        }
-        table = rest;
-    }
-    None
-}
-
 /// The symbol that the bytes are.
 #[tactic(auto, unfolding(gcl_core::specs::text::Pieces::symbol_of))]
 pub fn symbol(bytes: &[u8]) -> Option<Sym>
     ensures { result ≡ piece.symbol_of bytes.now }
 {
-    symbol_among(&SYMBOLS, bytes)
+    value_named(&SYMBOLS, bytes)
 }
 
 // The byte is a symbol, or one with `=` behind it.

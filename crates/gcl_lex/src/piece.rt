@@ -9,7 +9,7 @@ ghost use Rattle.gcl_lex.specs.inner.Reads.{number_of_digits, ReadsPiece};
 
 use crate::cutting::symbol;
 use crate::error::LexError;
-use crate::names::is_same;
+use crate::names::value_named;
 use gcl_core::{GREATEST_LITERAL, KEYWORDS, Key, LONGEST_NAME, PieceKind, TokenKind};
 
 // The value, where a text may have it.
@@ -28,23 +28,11 @@ fn number(digits: &[u8]) -> Option<u64>
     }
 }
 
-fn key_among(mut table: &[(&str, Key)], name: &[u8]) -> Option<Key>
-    ensures { result ≡ value_named (map (λ e. (e.0.now, e.1)) table.entry.now) name.now }
-{
-    while let [entry, rest @ ..] = table {
-        if is_same(name, entry.0.as_bytes()) {
-            return Some(entry.1);
-        }
-        table = rest;
-    }
-    None
-}
-
 #[tactic(auto, unfolding(gcl_core::specs::text::Tokens::key_of))]
 fn key(name: &[u8]) -> Option<Key>
     ensures { result ≡ key_of name.now }
 {
-    key_among(&KEYWORDS, name)
+    value_named(&KEYWORDS, name)
 }
 
 fn name_kind(name: &[u8]) -> TokenKind
