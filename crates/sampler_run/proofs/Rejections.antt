@@ -1,5 +1,5 @@
 -- An attempt below a bound that fails, on all the bits that it reads at once; and attempts, one after the other.
-use Rattle.std.proofs.Common.{◌≡◌, ℕ, zero, suc, ◌+◌, ◌*◌, ◌^◌, ◌/◌, ◌%◌, ◌-◌, ◌<◌, ◌≤◌, ◌==◌, pos, Bool, true, List, ◌∷◌, ◌++◌, Some, refl, sym, ap, ◌∙◌, subst, arith, le-ltb}
+use Rattle.std.proofs.Common.{◌≡◌, ℕ, zero, suc, ◌+◌, ◌*◌, ◌^◌, ◌/◌, ◌%◌, ◌-◌, ◌<◌, ◌≤◌, ◌==◌, pos, Bool, true, List, ◌∷◌, ◌++◌, Some, refl, sym, ap, ◌∙◌, subst, arith, le-ltb, inr}
 use Rattle.std.specs.Prelude.{slice_get, if◌then◌else◌}
 use Rattle.std.proofs.lemmas.Nat.{mul-le, pow_pos, div-mul-add}
 use Rattle.std.proofs.Math.Arith.{mod-mul}
@@ -187,11 +187,11 @@ module _ (code : List Instruction) (l : Limits) (x : ℕ) (e : Expression) (b : 
       sym next ∙ sym (side_narrowed code l x e b (at_trial m b t) (t.need - 1) t.low c) ∙ ap (λ s. side s c (at_trial m b t)) (sym more) in
       let bits : low_bits t.left word ≡ c ∷ low_bits u.left word =
       low_bits_first t.left word (λ z. absurd (omega (arith, z, there))) ∙ ap (λ c. c ∷ low_bits (t.left - 1) word) (sym is) ∙ ap (λ i. c ∷ low_bits i word) (sym left) in
-      let led : LedBy (step code l (at_trial m b t)) (at_trial m b t) (at_trial m b u) (move.On true) (low_bits t.left word) (low_bits u.left word) =
-      (c, trial_asks m t at some lt, leads, bits) in
+      let led : LedBy (step code l (at_trial m b t)) (at_trial m b t) (at_trial m b u) move.On (low_bits t.left word) (low_bits u.left word) =
+      inr (c, trial_asks m t at some lt, leads, bits) in
       record {
-        takes = on_takes code l true (rest_of code l (at_trial m b t)) (at_trial m b t) (at_trial m b u) _ _ _ h led (takes_none _ _ _ (λ v. refl));
-        less = let less = on_less code l true (at_trial m b t) (at_trial m b u) word t.left u.left h led in omega (arith, less);
+        takes = on_takes code l (rest_of code l (at_trial m b t)) (at_trial m b t) (at_trial m b u) _ _ _ h led (takes_none _ _ _ (λ v. refl));
+        less = let less = on_less code l (at_trial m b t) (at_trial m b u) word t.left u.left h led in omega (arith, less);
       }
 
   -- one that has succeeded

@@ -1,5 +1,5 @@
 -- Runs on the bits of a word.
-use Rattle.std.proofs.Common.{◌≡◌, ℕ, zero, suc, ◌+◌, ◌*◌, ◌^◌, ◌/◌, ◌%◌, ◌-◌, ◌≢◌, ◌<◌, ◌≤◌, ◌==◌, Bool, true, false, List, [], ◌∷◌, ◌++◌, length, Option, refl, sym, ap, ◌∙◌, subst, arith, length-append}
+use Rattle.std.proofs.Common.{◌≡◌, ℕ, zero, suc, ◌+◌, ◌*◌, ◌^◌, ◌/◌, ◌%◌, ◌-◌, ◌≢◌, ◌<◌, ◌≤◌, ◌==◌, Bool, true, false, List, [], ◌∷◌, ◌++◌, length, Option, refl, sym, ap, ◌∙◌, subst, arith, length-append, inl, inr}
 use Rattle.gcl_core.specs.declared.answers.Limits.{Limits}
 use Rattle.gcl_core.specs.declared.answers.Outcome.{Outcome}
 use Rattle.zar_io.specs.FileBits.{low_bits}
@@ -60,26 +60,26 @@ module _ (code : List Instruction) (l : Limits) where
   fewer_bits M s t a b e le = let f : b * suc M ≡ a * suc M + suc M = ap (λ b. b * suc M) e ∙ (omega arith) in omega (arith, f)
 
   -- one instruction on
-  pub on_takes : (r : Bool) (run : List Bool → Option Reached) (m n : Machine) (old before after : List Bool) → Answered code l m →
-      LedBy (step code l m) m n (move.On r) before after → Takes run (rest_of code l m) old before → Takes run (rest_of code l n) old after
-  on_takes false run m n old before after h e t =
+  pub on_takes : (run : List Bool → Option Reached) (m n : Machine) (old before after : List Bool) → Answered code l m →
+      LedBy (step code l m) m n move.On before after → Takes run (rest_of code l m) old before → Takes run (rest_of code l n) old after
+  on_takes run m n old before after h (inl e) t =
       subst (λ b. Takes run (rest_of code l n) old b) (sym e.1) (takes_on run (rest_of code l m) (rest_of code l n) old before t (step_same code l m n h e.0))
-  on_takes true run m n old before after h e t =
+  on_takes run m n old before after h (inr e) t =
       takes_more run (rest_of code l m) (rest_of code l n) e.0 old before after t e.3 (needs_rest code l m h e.1) (bit_same code l m n e.0 h e.1 e.2)
 
-  pub on_answered : (r : Bool) (m n : Machine) (before after : List Bool) → Answered code l m → LedBy (step code l m) m n (move.On r) before after → Answered code l n
-  on_answered false m n before after h e = answered_as code l m n h (step_same code l m n h e.0)
-  on_answered true m n before after h e = answered_bit code l m n e.0 h (bit_same code l m n e.0 h e.1 e.2)
+  pub on_answered : (m n : Machine) (before after : List Bool) → Answered code l m → LedBy (step code l m) m n move.On before after → Answered code l n
+  on_answered m n before after h (inl e) = answered_as code l m n h (step_same code l m n h e.0)
+  on_answered m n before after h (inr e) = answered_bit code l m n e.0 h (bit_same code l m n e.0 h e.1 e.2)
 
-  pub on_less : (r : Bool) (m n : Machine) (w j k : ℕ) → Answered code l m → LedBy (step code l m) m n (move.On r) (low_bits j w) (low_bits k w) →
+  pub on_less : (m n : Machine) (w j k : ℕ) → Answered code l m → LedBy (step code l m) m n move.On (low_bits j w) (low_bits k w) →
       to_go code l k n < to_go code l j m
   unfolding steps_left
-  on_less false m n w j k h e =
+  on_less m n w j k h (inl e) =
       let same : k ≡ j = sym (low_bits_length k w) ∙ ap length e.1 ∙ low_bits_length j w in
       let f = falls code l m n h e.0 in
       let g : k * suc (most_steps code l) ≡ j * suc (most_steps code l) = ap (λ k. k * suc (most_steps code l)) same in
       omega (arith, f, g)
-  on_less true m n w j k h e =
+  on_less m n w j k h (inr e) =
       let one : j ≡ suc k = sym (low_bits_length j w) ∙ ap length e.3 ∙ ap suc (low_bits_length k w) in
       fewer_bits (most_steps code l) (steps_left code l n) (steps_left code l m) k j one (silent_most (most_steps code l) n)
 
@@ -113,8 +113,8 @@ taken_answered code l m n old new h t v = ((h (t.taken ++ v)).0, t.same v ∙ (h
 module _ (code : List Instruction) (l : Limits) (old new : Registers) (w j k : ℕ) where
   pub moved_takes : (p : Move) → Answered code l (machine_of old) → LedBy (step code l (machine_of old)) (machine_of old) (machine_of new) p (low_bits j w) (low_bits k w) →
       Takes (rest_of code l (machine_of old)) (rest_of code l (machine_of new)) (low_bits j w) (low_bits k w)
-  moved_takes (move.On r) h e =
-      on_takes code l r (rest_of code l (machine_of old)) (machine_of old) (machine_of new) (low_bits j w) (low_bits j w) (low_bits k w) h e (takes_none _ _ _ (λ v. refl))
+  moved_takes move.On h e =
+      on_takes code l (rest_of code l (machine_of old)) (machine_of old) (machine_of new) (low_bits j w) (low_bits j w) (low_bits k w) h e (takes_none _ _ _ (λ v. refl))
   moved_takes move.NeedBit h e =
       stop_takes code l (rest_of code l (machine_of old)) (machine_of old) (machine_of new) (low_bits j w) (low_bits j w) (low_bits k w) e.1 e.3 (takes_none _ _ _ (λ v. refl))
   moved_takes (move.Ended o) h e =
@@ -122,7 +122,7 @@ module _ (code : List Instruction) (l : Limits) (old new : Registers) (w j k : �
 
   pub moved_to : (p : Move) → Answered code l (machine_of old) → LedBy (step code l (machine_of old)) (machine_of old) (machine_of new) p (low_bits j w) (low_bits k w) →
       MovedTo code l old new j k p
-  moved_to (move.On r) h e = on_less code l r (machine_of old) (machine_of new) w j k h e
+  moved_to move.On h e = on_less code l (machine_of old) (machine_of new) w j k h e
   moved_to move.NeedBit h e = (rests_need code l (machine_of old) (machine_of new) e.1 e.0, no_bits j k w e.2 e.3)
   moved_to (move.Ended o) h e = rests_end code l (machine_of old) (machine_of new) o e.1 e.0
 

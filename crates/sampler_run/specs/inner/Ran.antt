@@ -27,7 +27,7 @@ pub record CanRun (code : List Instruction) (l : Limits) (m : Registers) (count 
 
 -- where it went: on, with less to go; or to rest
 abbrev pub MovedTo : List Instruction → Limits → Registers → Registers → ℕ → ℕ → Move → Type 0
-MovedTo code l old new before after (move.On read) = to_go code l after (machine_of new) < to_go code l before (machine_of old)
+MovedTo code l old new before after move.On = to_go code l after (machine_of new) < to_go code l before (machine_of old)
 MovedTo code l old new before after move.NeedBit = Asks (step code l (machine_of new)) × (after ≡ 0)
 MovedTo code l old new before after (move.Ended o) = step code l (machine_of new) ≡ ends o
 

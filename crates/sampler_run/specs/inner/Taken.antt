@@ -1,5 +1,5 @@
 -- Runs that take some of the bits at hand.
-use Rattle.std.specs.Prelude.{◌≡◌, Bool, true, false, List, [], ◌∷◌, ◌++◌, Option, Some, None}
+use Rattle.std.specs.Prelude.{◌≡◌, ◌⊎◌, Bool, List, [], ◌∷◌, ◌++◌, Option, Some, None}
 use Rattle.sampler_code.specs.Machine.{Machine, Next, goes, ends}
 use Rattle.sampler_code.specs.Running.{Reached}
 use Rattle.sampler_run.specs.Telling.{progress_in}
@@ -28,7 +28,6 @@ pub record Takes (run rest : List Bool → Option Reached) (old new : List Bool)
 
 -- from old to new by one instruction, which may take a bit
 abbrev pub LedBy : Next → Machine → Machine → Move → List Bool → List Bool → Type 0
-LedBy x old new (move.On false) before after = (x ≡ goes new) × (after ≡ before)
-LedBy x old new (move.On true) before after = (b : Bool) × Asks x × (new ≡ side x b old) × (before ≡ b ∷ after)
+LedBy x old new move.On before after = ((x ≡ goes new) × (after ≡ before)) ⊎ ((b : Bool) × Asks x × (new ≡ side x b old) × (before ≡ b ∷ after))
 LedBy x old new move.NeedBit before after = Asks x × (new ≡ old) × (before ≡ []) × (after ≡ before)
 LedBy x old new (move.Ended o) before after = (x ≡ ends o) × (new ≡ old) × (after ≡ before)
