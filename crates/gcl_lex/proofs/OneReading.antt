@@ -31,8 +31,8 @@ same_piece {text = text} {n = n} {m = m} p q =
     let e = one_length text n m p q in
     (one_kind text n p (rw (← e) at q), e)
 
-above : (n most : ℕ) → most < n → nat_le n most ≡ false
-above n most h = grind (arith, nat_tests)
+above_fails : (n most : ℕ) → most < n → nat_le n most ≡ false
+above_fails n most h = grind (arith, nat_tests)
 
 ends_at : {k : PieceKind} {text : List ℕ} {n : ℕ} → Longest k text n → may_stand k (take n text) ≡ false → Ends text
 ends_at {text = text} p h = record { ends = λ {k = other} {n = m} q. let e = same_piece p q in rw (← e.0, ← e.1) h }
@@ -63,10 +63,10 @@ none_stands : {text : List ℕ} {k : PieceKind} {n : ℕ} → NoPiece text → L
 none_stands {k = k} {n = n} h l = let e = h k n l.within in let i = l.is in cc
 
 wide_ends : {rest : List ℕ} {n : ℕ} → Longest kind.Number rest n → GREATEST_LITERAL < digits_value 10 (take n rest) → Ends rest
-wide_ends l w = ends_at l (above _ GREATEST_LITERAL w)
+wide_ends l w = ends_at l (above_fails _ GREATEST_LITERAL w)
 
 long_ends : {rest : List ℕ} {n : ℕ} → Longest kind.Name rest n → LONGEST_NAME < n → Ends rest
-long_ends {rest} {n} l w = ends_at l (above _ LONGEST_NAME (let t = taken l in omega (arith, t, w)))
+long_ends {rest} {n} l w = ends_at l (above_fails _ LONGEST_NAME (let t = taken l in omega (arith, t, w)))
 
 not_empty : (text : List ℕ) → 0 < length text → text ≡ [] → ⊥
 not_empty text h e = let n = ap length e in omega (arith, h, n)

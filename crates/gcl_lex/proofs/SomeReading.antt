@@ -18,15 +18,15 @@ use Rattle.gcl_lex.proofs.Refusing.{rest_stops}
 abbrev Answered : List ℕ → Type 0
 Answered text = ((ts : List Token) × IsLexed text ts) ⊎ ((r : LexRefusal) × IsRefused text r)
 
-above : (n most : ℕ) → nat_le n most ≡ false → most < n
-above n most h = grind (arith, nat_tests)
+failing_is_above : (n most : ℕ) → nat_le n most ≡ false → most < n
+failing_is_above n most h = grind (arith, nat_tests)
 
 -- a piece that may not stand is a number that is too wide or a name that is too long
 piece_refused : {text rest : List ℕ} {at n : ℕ} (k : PieceKind) → PiecesReach text at rest → Longest k rest n → may_stand k (take n rest) ≡ false → (r : LexRefusal) × IsRefused text r
 piece_refused kind.Blank r l h = cc
 piece_refused kind.Comment r l h = cc
-piece_refused {rest = rest} {at = at} {n = n} kind.Number r l h = (number_too_wide at, wide_number r l (above (digits_value 10 (take n rest)) GREATEST_LITERAL h))
-piece_refused {rest = rest} {at = at} {n = n} kind.Name r l h = (name_too_long at, long_name r l (above n LONGEST_NAME (rw (taken l) at h)))
+piece_refused {rest = rest} {at = at} {n = n} kind.Number r l h = (number_too_wide at, wide_number r l (failing_is_above (digits_value 10 (take n rest)) GREATEST_LITERAL h))
+piece_refused {rest = rest} {at = at} {n = n} kind.Name r l h = (name_too_long at, long_name r l (failing_is_above n LONGEST_NAME (rw (taken l) at h)))
 piece_refused kind.Symbol r l h = cc
 
 -- the longest piece at the front of a rest, where there is one, may stand or not, and what follows it is shorter

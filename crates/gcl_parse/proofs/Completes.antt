@@ -18,7 +18,7 @@ use Rattle.gcl_parse.specs.inner.Pushdown as m
 use Rattle.gcl_parse.specs.inner.Pushdown.{Symbol, phrase, more, take_word, run, stops, accepts, goes_on, at_atom, at_sign, at_not, at_phrase, after_start, after_operand, may_end, a_program}
 use Rattle.gcl_parse.proofs.Steps as step
 use Rattle.gcl_parse.proofs.PhrasesPass.{Ends, reads_runs, ends_row, ends_tighter}
-use Rattle.gcl_parse.proofs.StatementsPass.{Closes, all_runs, block_runs}
+use Rattle.gcl_parse.proofs.StatementsPass.{Closes, all_runs, block_runs, brace_closes}
 
 -- tokens that meet what is expected
 abbrev pub fill_one : Symbol → List Word → List Word
@@ -164,9 +164,6 @@ start_stays v s c h n = go (begins_with v) refl
     go : (q : Option Start) → begins_with v ≡ q → Stays (take_word v (m.stmts ∷ s))
     go (Some b) e = rw e (begun_stays b s c h)
     go None e = rw e n
-
-brace_closes : (ts : List Word) → Closes (w.Sym y.RightBrace ∷ ts)
-brace_closes ts = record { no_start = refl; no_else = λ q. cc }
 
 pub stays : {s : List Symbol} (v : Word) → Sound s → Stays (take_word v s)
 unfolding take_word

@@ -13,7 +13,7 @@ next ts i d h = rw (add-one, drop-cons ts i d)
 test_true : (a b : ℕ) → (DEEPEST_NESTING < a) ⊎ (MOST_OPERATORS < b) → (nat_lt DEEPEST_NESTING a || nat_lt MOST_OPERATORS b) ≡ true
 test_true a b h = grind (arith, nat_tests)
 
-test_false : (a b : ℕ) → a ≤ DEEPEST_NESTING → b ≤ MOST_OPERATORS → (nat_lt DEEPEST_NESTING a || nat_lt MOST_OPERATORS b) ≡ false
+pub test_false : (a b : ℕ) → a ≤ DEEPEST_NESTING → b ≤ MOST_OPERATORS → (nat_lt DEEPEST_NESTING a || nat_lt MOST_OPERATORS b) ≡ false
 test_false a b h k = grind (arith, nat_tests)
 
 pub broken : (ts : List Token) (i : ℕ) (d : Token) (n c a b : ℕ) → i < length ts → a ≡ level_behind (get_or ts i d).kind n → b ≡ count_behind (get_or ts i d).kind c → (DEEPEST_NESTING < a) ⊎ (MOST_OPERATORS < b)
