@@ -6,7 +6,7 @@ use Rattle.gcl_core.specs.meaning.Outcomes.{zeros}
 use Rattle.gcl_core.specs.weighing.WeightedEnds.{weighted_ends}
 use Rattle.gcl_core.specs.weighing.Mass.{sum_of, failed_mass}
 use Rattle.frac128.specs.Fraction.{IsEqual}
-use Rattle.mass_tables.specs.Scale.{whole, amount}
+use Rattle.mass_tables.specs.Scale.{amount}
 use Rattle.mass_tables.specs.Reached.{draws_of}
 use Rattle.mass_tables.specs.Tables.{tables_of}
 use Rattle.mass_tables.specs.Width.{round_width}
