@@ -10,6 +10,7 @@ ghost use Rattle.mass_fold.specs.Body.{RoundBits, IsMass};
 ghost use Rattle.mass_fold.specs.inner.Metering.{bits_of};
 ghost use Rattle.mass_fold.specs.Refused.{IsLimit, RoundRefused};
 
+use crate::attempts::Attempts;
 use crate::body::fold_body;
 use crate::error::MassError;
 use crate::meter::Meter;
@@ -47,8 +48,11 @@ pub fn round_bits(
 {
     let _program = p.program();
     let nothing = Frac::of(0, 1);
+    let attempts = Attempts {
+        most: Some(attempts),
+    };
     let mut meter = Meter::Bits(nothing);
-    let (_table, ended) = fold_body(alloc, p, turns, Some(attempts), &mut meter)?;
+    let (_table, ended) = fold_body(alloc, p, turns, attempts, &mut meter)?;
     let failed = ended.failed;
     let _low = failed.num();
     Ok((bits_of(meter), failed))

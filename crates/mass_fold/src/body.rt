@@ -1,6 +1,6 @@
 // The body of a program, begun with every variable 0.
 
-ghost use Rattle.std.specs.Prelude.{◌≡◌, ◌≤◌, length, IfOk, IfErr, IfSome};
+ghost use Rattle.std.specs.Prelude.{◌≡◌, length, IfOk, IfErr};
 ghost use Rattle.gcl_core.specs.meaning.Outcomes.{zeros};
 ghost use Rattle.gcl_core.specs.meaning.Views.{source_of};
 ghost use Rattle.mass_tables.specs.Tables.{peak_of};
@@ -8,6 +8,7 @@ ghost use Rattle.mass_tables.specs.Width.{round_width};
 ghost use Rattle.mass_fold.specs.Amounts.{Blames};
 ghost use Rattle.mass_fold.specs.inner.Body.{BodyGives, BodyMeters};
 
+use crate::attempts::Attempts;
 use crate::ended::Ended;
 use crate::error::MassError;
 use crate::fold::fold_block;
@@ -23,14 +24,13 @@ pub fn fold_body(
     alloc: Global,
     p: &Checked,
     turns: u64,
-    attempts: Option<u64>,
+    attempts: Attempts,
     meter: &mut Meter,
 ) -> Result<(Table, Ended), MassError>
-    requires { IfSome attempts (λ r. 1 ≤ r) }
-    ensures ok { IfOk result (λ t. BodyGives (source_of p.now) turns attempts t.0.states.entries t.1) }
-    ensures bits { IfOk result (λ t. BodyMeters (source_of p.now) turns attempts meter.old meter.new) }
+    ensures ok { IfOk result (λ t. BodyGives (source_of p.now) turns attempts.most t.0.states.entries t.1) }
+    ensures bits { IfOk result (λ t. BodyMeters (source_of p.now) turns attempts.most meter.old meter.new) }
     ensures vars { IfOk result (λ t. t.0.vars ≡ length (source_of p.now).names) }
-    ensures cause { IfErr result (λ e. Blames e (round_width (source_of p.now) turns attempts) (peak_of (source_of p.now) turns attempts)) }
+    ensures cause { IfErr result (λ e. Blames e (round_width (source_of p.now) turns attempts.most) (peak_of (source_of p.now) turns attempts.most)) }
 {
     let program = p.program();
     let table = Table::start(alloc, program.names.count())?;

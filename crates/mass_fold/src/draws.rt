@@ -13,6 +13,7 @@ ghost use Rattle.mass_fold.specs.declared.ended.Ended.{Ended};
 ghost use Rattle.mass_fold.specs.inner.Ended.{end_of};
 ghost use Rattle.mass_fold.specs.inner.Steps.{DrawsTo, DrawBlames, IsParts, PartsBlame, IsPower, PowerBlames, SpreadGives, SpreadBlames, AddedBy, StoppedBy, BlamedBy, UniformTo, UniformBlames, EntryBlames, at_numbers};
 
+use crate::attempts::Attempts;
 use crate::ended::{Ended, Gone};
 use crate::error::MassError;
 use crate::state::State;
@@ -39,17 +40,16 @@ pub fn power(base: &Frac, count: u64) -> Option<Frac>
 
 /// The weights of one number of a draw with so many numbers, and of none of them, under a limit of attempts or none; no weights where
 /// they do not fit.
-pub fn parts(bound: u64, attempts: Option<u64>) -> Option<(Frac, Frac)>
+pub fn parts(bound: u64, attempts: Attempts) -> Option<(Frac, Frac)>
     requires least { 1 ≤ bound }
     requires most { bound ≤ 2 ^ 63 }
-    requires some { IfSome attempts (λ r. 1 ≤ r) }
-    ensures value { IfSome result (λ t. IsParts bound attempts t.0 t.1) }
-    ensures cause { IfNone result (PartsBlame bound attempts) }
+    ensures value { IfSome result (λ t. IsParts bound attempts.most t.0 t.1) }
+    ensures cause { IfNone result (PartsBlame bound attempts.most) }
 {
     let nothing = Frac::of(0, 1);
     let wide = u128::from(bound);
     let each = Frac::of(1, wide);
-    let Some(limit) = attempts else {
+    let Some(limit) = attempts.most else {
         return Some((each, nothing));
     };
     let all = 2u128.pow(bits_for(bound));
@@ -120,7 +120,7 @@ fn draw_state(
     alloc: Global,
     x: u32,
     bound: u64,
-    attempts: Option<u64>,
+    attempts: Attempts,
     s: &State,
     f: &Frac,
     next: &mut Table,
@@ -130,11 +130,10 @@ fn draw_state(
     requires place { x < length s.now }
     requires least { 1 ≤ bound }
     requires most { bound < 2 ^ 63 }
-    requires some { IfSome attempts (λ r. 1 ≤ r) }
-    ensures added { OnOk result (AddedBy (class_weight bound attempts 1) next.old.states.entries next.new.states.entries f.now (at_numbers x bound s.now)) }
-    ensures stopped { OnOk result (StoppedBy (no_class_weight bound attempts) ended.old ended.new f.now (λ G. G (limit limit_kind.Attempts))) }
+    ensures added { OnOk result (AddedBy (class_weight bound attempts.most 1) next.old.states.entries next.new.states.entries f.now (at_numbers x bound s.now)) }
+    ensures stopped { OnOk result (StoppedBy (no_class_weight bound attempts.most) ended.old ended.new f.now (λ G. G (limit limit_kind.Attempts))) }
     ensures vars { next.new.vars ≡ next.old.vars }
-    ensures cause { IfErr result (BlamedBy (class_weight bound attempts 1) (no_class_weight bound attempts) next.old.states.entries ended.old f.now (at_numbers x bound s.now) (λ G. G (limit limit_kind.Attempts))) }
+    ensures cause { IfErr result (BlamedBy (class_weight bound attempts.most 1) (no_class_weight bound attempts.most) next.old.states.entries ended.old f.now (at_numbers x bound s.now) (λ G. G (limit limit_kind.Attempts))) }
 {
     let (part, rest) = parts(bound, attempts).ok_or(MassError::TooWide)?;
     let h = f.mul(&part).ok_or(MassError::TooWide)?;
@@ -148,7 +147,7 @@ fn draw_entry(
     alloc: Global,
     x: u32,
     e: &Expr,
-    attempts: Option<u64>,
+    attempts: Attempts,
     s: &State,
     f: &Frac,
     next: &mut Table,
@@ -157,11 +156,10 @@ fn draw_entry(
     requires sized { length s.now ≡ next.old.vars }
     requires place { x < length s.now }
     requires reads { ExpressionBelow (expression_of e.now) (length s.now) }
-    requires some { IfSome attempts (λ r. 1 ≤ r) }
-    ensures added { OnOk result (AddedBy (part_at (value_of (expression_of e.now)) attempts s.now) next.old.states.entries next.new.states.entries f.now (λ G. drawn x (value_of (expression_of e.now)) G s.now)) }
-    ensures stopped { OnOk result (StoppedBy (rest_at (value_of (expression_of e.now)) attempts s.now) ended.old ended.new f.now (λ G. undrawn (value_of (expression_of e.now)) G s.now)) }
+    ensures added { OnOk result (AddedBy (part_at (value_of (expression_of e.now)) attempts.most s.now) next.old.states.entries next.new.states.entries f.now (λ G. drawn x (value_of (expression_of e.now)) G s.now)) }
+    ensures stopped { OnOk result (StoppedBy (rest_at (value_of (expression_of e.now)) attempts.most s.now) ended.old ended.new f.now (λ G. undrawn (value_of (expression_of e.now)) G s.now)) }
     ensures vars { next.new.vars ≡ next.old.vars }
-    ensures cause { IfErr result (EntryBlames x (value_of (expression_of e.now)) attempts next.old.states.entries ended.old s.now f.now) }
+    ensures cause { IfErr result (EntryBlames x (value_of (expression_of e.now)) attempts.most next.old.states.entries ended.old s.now f.now) }
 {
     match eval(e, s.values()) {
         Err(fault) => ended.add(gone(fault), f),
@@ -179,16 +177,15 @@ pub fn draw(
     alloc: Global,
     x: u32,
     e: &Expr,
-    attempts: Option<u64>,
+    attempts: Attempts,
     table: Table,
     ended: &mut Ended,
 ) -> Result<Table, MassError>
     requires place { x < table.vars }
     requires reads { ExpressionBelow (expression_of e.now) table.vars }
-    requires some { IfSome attempts (λ r. 1 ≤ r) }
-    ensures ok { IfOk result (λ t. UniformTo x (value_of (expression_of e.now)) attempts table.states.entries ended.old t.states.entries ended.new) }
+    ensures ok { IfOk result (λ t. UniformTo x (value_of (expression_of e.now)) attempts.most table.states.entries ended.old t.states.entries ended.new) }
     ensures vars { IfOk result (λ t. t.vars ≡ table.vars) }
-    ensures cause { IfErr result (UniformBlames x (value_of (expression_of e.now)) attempts table.states.entries ended.old) }
+    ensures cause { IfErr result (UniformBlames x (value_of (expression_of e.now)) attempts.most table.states.entries ended.old) }
 {
     let mut next = Table::new(alloc, table.vars);
     for (s, f) in table.states {

@@ -1,6 +1,6 @@
 // A table through a block.
 
-ghost use Rattle.std.specs.Prelude.{◌≡◌, ◌<◌, ◌≤◌, length, IfOk, IfErr, IfSome};
+ghost use Rattle.std.specs.Prelude.{◌≡◌, ◌<◌, ◌≤◌, length, IfOk, IfErr};
 ghost use Rattle.std.specs.List.{sum};
 ghost use Rattle.frac128.specs.Fraction.{IsEqual};
 ghost use Rattle.gcl_core.specs.meaning.Arms.{parts_of};
@@ -14,6 +14,7 @@ ghost use Rattle.mass_tables.specs.Reached.{statement_draws, block_draws};
 ghost use Rattle.mass_fold.specs.inner.Fold.{FoldsTo, FoldBlames, FoldsOne, OneBlames, turns_flow, ArmsFold, ArmsBlame};
 ghost use Rattle.mass_fold.specs.inner.Metering.{Meters, MetersOne, turns_draws, ArmsMeter};
 
+use crate::attempts::Attempts;
 use crate::choosing::{sides, total, undecided, weighed};
 use crate::draws::draw;
 use crate::ended::{Ended, Gone};
@@ -31,18 +32,17 @@ pub fn fold_block(
     alloc: Global,
     b: &Block,
     turns: u64,
-    attempts: Option<u64>,
+    attempts: Attempts,
     table: Table,
     ended: &mut Ended,
     meter: &mut Meter,
 ) -> Result<Table, MassError>
     requires below { BlockBelow table.vars (statements_of b.now) }
     requires weights { BlockIsWeighed (statements_of b.now) }
-    requires some { IfSome attempts (λ r. 1 ≤ r) }
-    ensures ok { IfOk result (λ t. FoldsTo (block_flow turns attempts (statements_of b.now)) table.states.entries ended.old t.states.entries ended.new) }
-    ensures bits { IfOk result (λ t. Meters attempts (block_flow turns attempts (statements_of b.now)) (block_draws turns attempts (statements_of b.now)) table.states.entries ended.old meter.old meter.new) }
+    ensures ok { IfOk result (λ t. FoldsTo (block_flow turns attempts.most (statements_of b.now)) table.states.entries ended.old t.states.entries ended.new) }
+    ensures bits { IfOk result (λ t. Meters attempts.most (block_flow turns attempts.most (statements_of b.now)) (block_draws turns attempts.most (statements_of b.now)) table.states.entries ended.old meter.old meter.new) }
     ensures vars { IfOk result (λ t. t.vars ≡ table.vars) }
-    ensures cause { IfErr result (FoldBlames (block_flow turns attempts (statements_of b.now)) table.states.entries ended.old) }
+    ensures cause { IfErr result (FoldBlames (block_flow turns attempts.most (statements_of b.now)) table.states.entries ended.old) }
 {
     let mut now = table;
     for s in &b.stmts {
@@ -57,18 +57,17 @@ fn fold_stmt(
     alloc: Global,
     s: &Stmt,
     turns: u64,
-    attempts: Option<u64>,
+    attempts: Attempts,
     table: Table,
     ended: &mut Ended,
     meter: &mut Meter,
 ) -> Result<Table, MassError>
     requires below { StatementBelow table.vars (statement_of s.now) }
     requires weights { StatementIsWeighed (statement_of s.now) }
-    requires some { IfSome attempts (λ r. 1 ≤ r) }
-    ensures ok { IfOk result (λ t. FoldsOne (statement_flow turns attempts (statement_of s.now)) table.states.entries ended.old t.states.entries ended.new) }
-    ensures bits { IfOk result (λ t. MetersOne attempts (statement_flow turns attempts (statement_of s.now)) (statement_draws turns attempts (statement_of s.now)) table.states.entries ended.old meter.old meter.new) }
+    ensures ok { IfOk result (λ t. FoldsOne (statement_flow turns attempts.most (statement_of s.now)) table.states.entries ended.old t.states.entries ended.new) }
+    ensures bits { IfOk result (λ t. MetersOne attempts.most (statement_flow turns attempts.most (statement_of s.now)) (statement_draws turns attempts.most (statement_of s.now)) table.states.entries ended.old meter.old meter.new) }
     ensures vars { IfOk result (λ t. t.vars ≡ table.vars) }
-    ensures cause { IfErr result (OneBlames (statement_flow turns attempts (statement_of s.now)) table.states.entries ended.old) }
+    ensures cause { IfErr result (OneBlames (statement_flow turns attempts.most (statement_of s.now)) table.states.entries ended.old) }
 {
     if table.states.len() == 0 {
         return Ok(table);
@@ -116,7 +115,7 @@ fn fold_arms(
     arms: &Arms,
     part: &Frac,
     turns: u64,
-    attempts: Option<u64>,
+    attempts: Attempts,
     table: &Table,
     ended: &mut Ended,
     meter: &mut Meter,
@@ -125,13 +124,12 @@ fn fold_arms(
     requires parts { AreParts (parts_of (list_of_arms arms.now)) }
     requires weights { ArmsAreWeighed (list_of_arms arms.now) }
     requires above { 1 ≤ part.now.0 }
-    requires equal { IsEqual part.now (class_weight (sum (parts_of (list_of_arms arms.now))) attempts 1) }
-    requires some { IfSome attempts (λ r. 1 ≤ r) }
+    requires equal { IsEqual part.now (class_weight (sum (parts_of (list_of_arms arms.now))) attempts.most 1) }
     requires any { 1 ≤ length table.now.states.entries }
-    ensures ok { IfOk result (λ t. ArmsFold turns attempts (list_of_arms arms.now) table.now.states.entries ended.old t.states.entries ended.new) }
-    ensures bits { IfOk result (λ t. ArmsMeter turns attempts (list_of_arms arms.now) table.now.states.entries ended.old meter.old meter.new) }
+    ensures ok { IfOk result (λ t. ArmsFold turns attempts.most (list_of_arms arms.now) table.now.states.entries ended.old t.states.entries ended.new) }
+    ensures bits { IfOk result (λ t. ArmsMeter turns attempts.most (list_of_arms arms.now) table.now.states.entries ended.old meter.old meter.new) }
     ensures vars { IfOk result (λ t. t.vars ≡ table.now.vars) }
-    ensures cause { IfErr result (ArmsBlame turns attempts (list_of_arms arms.now) table.now.states.entries ended.old) }
+    ensures cause { IfErr result (ArmsBlame turns attempts.most (list_of_arms arms.now) table.now.states.entries ended.old) }
 {
     let mut out = Table::new(alloc, table.vars);
     for (count, block) in &arms.arms {
@@ -148,7 +146,7 @@ fn fold_loop(
     body: &Block,
     e: &Expr,
     turns: u64,
-    attempts: Option<u64>,
+    attempts: Attempts,
     table: Table,
     ended: &mut Ended,
     meter: &mut Meter,
@@ -156,11 +154,10 @@ fn fold_loop(
     requires reads { ExpressionBelow (expression_of e.now) table.vars }
     requires below { BlockBelow table.vars (statements_of body.now) }
     requires weights { BlockIsWeighed (statements_of body.now) }
-    requires some { IfSome attempts (λ r. 1 ≤ r) }
-    ensures ok { IfOk result (λ t. FoldsOne (turns_flow turns attempts (expression_of e.now) (statements_of body.now)) table.states.entries ended.old t.states.entries ended.new) }
-    ensures bits { IfOk result (λ t. MetersOne attempts (turns_flow turns attempts (expression_of e.now) (statements_of body.now)) (turns_draws turns attempts (expression_of e.now) (statements_of body.now)) table.states.entries ended.old meter.old meter.new) }
+    ensures ok { IfOk result (λ t. FoldsOne (turns_flow turns attempts.most (expression_of e.now) (statements_of body.now)) table.states.entries ended.old t.states.entries ended.new) }
+    ensures bits { IfOk result (λ t. MetersOne attempts.most (turns_flow turns attempts.most (expression_of e.now) (statements_of body.now)) (turns_draws turns attempts.most (expression_of e.now) (statements_of body.now)) table.states.entries ended.old meter.old meter.new) }
     ensures vars { IfOk result (λ t. t.vars ≡ table.vars) }
-    ensures cause { IfErr result (OneBlames (turns_flow turns attempts (expression_of e.now) (statements_of body.now)) table.states.entries ended.old) }
+    ensures cause { IfErr result (OneBlames (turns_flow turns attempts.most (expression_of e.now) (statements_of body.now)) table.states.entries ended.old) }
 {
     let mut exits = Table::new(alloc, table.vars);
     let mut now = table;

@@ -1,6 +1,7 @@
 //! Exact masses by merged tables of states, and the bits of the draws on their way.
 #![tactic(auto)]
 
+mod attempts;
 mod bits;
 mod body;
 mod choosing;

@@ -12,6 +12,7 @@ ghost use Rattle.mass_fold.specs.Masses.{RoundGives, WholeWithin};
 ghost use Rattle.mass_fold.specs.Refused.{IsLimit, RoundRefused, MassRefused};
 ghost use Rattle.mass_fold.specs.Rows.{AreMasses};
 
+use crate::attempts::Attempts;
 use crate::body::fold_body;
 use crate::error::MassError;
 use crate::meter::Meter;
@@ -28,12 +29,11 @@ fn one_round(
     alloc: Global,
     p: &Checked,
     turns: u64,
-    attempts: Option<u64>,
+    attempts: Attempts,
 ) -> Result<(BTreeMap<Outcome, Frac>, Frac), MassError>
-    requires { IfSome attempts (λ r. 1 ≤ r) }
-    ensures ok { IfOk result (λ t. RoundGives (source_of p.now) turns attempts t.0.entries t.1) }
-    ensures cause { IfErr result (λ e. RoundRefused e (source_of p.now) turns attempts) }
-    ensures wider { (R : Option ℕ) → round_width (source_of p.now) turns attempts ≤ width_of (source_of p.now) turns attempts R }
+    ensures ok { IfOk result (λ t. RoundGives (source_of p.now) turns attempts.most t.0.entries t.1) }
+    ensures cause { IfErr result (λ e. RoundRefused e (source_of p.now) turns attempts.most) }
+    ensures wider { (R : Option ℕ) → round_width (source_of p.now) turns attempts.most ≤ width_of (source_of p.now) turns attempts.most R }
 {
     let program = p.program();
     let mut meter = Meter::Off;
@@ -63,7 +63,7 @@ pub fn round(
     ensures failed { IfOk result (λ t. t.failed ≡ lowest (failed_mass (source_of p.now) turns attempts)) }
     ensures refused { IfErr result (λ e. RoundRefused e (source_of p.now) turns attempts) }
 {
-    let (table, failed) = one_round(alloc, p, turns, attempts)?;
+    let (table, failed) = one_round(alloc, p, turns, Attempts { most: attempts })?;
     let _low = failed.num();
     Ok(Round {
         rows: FracRows::of(alloc, table)?,
@@ -94,7 +94,7 @@ pub fn mass(
     ensures parts { IfOk result (λ rows. IfNone rounds (WholeWithin (width_of (source_of p.now) turns attempts rounds) rows)) }
     ensures refused { IfErr result (λ e. MassRefused e (source_of p.now) turns attempts rounds) }
 {
-    let (table, failed) = one_round(alloc, p, turns, attempts)?;
+    let (table, failed) = one_round(alloc, p, turns, Attempts { most: attempts })?;
     let _low = failed.num();
     match rounds {
         Some(count) => FracRows::of(alloc, in_rounds(alloc, table, &failed, count)?),

@@ -12,6 +12,7 @@ ghost use Rattle.gcl_core.specs.meaning.Views.{expression_of, list_of_arms};
 ghost use Rattle.mass_tables.specs.Scale.{whole, Whole};
 ghost use Rattle.mass_fold.specs.inner.Metering.{CountedOn, AddsBits, IsPrice, PriceBlames, bound_price, IsBoundPriced, CountsAll, CountsDraws};
 
+use crate::attempts::Attempts;
 use crate::choosing::total;
 use crate::draws::parts;
 use crate::state::State;
@@ -60,12 +61,11 @@ fn add(meter: Meter, bits: &Frac, f: &Frac) -> Meter
 }
 
 // The bits of a draw with so many numbers on average, where an attempt reads `undecided` over 2^k; none, where they do not fit.
-fn price(undecided: u128, bound: u64, attempts: Option<u64>) -> Option<Frac>
+fn price(undecided: u128, bound: u64, attempts: Attempts) -> Option<Frac>
     requires least { 1 ≤ bound }
     requires most { bound ≤ 2 ^ 63 }
-    requires some { IfSome attempts (λ r. 1 ≤ r) }
-    ensures value { IfSome result (IsPrice undecided bound attempts) }
-    ensures cause { IfNone result (PriceBlames undecided bound attempts) }
+    ensures value { IfSome result (IsPrice undecided bound attempts.most) }
+    ensures cause { IfNone result (PriceBlames undecided bound attempts.most) }
 {
     let (part, _) = parts(bound, attempts)?;
     part.mul(&Frac::of(undecided, 1))
@@ -83,11 +83,10 @@ fn add_each(meter: Meter, bits: &Frac, table: &Table) -> Meter
 }
 
 /// The meter, with the draw of a choice for each entry.
-pub fn count_choice(meter: Meter, p: Weight, attempts: Option<u64>, table: &Table) -> Meter
+pub fn count_choice(meter: Meter, p: Weight, attempts: Attempts, table: &Table) -> Meter
     requires weight { IsWeight p }
-    requires some { IfSome attempts (λ r. 1 ≤ r) }
     requires table { 1 ≤ length table.now.states.entries }
-    ensures { CountsDraws attempts p.den (choice_ends p) table.now.states.entries meter result }
+    ensures { CountsDraws attempts.most p.den (choice_ends p) table.now.states.entries meter result }
 {
     match meter {
         Meter::Off => Meter::Off,
@@ -116,11 +115,10 @@ fn attempt_of(arms: &Arms) -> u128
 }
 
 /// The meter, with the draw of a choice among several for each entry.
-pub fn count_arms(meter: Meter, arms: &Arms, attempts: Option<u64>, table: &Table) -> Meter
+pub fn count_arms(meter: Meter, arms: &Arms, attempts: Attempts, table: &Table) -> Meter
     requires parts { AreParts (parts_of (list_of_arms arms.now)) }
-    requires some { IfSome attempts (λ r. 1 ≤ r) }
     requires table { 1 ≤ length table.now.states.entries }
-    ensures { CountsDraws attempts (sum (parts_of (list_of_arms arms.now))) (partial_sums (parts_of (list_of_arms arms.now))) table.now.states.entries meter result }
+    ensures { CountsDraws attempts.most (sum (parts_of (list_of_arms arms.now))) (partial_sums (parts_of (list_of_arms arms.now))) table.now.states.entries meter result }
 {
     match meter {
         Meter::Off => Meter::Off,
@@ -133,10 +131,9 @@ pub fn count_arms(meter: Meter, arms: &Arms, attempts: Option<u64>, table: &Tabl
 }
 
 // The meter, with the draw of one state of weight f, with as many numbers as an expression says.
-fn count_bound(meter: Meter, e: &Expr, attempts: Option<u64>, s: &State, f: &Frac) -> Meter
-    requires reads { ExpressionBelow (expression_of e.now) (length s.now) }
-    requires some { IfSome attempts (λ r. 1 ≤ r) }
-    ensures { CountsAll (IsBoundPriced (value_of (expression_of e.now)) attempts) (bound_price (value_of (expression_of e.now)) attempts) ((s.now, f.now) ∷ []) meter result }
+fn count_bound(meter: Meter, e: &Expr, attempts: Attempts, s: &State, f: &Frac) -> Meter
+    requires { ExpressionBelow (expression_of e.now) (length s.now) }
+    ensures { CountsAll (IsBoundPriced (value_of (expression_of e.now)) attempts.most) (bound_price (value_of (expression_of e.now)) attempts.most) ((s.now, f.now) ∷ []) meter result }
 {
     match meter {
         Meter::Off => Meter::Off,
@@ -157,10 +154,9 @@ fn count_bound(meter: Meter, e: &Expr, attempts: Option<u64>, s: &State, f: &Fra
 }
 
 /// The meter, with the uniform draw of each entry.
-pub fn count_uniform(meter: Meter, e: &Expr, attempts: Option<u64>, table: &Table) -> Meter
-    requires reads { ExpressionBelow (expression_of e.now) table.now.vars }
-    requires some { IfSome attempts (λ r. 1 ≤ r) }
-    ensures { CountsAll (IsBoundPriced (value_of (expression_of e.now)) attempts) (bound_price (value_of (expression_of e.now)) attempts) table.now.states.entries meter result }
+pub fn count_uniform(meter: Meter, e: &Expr, attempts: Attempts, table: &Table) -> Meter
+    requires { ExpressionBelow (expression_of e.now) table.now.vars }
+    ensures { CountsAll (IsBoundPriced (value_of (expression_of e.now)) attempts.most) (bound_price (value_of (expression_of e.now)) attempts.most) table.now.states.entries meter result }
 {
     if let Meter::Off = meter {
         return Meter::Off;

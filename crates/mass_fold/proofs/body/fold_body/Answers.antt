@@ -14,16 +14,16 @@ returns-clause-ok c =
     let same = c.program-program.ensures.same in
     let w = subst (λ q. BlockIsWeighed (statements_of q.body)) (sym same) c.program-program.ensures.weights in
     let one = c.in_ok-table.ensures.one ∙ ap (λ n. (zeros n, (1, 1)) ∷ []) c.count.ensures in
-    subst (λ q. BodyGives (source_of q) c.args.turns c.args.attempts c.in_ok-table-2.table.states.entries c.fold_block.new.ended) same
-    (body_gives (source_of c.program-program.result.now) c.args.turns c.args.attempts w _ c.none-ended.result one c.none-ended.ensures _ _ c.in_ok-table-2.ensures.ok)
+    subst (λ q. BodyGives (source_of q) c.args.turns c.args.attempts.most c.in_ok-table-2.table.states.entries c.fold_block.new.ended) same
+    (body_gives (source_of c.program-program.result.now) c.args.turns c.args.attempts.most w _ c.none-ended.result one c.none-ended.ensures _ _ c.in_ok-table-2.ensures.ok)
 
 pub returns-clause-bits : goal.returns-clause-bits
 returns-clause-bits c =
     let same = c.program-program.ensures.same in
     let w = subst (λ q. BlockIsWeighed (statements_of q.body)) (sym same) c.program-program.ensures.weights in
     let one = c.in_ok-table.ensures.one ∙ ap (λ n. (zeros n, (1, 1)) ∷ []) c.count.ensures in
-    subst (λ q. BodyMeters (source_of q) c.args.turns c.args.attempts c.args.meter.now c.fold_block.new.meter) same
-    (body_meters (source_of c.program-program.result.now) c.args.turns c.args.attempts w _ c.none-ended.result one c.none-ended.ensures _ _ c.in_ok-table-2.ensures.bits)
+    subst (λ q. BodyMeters (source_of q) c.args.turns c.args.attempts.most c.args.meter.now c.fold_block.new.meter) same
+    (body_meters (source_of c.program-program.result.now) c.args.turns c.args.attempts.most w _ c.none-ended.result one c.none-ended.ensures _ _ c.in_ok-table-2.ensures.bits)
 
 pub returns-in_err-table-2-clause-cause : goal.returns-in_err-table-2-clause-cause
 returns-in_err-table-2-clause-cause c =
@@ -31,5 +31,5 @@ returns-in_err-table-2-clause-cause c =
     let w = subst (λ q. BlockIsWeighed (statements_of q.body)) (sym same) c.program-program.ensures.weights in
     let one = c.in_ok-table.ensures.one ∙ ap (λ n. (zeros n, (1, 1)) ∷ []) c.count.ensures in
     let out : c.from_residual-in_err-table-2.result ≡ Err c.in_err-table-2.field-0.0 = grind arith in
-    rw out (subst (λ q. Blames c.in_err-table-2.field-0.0 (round_width (source_of q) c.args.turns c.args.attempts) (peak_of (source_of q) c.args.turns c.args.attempts)) same
-    (body_blames (source_of c.program-program.result.now) c.args.turns c.args.attempts w _ c.none-ended.result one c.none-ended.ensures _ c.in_err-table-2.ensures.cause))
+    rw out (subst (λ q. Blames c.in_err-table-2.field-0.0 (round_width (source_of q) c.args.turns c.args.attempts.most) (peak_of (source_of q) c.args.turns c.args.attempts.most)) same
+    (body_blames (source_of c.program-program.result.now) c.args.turns c.args.attempts.most w _ c.none-ended.result one c.none-ended.ensures _ c.in_err-table-2.ensures.cause))

@@ -24,14 +24,14 @@ returns-then-num-eq0-clause-value c =
     let b = c.args.bound in
     let is = as_again b _ _ _ c.from-wide.ensures (as_power b _ c.bits_for.ensures.value _ c.pow-all.ensures) c.of-again.ensures.equal in
     subst (λ r. IsParts b r c.of-each.result c.of-nothing.result) (sym c.in-Some.is)
-    (parts_certain b c.requires.least c.in-Some.limit (some_attempt _ _ c.in-Some.is c.requires.some) c.of-again.result c.of-again.ensures.lowest is c.of-each.result c.of-nothing.result
+    (parts_certain b c.requires.least c.in-Some.limit (some_attempt _ _ c.in-Some.is c.args.attempts.some) c.of-again.result c.of-again.ensures.lowest is c.of-each.result c.of-nothing.result
     (sym c.num.ensures.value ∙ c.if-num-eq0.true) c.of-each.ensures.lowest c.of-nothing.ensures.lowest (as_over b _ _ c.from-wide.ensures c.of-each.ensures.equal) c.of-nothing.ensures.equal)
 
 pub returns-in_err-rest-clause-cause : goal.returns-in_err-rest-clause-cause
 returns-in_err-rest-clause-cause c =
     let b = c.args.bound in
     let is = as_again b _ _ _ c.from-wide.ensures (as_power b _ c.bits_for.ensures.value _ c.pow-all.ensures) c.of-again.ensures.equal in
-    let all = parts_refused b c.requires.least c.in-Some.limit (some_attempt _ _ c.in-Some.is c.requires.some) c.of-again.result c.of-again.ensures.lowest is c.in_err-rest.ensures.cause in
+    let all = parts_refused b c.requires.least c.in-Some.limit (some_attempt _ _ c.in-Some.is c.args.attempts.some) c.of-again.result c.of-again.ensures.lowest is c.in_err-rest.ensures.cause in
     let out : c.from_residual.result ≡ None = grind arith in
     rw out (subst (PartsBlame b) (sym c.in-Some.is) all)
 
@@ -39,7 +39,7 @@ pub returns-in_err-mul-clause-cause : goal.returns-in_err-mul-clause-cause
 returns-in_err-mul-clause-cause c =
     let b = c.args.bound in
     let is = as_again b _ _ _ c.from-wide.ensures (as_power b _ c.bits_for.ensures.value _ c.pow-all.ensures) c.of-again.ensures.equal in
-    let all = part_refused b c.requires.least c.in-Some.limit (some_attempt _ _ c.in-Some.is c.requires.some) c.of-again.result c.of-again.ensures.lowest is c.in_ok-rest.rest c.of-given.result c.of-each.result
+    let all = part_refused b c.requires.least c.in-Some.limit (some_attempt _ _ c.in-Some.is c.args.attempts.some) c.of-again.result c.of-again.ensures.lowest is c.in_ok-rest.rest c.of-given.result c.of-each.result
     c.in_ok-rest.ensures.value c.of-given.ensures.lowest c.of-each.ensures.lowest
     (as_given c.in_ok-rest.rest c.of-given.result _ _ _ c.den.ensures.value c.num-2.ensures.value c.den-2.ensures.value c.of-given.ensures.equal)
     (as_over b _ _ c.from-wide.ensures c.of-each.ensures.equal) (sym c.in_err-mul.ensures) in
@@ -51,7 +51,7 @@ returns-clause-value c =
     let b = c.args.bound in
     let is = as_again b _ _ _ c.from-wide.ensures (as_power b _ c.bits_for.ensures.value _ c.pow-all.ensures) c.of-again.ensures.equal in
     subst (λ r. IsParts b r c.in_ok-mul.field-0 c.in_ok-rest.rest) (sym c.in-Some.is)
-    (parts_limited b c.requires.least c.in-Some.limit (some_attempt _ _ c.in-Some.is c.requires.some) c.of-again.result c.of-again.ensures.lowest is c.in_ok-rest.rest c.of-given.result c.of-each.result
+    (parts_limited b c.requires.least c.in-Some.limit (some_attempt _ _ c.in-Some.is c.args.attempts.some) c.of-again.result c.of-again.ensures.lowest is c.in_ok-rest.rest c.of-given.result c.of-each.result
     c.in_ok-rest.ensures.value c.of-given.ensures.lowest c.of-each.ensures.lowest
     (as_given c.in_ok-rest.rest c.of-given.result _ _ _ c.den.ensures.value c.num-2.ensures.value c.den-2.ensures.value c.of-given.ensures.equal)
     (as_over b _ _ c.from-wide.ensures c.of-each.ensures.equal) c.in_ok-mul.field-0 (sym c.in_ok-mul.ensures))

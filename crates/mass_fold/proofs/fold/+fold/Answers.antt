@@ -32,7 +32,7 @@ fold_block-fold_stmt-requires t c =
       search (rules, the_lemmas),
       (
         subst (λ m. StatementBelow m (statement_of c.s-item.result)) (sym c.loop-s.invariant.vars) (below_next m _ _ _ p (c.loop-s.invariant.below m (below_list m _ _ c.deref-s-items.ensures.value c.requires.below))).0,
-        ((weights_next _ _ _ p (c.loop-s.invariant.weights (along_list _ _ c.deref-s-items.ensures.value c.requires.weights))).0, c.requires.some),
+        (weights_next _ _ _ p (c.loop-s.invariant.weights (along_list _ _ c.deref-s-items.ensures.value c.requires.weights))).0,
       ),
     )
 
@@ -40,8 +40,8 @@ pub fold_block-returns-in_err-now-clause-cause : goal.fold_block-returns-in_err-
 fold_block-returns-in_err-now-clause-cause t c =
     let p = list_step c.deref-s-items.result.now c.loop-s.s-index c.s-item.result c.loop-s-test.true c.s-item.is in
     let out : c.from_residual.result ≡ Err c.in_err-now.field-0.0 = grind arith in
-    rw out (subst (λ z. FoldBlames (block_flow c.args.turns c.args.attempts (list_of z)) c.args.table.states.entries c.args.ended.now c.in_err-now.field-0.0) c.deref-s-items.ensures.value
-    (blames_here c.args.turns c.args.attempts (block_flow c.args.turns c.args.attempts (list_of c.deref-s-items.result.now)) _ _ _ _ _ _ _ _ p c.loop-s.invariant.blames c.in_err-now.ensures.cause))
+    rw out (subst (λ z. FoldBlames (block_flow c.args.turns c.args.attempts.most (list_of z)) c.args.table.states.entries c.args.ended.now c.in_err-now.field-0.0) c.deref-s-items.ensures.value
+    (blames_here c.args.turns c.args.attempts.most (block_flow c.args.turns c.args.attempts.most (list_of c.deref-s-items.result.now)) _ _ _ _ _ _ _ _ p c.loop-s.invariant.blames c.in_err-now.ensures.cause))
 
 pub fold_block-loop-s-preserved : goal.fold_block-loop-s-preserved
 fold_block-loop-s-preserved t c =
@@ -51,18 +51,18 @@ fold_block-loop-s-preserved t c =
       below = λ m h. (below_next m _ _ _ p (c.loop-s.invariant.below m h)).1;
       weights = λ h. (weights_next _ _ _ p (c.loop-s.invariant.weights h)).1;
       vars = c.in_ok-now.ensures.vars ∙ c.loop-s.invariant.vars;
-      so_far = rest_next c.args.turns c.args.attempts (block_flow c.args.turns c.args.attempts (list_of c.deref-s-items.result.now)) _ _ _ _ _ _ _ _ _ p c.loop-s.invariant.so_far c.in_ok-now.ensures.ok;
-      bits = meters_next c.args.turns c.args.attempts (block_flow c.args.turns c.args.attempts (list_of c.deref-s-items.result.now)) (block_draws c.args.turns c.args.attempts (list_of c.deref-s-items.result.now)) _ _ _ _ _ _ _ _ _ _ _ _ p c.loop-s.invariant.bits c.in_ok-now.ensures.ok c.in_ok-now.ensures.bits;
-      blames = blames_next c.args.turns c.args.attempts (block_flow c.args.turns c.args.attempts (list_of c.deref-s-items.result.now)) _ _ _ _ _ _ _ _ _ p w c.loop-s.invariant.blames c.in_ok-now.ensures.ok;
+      so_far = rest_next c.args.turns c.args.attempts.most (block_flow c.args.turns c.args.attempts.most (list_of c.deref-s-items.result.now)) _ _ _ _ _ _ _ _ _ p c.loop-s.invariant.so_far c.in_ok-now.ensures.ok;
+      bits = meters_next c.args.turns c.args.attempts.most (block_flow c.args.turns c.args.attempts.most (list_of c.deref-s-items.result.now)) (block_draws c.args.turns c.args.attempts.most (list_of c.deref-s-items.result.now)) _ _ _ _ _ _ _ _ _ _ _ _ p c.loop-s.invariant.bits c.in_ok-now.ensures.ok c.in_ok-now.ensures.bits;
+      blames = blames_next c.args.turns c.args.attempts.most (block_flow c.args.turns c.args.attempts.most (list_of c.deref-s-items.result.now)) _ _ _ _ _ _ _ _ _ p w c.loop-s.invariant.blames c.in_ok-now.ensures.ok;
     }
 
 pub fold_block-returns-clause-ok : goal.fold_block-returns-clause-ok
 fold_block-returns-clause-ok t c =
-    rest_none c.args.turns c.args.attempts c.deref-s-items.result.now c.args.b.now.stmts.items c.loop-s.s-index _ _ _ _ c.loop-s-test.false c.deref-s-items.ensures.value c.loop-s.invariant.so_far
+    rest_none c.args.turns c.args.attempts.most c.deref-s-items.result.now c.args.b.now.stmts.items c.loop-s.s-index _ _ _ _ c.loop-s-test.false c.deref-s-items.ensures.value c.loop-s.invariant.so_far
 
 pub fold_block-returns-clause-bits : goal.fold_block-returns-clause-bits
 fold_block-returns-clause-bits t c =
-    meters_end c.args.turns c.args.attempts c.deref-s-items.result.now c.args.b.now.stmts.items c.loop-s.s-index _ _ _ _ _ _ c.loop-s-test.false c.deref-s-items.ensures.value c.loop-s.invariant.bits
+    meters_end c.args.turns c.args.attempts.most c.deref-s-items.result.now c.args.b.now.stmts.items c.loop-s.s-index _ _ _ _ _ _ c.loop-s-test.false c.deref-s-items.ensures.value c.loop-s.invariant.bits
 
 pub fold_loop-loop-init : goal.fold_loop-loop-init
 fold_loop-loop-init t c =
@@ -70,13 +70,13 @@ fold_loop-loop-init t c =
     record {
       now_vars = refl;
       exits_vars = c.new-exits.ensures.vars;
-      so_far = loops_at (loop_flow (value_of (expression_of c.args.e.now)) (block_flow c.args.turns c.args.attempts (statements_of c.args.body.now))) c.args.turns _ _ _ _ _ _ _ e (loop_start c.args.turns c.args.attempts (expression_of c.args.e.now) (statements_of c.args.body.now) c.args.table.states.entries c.args.ended.now c.new-exits.result.states.entries c.new-exits.ensures.empty);
-      bits = meters_at c.args.attempts (loop_flow (value_of (expression_of c.args.e.now)) (block_flow c.args.turns c.args.attempts (statements_of c.args.body.now))) (draws c.args.turns c.args.attempts (expression_of c.args.e.now) (statements_of c.args.body.now) c.args.table.states.entries c.args.ended.now c.args.meter.now) c.args.turns _ _ _ _ _ _ _ _ _ e (meter_start c.args.turns c.args.attempts (expression_of c.args.e.now) (statements_of c.args.body.now) c.args.table.states.entries c.args.ended.now c.args.meter.now c.new-exits.result.states.entries c.new-exits.ensures.empty);
+      so_far = loops_at (loop_flow (value_of (expression_of c.args.e.now)) (block_flow c.args.turns c.args.attempts.most (statements_of c.args.body.now))) c.args.turns _ _ _ _ _ _ _ e (loop_start c.args.turns c.args.attempts.most (expression_of c.args.e.now) (statements_of c.args.body.now) c.args.table.states.entries c.args.ended.now c.new-exits.result.states.entries c.new-exits.ensures.empty);
+      bits = meters_at c.args.attempts.most (loop_flow (value_of (expression_of c.args.e.now)) (block_flow c.args.turns c.args.attempts.most (statements_of c.args.body.now))) (draws c.args.turns c.args.attempts.most (expression_of c.args.e.now) (statements_of c.args.body.now) c.args.table.states.entries c.args.ended.now c.args.meter.now) c.args.turns _ _ _ _ _ _ _ _ _ e (meter_start c.args.turns c.args.attempts.most (expression_of c.args.e.now) (statements_of c.args.body.now) c.args.table.states.entries c.args.ended.now c.args.meter.now c.new-exits.result.states.entries c.new-exits.ensures.empty);
     }
 
 pub fold_loop-returns-then-len-eq0-clause-ok : goal.fold_loop-returns-then-len-eq0-clause-ok
 fold_loop-returns-then-len-eq0-clause-ok t c =
-    loop_dry c.args.turns c.args.attempts (expression_of c.args.e.now) (statements_of c.args.body.now) c.args.table.states.entries c.args.ended.now (c.args.turns - c.loop.counter) c.loop.now.states.entries c.loop.exits.states.entries c.loop.ended c.loop.invariant.so_far c.requires.weights (empty_of c.loop.now.states.entries (sym c.len.ensures.len ∙ c.if-len-eq0.true))
+    loop_dry c.args.turns c.args.attempts.most (expression_of c.args.e.now) (statements_of c.args.body.now) c.args.table.states.entries c.args.ended.now (c.args.turns - c.loop.counter) c.loop.now.states.entries c.loop.exits.states.entries c.loop.ended c.loop.invariant.so_far c.requires.weights (empty_of c.loop.now.states.entries (sym c.len.ensures.len ∙ c.if-len-eq0.true))
 
 pub fold_loop-split-requires : goal.fold_loop-split-requires
 fold_loop-split-requires t c = subst (ExpressionBelow (expression_of c.args.e.now)) (sym c.loop.invariant.now_vars) c.requires.reads
@@ -87,248 +87,248 @@ fold_loop-split-requires-2 t c = subst (ExpressionBelow (expression_of c.args.e.
 pub fold_loop-fold_block-requires : goal.fold_loop-fold_block-requires
 fold_loop-fold_block-requires t c =
     let p : c.in_ok-first.first.vars ≡ c.args.table.vars = c.in_ok-first.ensures.vars.0 ∙ c.loop.invariant.now_vars in
-    (search (rules, the_lemmas), (subst (λ m. BlockBelow m (statements_of c.args.body.now)) (sym p) c.requires.below, (c.requires.weights, c.requires.some)))
+    (search (rules, the_lemmas), (subst (λ m. BlockBelow m (statements_of c.args.body.now)) (sym p) c.requires.below, c.requires.weights))
 
 pub fold_loop-returns-in_err-merge-clause-cause : goal.fold_loop-returns-in_err-merge-clause-cause
 fold_loop-returns-in_err-merge-clause-cause t c =
     let out : c.from_residual-in_err-merge.result ≡ Err c.in_err-merge.field-0.0 = grind arith in
-    rw out (exits_blame c.args.turns c.args.attempts (expression_of c.args.e.now) (statements_of c.args.body.now) c.args.table.states.entries c.args.ended.now (c.args.turns - c.loop.counter) c.loop.now.states.entries c.loop.exits.states.entries c.loop.ended c.loop.invariant.so_far _ _ _ c.in_ok-first.ensures.first c.in_ok-first.ensures.second _ c.requires.weights c.in_err-merge.ensures.cause)
+    rw out (exits_blame c.args.turns c.args.attempts.most (expression_of c.args.e.now) (statements_of c.args.body.now) c.args.table.states.entries c.args.ended.now (c.args.turns - c.loop.counter) c.loop.now.states.entries c.loop.exits.states.entries c.loop.ended c.loop.invariant.so_far _ _ _ c.in_ok-first.ensures.first c.in_ok-first.ensures.second _ c.requires.weights c.in_err-merge.ensures.cause)
 
 pub fold_loop-returns-in_err-now-clause-cause : goal.fold_loop-returns-in_err-now-clause-cause
 fold_loop-returns-in_err-now-clause-cause t c =
     let e : c.args.turns - c.loop.counter ≡ suc (c.args.turns - (c.loop.counter + 1)) = omega arith in
-    let l = loops_at (loop_flow (value_of (expression_of c.args.e.now)) (block_flow c.args.turns c.args.attempts (statements_of c.args.body.now))) c.args.turns _ _ _ _ _ _ _ e c.loop.invariant.so_far in
+    let l = loops_at (loop_flow (value_of (expression_of c.args.e.now)) (block_flow c.args.turns c.args.attempts.most (statements_of c.args.body.now))) c.args.turns _ _ _ _ _ _ _ e c.loop.invariant.so_far in
     let out : c.from_residual-in_err-now.result ≡ Err c.in_err-now.field-0.0 = grind arith in
-    rw out (body_blames c.args.turns c.args.attempts (expression_of c.args.e.now) (statements_of c.args.body.now) c.args.table.states.entries c.args.ended.now (c.args.turns - (c.loop.counter + 1)) c.loop.now.states.entries c.loop.exits.states.entries c.loop.ended l _ _ _ c.in_ok-first.ensures.first c.in_ok-first.ensures.second _ c.requires.weights c.in_err-now.ensures.cause)
+    rw out (body_blames c.args.turns c.args.attempts.most (expression_of c.args.e.now) (statements_of c.args.body.now) c.args.table.states.entries c.args.ended.now (c.args.turns - (c.loop.counter + 1)) c.loop.now.states.entries c.loop.exits.states.entries c.loop.ended l _ _ _ c.in_ok-first.ensures.first c.in_ok-first.ensures.second _ c.requires.weights c.in_err-now.ensures.cause)
 
 pub fold_loop-returns-in_err-first-clause-cause : goal.fold_loop-returns-in_err-first-clause-cause
 fold_loop-returns-in_err-first-clause-cause t c =
     let out : c.from_residual.result ≡ Err c.in_err-first.field-0.0 = grind arith in
-    rw out (guard_blames c.args.turns c.args.attempts (expression_of c.args.e.now) (statements_of c.args.body.now) c.args.table.states.entries c.args.ended.now (c.args.turns - c.loop.counter) c.loop.now.states.entries c.loop.exits.states.entries c.loop.ended c.loop.invariant.so_far _ c.requires.weights c.in_err-first.ensures.cause)
+    rw out (guard_blames c.args.turns c.args.attempts.most (expression_of c.args.e.now) (statements_of c.args.body.now) c.args.table.states.entries c.args.ended.now (c.args.turns - c.loop.counter) c.loop.now.states.entries c.loop.exits.states.entries c.loop.ended c.loop.invariant.so_far _ c.requires.weights c.in_err-first.ensures.cause)
 
 pub fold_loop-loop-preserved : goal.fold_loop-loop-preserved
 fold_loop-loop-preserved t c =
     let e : c.args.turns - c.loop.counter ≡ suc (c.args.turns - (c.loop.counter + 1)) = omega arith in
-    let l = loops_at (loop_flow (value_of (expression_of c.args.e.now)) (block_flow c.args.turns c.args.attempts (statements_of c.args.body.now))) c.args.turns _ _ _ _ _ _ _ e c.loop.invariant.so_far in
+    let l = loops_at (loop_flow (value_of (expression_of c.args.e.now)) (block_flow c.args.turns c.args.attempts.most (statements_of c.args.body.now))) c.args.turns _ _ _ _ _ _ _ e c.loop.invariant.so_far in
     record {
       now_vars = c.in_ok-now.ensures.vars ∙ c.in_ok-first.ensures.vars.0 ∙ c.loop.invariant.now_vars;
       exits_vars = c.merge.ensures.vars ∙ c.loop.invariant.exits_vars;
-      so_far = loop_turn c.args.turns c.args.attempts (expression_of c.args.e.now) (statements_of c.args.body.now) c.args.table.states.entries c.args.ended.now (c.args.turns - (c.loop.counter + 1)) c.loop.now.states.entries c.loop.exits.states.entries c.loop.ended l _ _ _ c.in_ok-first.ensures.first c.in_ok-first.ensures.second _ _ _ c.in_ok-merge.ensures.ok c.in_ok-now.ensures.ok;
-      bits = meter_turn c.args.turns c.args.attempts (expression_of c.args.e.now) (statements_of c.args.body.now) c.args.table.states.entries c.args.ended.now c.args.meter.now (c.args.turns - (c.loop.counter + 1)) c.loop.now.states.entries c.loop.exits.states.entries c.loop.ended c.loop.meter (meters_at c.args.attempts (loop_flow (value_of (expression_of c.args.e.now)) (block_flow c.args.turns c.args.attempts (statements_of c.args.body.now))) (draws c.args.turns c.args.attempts (expression_of c.args.e.now) (statements_of c.args.body.now) c.args.table.states.entries c.args.ended.now c.args.meter.now) c.args.turns _ _ _ _ _ _ _ _ _ e c.loop.invariant.bits) _ _ _ c.in_ok-first.ensures.first c.in_ok-first.ensures.second _ _ _ _ c.in_ok-merge.ensures.ok c.in_ok-now.ensures.ok c.in_ok-now.ensures.bits;
+      so_far = loop_turn c.args.turns c.args.attempts.most (expression_of c.args.e.now) (statements_of c.args.body.now) c.args.table.states.entries c.args.ended.now (c.args.turns - (c.loop.counter + 1)) c.loop.now.states.entries c.loop.exits.states.entries c.loop.ended l _ _ _ c.in_ok-first.ensures.first c.in_ok-first.ensures.second _ _ _ c.in_ok-merge.ensures.ok c.in_ok-now.ensures.ok;
+      bits = meter_turn c.args.turns c.args.attempts.most (expression_of c.args.e.now) (statements_of c.args.body.now) c.args.table.states.entries c.args.ended.now c.args.meter.now (c.args.turns - (c.loop.counter + 1)) c.loop.now.states.entries c.loop.exits.states.entries c.loop.ended c.loop.meter (meters_at c.args.attempts.most (loop_flow (value_of (expression_of c.args.e.now)) (block_flow c.args.turns c.args.attempts.most (statements_of c.args.body.now))) (draws c.args.turns c.args.attempts.most (expression_of c.args.e.now) (statements_of c.args.body.now) c.args.table.states.entries c.args.ended.now c.args.meter.now) c.args.turns _ _ _ _ _ _ _ _ _ e c.loop.invariant.bits) _ _ _ c.in_ok-first.ensures.first c.in_ok-first.ensures.second _ _ _ _ c.in_ok-merge.ensures.ok c.in_ok-now.ensures.ok c.in_ok-now.ensures.bits;
     }
 
 pub fold_loop-returns-then-len-eq0-clause-bits : goal.fold_loop-returns-then-len-eq0-clause-bits
 fold_loop-returns-then-len-eq0-clause-bits t c =
-    meter_dry c.args.turns c.args.attempts (expression_of c.args.e.now) (statements_of c.args.body.now) c.args.table.states.entries c.args.ended.now c.args.meter.now (c.args.turns - c.loop.counter) c.loop.now.states.entries c.loop.exits.states.entries c.loop.ended c.loop.meter c.requires.weights (empty_of c.loop.now.states.entries (sym c.len.ensures.len ∙ c.if-len-eq0.true)) c.loop.invariant.bits
+    meter_dry c.args.turns c.args.attempts.most (expression_of c.args.e.now) (statements_of c.args.body.now) c.args.table.states.entries c.args.ended.now c.args.meter.now (c.args.turns - c.loop.counter) c.loop.now.states.entries c.loop.exits.states.entries c.loop.ended c.loop.meter c.requires.weights (empty_of c.loop.now.states.entries (sym c.len.ensures.len ∙ c.if-len-eq0.true)) c.loop.invariant.bits
 
 pub fold_loop-returns-clause-bits : goal.fold_loop-returns-clause-bits
 fold_loop-returns-clause-bits t c =
-    meter_end c.args.turns c.args.attempts (expression_of c.args.e.now) (statements_of c.args.body.now) c.args.table.states.entries c.args.ended.now c.args.meter.now (c.args.turns - c.loop.counter) c.loop.now.states.entries c.loop.exits.states.entries c.loop.ended c.loop.meter (omega arith) c.loop.invariant.bits
+    meter_end c.args.turns c.args.attempts.most (expression_of c.args.e.now) (statements_of c.args.body.now) c.args.table.states.entries c.args.ended.now c.args.meter.now (c.args.turns - c.loop.counter) c.loop.now.states.entries c.loop.exits.states.entries c.loop.ended c.loop.meter (omega arith) c.loop.invariant.bits
 
 pub fold_loop-returns-in_err-merge-2-clause-cause : goal.fold_loop-returns-in_err-merge-2-clause-cause
 fold_loop-returns-in_err-merge-2-clause-cause t c =
     let out : c.from_residual-in_err-merge-2.result ≡ Err c.in_err-merge-2.field-0.0 = grind arith in
-    rw out (exits_blame c.args.turns c.args.attempts (expression_of c.args.e.now) (statements_of c.args.body.now) c.args.table.states.entries c.args.ended.now (c.args.turns - c.loop.counter) c.loop.now.states.entries c.loop.exits.states.entries c.loop.ended c.loop.invariant.so_far _ _ _ c.in_ok-first-2.ensures.first c.in_ok-first-2.ensures.second _ c.requires.weights c.in_err-merge-2.ensures.cause)
+    rw out (exits_blame c.args.turns c.args.attempts.most (expression_of c.args.e.now) (statements_of c.args.body.now) c.args.table.states.entries c.args.ended.now (c.args.turns - c.loop.counter) c.loop.now.states.entries c.loop.exits.states.entries c.loop.ended c.loop.invariant.so_far _ _ _ c.in_ok-first-2.ensures.first c.in_ok-first-2.ensures.second _ c.requires.weights c.in_err-merge-2.ensures.cause)
 
 pub fold_loop-returns-clause-ok : goal.fold_loop-returns-clause-ok
 fold_loop-returns-clause-ok t c =
     let e : c.args.turns - c.loop.counter ≡ 0 = omega arith in
-    let l = loops_at (loop_flow (value_of (expression_of c.args.e.now)) (block_flow c.args.turns c.args.attempts (statements_of c.args.body.now))) c.args.turns _ _ _ _ _ _ _ e c.loop.invariant.so_far in
-    loop_end c.args.turns c.args.attempts (expression_of c.args.e.now) (statements_of c.args.body.now) c.args.table.states.entries c.args.ended.now c.loop.now.states.entries c.loop.exits.states.entries c.loop.ended l _ _ _ c.in_ok-first-2.ensures.first c.in_ok-first-2.ensures.second _ _ c.in_ok-merge-2.ensures.ok c.in_ok-end_all.ensures.ok
+    let l = loops_at (loop_flow (value_of (expression_of c.args.e.now)) (block_flow c.args.turns c.args.attempts.most (statements_of c.args.body.now))) c.args.turns _ _ _ _ _ _ _ e c.loop.invariant.so_far in
+    loop_end c.args.turns c.args.attempts.most (expression_of c.args.e.now) (statements_of c.args.body.now) c.args.table.states.entries c.args.ended.now c.loop.now.states.entries c.loop.exits.states.entries c.loop.ended l _ _ _ c.in_ok-first-2.ensures.first c.in_ok-first-2.ensures.second _ _ c.in_ok-merge-2.ensures.ok c.in_ok-end_all.ensures.ok
 
 pub fold_loop-returns-in_err-end_all-clause-cause : goal.fold_loop-returns-in_err-end_all-clause-cause
 fold_loop-returns-in_err-end_all-clause-cause t c =
     let e : c.args.turns - c.loop.counter ≡ 0 = omega arith in
-    let l = loops_at (loop_flow (value_of (expression_of c.args.e.now)) (block_flow c.args.turns c.args.attempts (statements_of c.args.body.now))) c.args.turns _ _ _ _ _ _ _ e c.loop.invariant.so_far in
+    let l = loops_at (loop_flow (value_of (expression_of c.args.e.now)) (block_flow c.args.turns c.args.attempts.most (statements_of c.args.body.now))) c.args.turns _ _ _ _ _ _ _ e c.loop.invariant.so_far in
     let out : c.from_residual-in_err-end_all.result ≡ Err c.in_err-end_all.field-0.0 = grind arith in
-    rw out (turns_blame c.args.turns c.args.attempts (expression_of c.args.e.now) (statements_of c.args.body.now) c.args.table.states.entries c.args.ended.now c.loop.now.states.entries c.loop.exits.states.entries c.loop.ended l _ _ _ c.in_ok-first-2.ensures.first c.in_ok-first-2.ensures.second _ c.requires.weights c.in_err-end_all.ensures.cause)
+    rw out (turns_blame c.args.turns c.args.attempts.most (expression_of c.args.e.now) (statements_of c.args.body.now) c.args.table.states.entries c.args.ended.now c.loop.now.states.entries c.loop.exits.states.entries c.loop.ended l _ _ _ c.in_ok-first-2.ensures.first c.in_ok-first-2.ensures.second _ c.requires.weights c.in_err-end_all.ensures.cause)
 
 pub fold_loop-returns-in_err-first-2-clause-cause : goal.fold_loop-returns-in_err-first-2-clause-cause
 fold_loop-returns-in_err-first-2-clause-cause t c =
     let out : c.from_residual-in_err-first-2.result ≡ Err c.in_err-first-2.field-0.0 = grind arith in
-    rw out (guard_blames c.args.turns c.args.attempts (expression_of c.args.e.now) (statements_of c.args.body.now) c.args.table.states.entries c.args.ended.now (c.args.turns - c.loop.counter) c.loop.now.states.entries c.loop.exits.states.entries c.loop.ended c.loop.invariant.so_far _ c.requires.weights c.in_err-first-2.ensures.cause)
+    rw out (guard_blames c.args.turns c.args.attempts.most (expression_of c.args.e.now) (statements_of c.args.body.now) c.args.table.states.entries c.args.ended.now (c.args.turns - c.loop.counter) c.loop.now.states.entries c.loop.exits.states.entries c.loop.ended c.loop.invariant.so_far _ c.requires.weights c.in_err-first-2.ensures.cause)
 
 pub fold_stmt-returns-then-len-eq0-clause-ok : goal.fold_stmt-returns-then-len-eq0-clause-ok
 fold_stmt-returns-then-len-eq0-clause-ok t c =
-    fold_empty c.args.turns c.args.attempts _ c.args.table.states.entries c.args.ended.now c.requires.weights (empty_of c.args.table.states.entries (sym c.len.ensures.len ∙ c.if-len-eq0.true))
+    fold_empty c.args.turns c.args.attempts.most _ c.args.table.states.entries c.args.ended.now c.requires.weights (empty_of c.args.table.states.entries (sym c.len.ensures.len ∙ c.if-len-eq0.true))
 
 pub fold_stmt-returns-in-Skip-clause-ok : goal.fold_stmt-returns-in-Skip-clause-ok
-fold_stmt-returns-in-Skip-clause-ok t c = folds_as c.args.turns c.args.attempts _ _ _ _ _ _ (ap statement_of c.in-Skip.is ∙ skip_view) (fold_skip c.args.turns c.args.attempts c.args.table.states.entries c.args.ended.now)
+fold_stmt-returns-in-Skip-clause-ok t c = folds_as c.args.turns c.args.attempts.most _ _ _ _ _ _ (ap statement_of c.in-Skip.is ∙ skip_view) (fold_skip c.args.turns c.args.attempts.most c.args.table.states.entries c.args.ended.now)
 
 pub fold_stmt-returns-in-Set-clause-ok : goal.fold_stmt-returns-in-Set-clause-ok
 fold_stmt-returns-in-Set-clause-ok t c =
     IfOk-weaker c.assign.result _ _
-    (λ next a. folds_as c.args.turns c.args.attempts _ _ _ _ _ _ (ap statement_of c.in-Set.is ∙ set_view c.in-Set.x c.in-Set.e)
-    (fold_assign c.args.turns c.args.attempts c.in-Set.x (expression_of c.in-Set.e) c.args.table.states.entries c.args.ended.now _ _ a))
+    (λ next a. folds_as c.args.turns c.args.attempts.most _ _ _ _ _ _ (ap statement_of c.in-Set.is ∙ set_view c.in-Set.x c.in-Set.e)
+    (fold_assign c.args.turns c.args.attempts.most c.in-Set.x (expression_of c.in-Set.e) c.args.table.states.entries c.args.ended.now _ _ a))
     c.assign.ensures.ok
 
 pub fold_stmt-returns-in-Set-clause-cause : goal.fold_stmt-returns-in-Set-clause-cause
 fold_stmt-returns-in-Set-clause-cause t c =
     IfErr-weaker c.assign.result _ _
-    (λ e a. blames_as c.args.turns c.args.attempts _ _ _ _ _ (ap statement_of c.in-Set.is ∙ set_view c.in-Set.x c.in-Set.e)
-    (assign_blames c.args.turns c.args.attempts c.in-Set.x (expression_of c.in-Set.e) c.args.table.states.entries c.args.ended.now _ a))
+    (λ e a. blames_as c.args.turns c.args.attempts.most _ _ _ _ _ (ap statement_of c.in-Set.is ∙ set_view c.in-Set.x c.in-Set.e)
+    (assign_blames c.args.turns c.args.attempts.most c.in-Set.x (expression_of c.in-Set.e) c.args.table.states.entries c.args.ended.now _ a))
     c.assign.ensures.cause
 
 pub fold_stmt-returns-in-Uniform-clause-ok : goal.fold_stmt-returns-in-Uniform-clause-ok
 fold_stmt-returns-in-Uniform-clause-ok t c =
     IfOk-weaker c.draw.result _ _
-    (λ next a. folds_as c.args.turns c.args.attempts _ _ _ _ _ _ (ap statement_of c.in-Uniform.is ∙ uniform_view c.in-Uniform.x c.in-Uniform.e)
-    (fold_draw c.args.turns c.args.attempts c.in-Uniform.x (expression_of c.in-Uniform.e) c.args.table.states.entries c.args.ended.now c.len.ensures.ordered _ _ a))
+    (λ next a. folds_as c.args.turns c.args.attempts.most _ _ _ _ _ _ (ap statement_of c.in-Uniform.is ∙ uniform_view c.in-Uniform.x c.in-Uniform.e)
+    (fold_draw c.args.turns c.args.attempts.most c.in-Uniform.x (expression_of c.in-Uniform.e) c.args.table.states.entries c.args.ended.now c.len.ensures.ordered _ _ a))
     c.draw.ensures.ok
 
 pub fold_stmt-returns-in-Uniform-clause-cause : goal.fold_stmt-returns-in-Uniform-clause-cause
 fold_stmt-returns-in-Uniform-clause-cause t c =
     IfErr-weaker c.draw.result _ _
-    (λ e a. blames_as c.args.turns c.args.attempts _ _ _ _ _ (ap statement_of c.in-Uniform.is ∙ uniform_view c.in-Uniform.x c.in-Uniform.e)
-    (draw_blames c.args.turns c.args.attempts c.in-Uniform.x (expression_of c.in-Uniform.e) c.args.table.states.entries c.args.ended.now c.len.ensures.ordered _ a))
+    (λ e a. blames_as c.args.turns c.args.attempts.most _ _ _ _ _ (ap statement_of c.in-Uniform.is ∙ uniform_view c.in-Uniform.x c.in-Uniform.e)
+    (draw_blames c.args.turns c.args.attempts.most c.in-Uniform.x (expression_of c.in-Uniform.e) c.args.table.states.entries c.args.ended.now c.len.ensures.ordered _ a))
     c.draw.ensures.cause
 
 pub fold_stmt-returns-in_ok-end_all-in-Observe-clause-ok : goal.fold_stmt-returns-in_ok-end_all-in-Observe-clause-ok
 fold_stmt-returns-in_ok-end_all-in-Observe-clause-ok t c =
-    folds_as c.args.turns c.args.attempts _ _ _ _ _ _ (ap statement_of c.in-Observe.is ∙ observe_view c.in-Observe.e)
-    (fold_observe c.args.turns c.args.attempts (expression_of c.in-Observe.e) c.args.table.states.entries c.args.ended.now _ _ _ _ c.in_ok-first-in-Observe.ensures.first c.in_ok-first-in-Observe.ensures.second c.in_ok-end_all-in-Observe.ensures.ok)
+    folds_as c.args.turns c.args.attempts.most _ _ _ _ _ _ (ap statement_of c.in-Observe.is ∙ observe_view c.in-Observe.e)
+    (fold_observe c.args.turns c.args.attempts.most (expression_of c.in-Observe.e) c.args.table.states.entries c.args.ended.now _ _ _ _ c.in_ok-first-in-Observe.ensures.first c.in_ok-first-in-Observe.ensures.second c.in_ok-end_all-in-Observe.ensures.ok)
 
 pub fold_stmt-returns-in_err-end_all-in-Observe-clause-cause : goal.fold_stmt-returns-in_err-end_all-in-Observe-clause-cause
 fold_stmt-returns-in_err-end_all-in-Observe-clause-cause t c =
     let out : c.from_residual-in_err-end_all-in-Observe.result ≡ Err c.in_err-end_all-in-Observe.field-0.0 = grind arith in
-    rw out (blames_as c.args.turns c.args.attempts _ _ _ _ _ (ap statement_of c.in-Observe.is ∙ observe_view c.in-Observe.e)
-    (failed_blames c.args.turns c.args.attempts (expression_of c.in-Observe.e) c.args.table.states.entries _ _ c.args.ended.now _ _ c.in_ok-first-in-Observe.ensures.first c.in_ok-first-in-Observe.ensures.second c.in_err-end_all-in-Observe.ensures.cause))
+    rw out (blames_as c.args.turns c.args.attempts.most _ _ _ _ _ (ap statement_of c.in-Observe.is ∙ observe_view c.in-Observe.e)
+    (failed_blames c.args.turns c.args.attempts.most (expression_of c.in-Observe.e) c.args.table.states.entries _ _ c.args.ended.now _ _ c.in_ok-first-in-Observe.ensures.first c.in_ok-first-in-Observe.ensures.second c.in_err-end_all-in-Observe.ensures.cause))
 
 pub fold_stmt-returns-in_err-first-in-Observe-clause-cause : goal.fold_stmt-returns-in_err-first-in-Observe-clause-cause
 fold_stmt-returns-in_err-first-in-Observe-clause-cause t c =
     let out : c.from_residual.result ≡ Err c.in_err-first-in-Observe.field-0.0 = grind arith in
-    rw out (blames_as c.args.turns c.args.attempts _ _ _ _ _ (ap statement_of c.in-Observe.is ∙ observe_view c.in-Observe.e)
-    (observe_blames c.args.turns c.args.attempts (expression_of c.in-Observe.e) c.args.table.states.entries c.args.ended.now _ c.in_err-first-in-Observe.ensures.cause))
+    rw out (blames_as c.args.turns c.args.attempts.most _ _ _ _ _ (ap statement_of c.in-Observe.is ∙ observe_view c.in-Observe.e)
+    (observe_blames c.args.turns c.args.attempts.most (expression_of c.in-Observe.e) c.args.table.states.entries c.args.ended.now _ c.in_err-first-in-Observe.ensures.cause))
 
 pub fold_stmt-fold_block-requires : goal.fold_stmt-fold_block-requires
 fold_stmt-fold_block-requires t c =
     let q = (ap statement_of c.in-If.is ∙ if_view c.in-If.e c.in-If.a c.in-If.c) in
-    (search (rules, the_lemmas), (subst (λ m. BlockBelow m (statements_of c.in-If.a)) (sym c.in_ok-first-in-If.ensures.vars.0) (below_as _ _ _ q c.requires.below).1, ((weights_as _ _ q c.requires.weights).0, c.requires.some)))
+    (search (rules, the_lemmas), (subst (λ m. BlockBelow m (statements_of c.in-If.a)) (sym c.in_ok-first-in-If.ensures.vars.0) (below_as _ _ _ q c.requires.below).1, (weights_as _ _ q c.requires.weights).0))
 
 pub fold_stmt-fold_block-requires-in-If : goal.fold_stmt-fold_block-requires-in-If
 fold_stmt-fold_block-requires-in-If t c =
     let q = (ap statement_of c.in-If.is ∙ if_view c.in-If.e c.in-If.a c.in-If.c) in
-    (search (rules, the_lemmas), (subst (λ m. BlockBelow m (statements_of c.in-If.c)) (sym c.in_ok-first-in-If.ensures.vars.1) (below_as _ _ _ q c.requires.below).2, ((weights_as _ _ q c.requires.weights).1, c.requires.some)))
+    (search (rules, the_lemmas), (subst (λ m. BlockBelow m (statements_of c.in-If.c)) (sym c.in_ok-first-in-If.ensures.vars.1) (below_as _ _ _ q c.requires.below).2, (weights_as _ _ q c.requires.weights).1))
 
 pub fold_stmt-returns-in_ok-merge-in-If-clause-ok : goal.fold_stmt-returns-in_ok-merge-in-If-clause-ok
 fold_stmt-returns-in_ok-merge-in-If-clause-ok t c =
-    folds_as c.args.turns c.args.attempts _ _ _ _ _ _ (ap statement_of c.in-If.is ∙ if_view c.in-If.e c.in-If.a c.in-If.c)
-    (fold_branch c.args.turns c.args.attempts (expression_of c.in-If.e) (statements_of c.in-If.a) (statements_of c.in-If.c) c.args.table.states.entries _ _ c.args.ended.now _ c.in_ok-first-in-If.ensures.first c.in_ok-first-in-If.ensures.second _ _ _ _ _ c.in_ok-left-in-If.ensures.ok c.in_ok-right-in-If.ensures.ok c.in_ok-merge-in-If.ensures.ok)
+    folds_as c.args.turns c.args.attempts.most _ _ _ _ _ _ (ap statement_of c.in-If.is ∙ if_view c.in-If.e c.in-If.a c.in-If.c)
+    (fold_branch c.args.turns c.args.attempts.most (expression_of c.in-If.e) (statements_of c.in-If.a) (statements_of c.in-If.c) c.args.table.states.entries _ _ c.args.ended.now _ c.in_ok-first-in-If.ensures.first c.in_ok-first-in-If.ensures.second _ _ _ _ _ c.in_ok-left-in-If.ensures.ok c.in_ok-right-in-If.ensures.ok c.in_ok-merge-in-If.ensures.ok)
 
 pub fold_stmt-returns-in_err-merge-in-If-clause-cause : goal.fold_stmt-returns-in_err-merge-in-If-clause-cause
 fold_stmt-returns-in_err-merge-in-If-clause-cause t c =
     let out : c.from_residual-in_err-merge-in-If.result ≡ Err c.in_err-merge-in-If.field-0.0 = grind arith in
-    rw out (blames_as c.args.turns c.args.attempts _ _ _ _ _ (ap statement_of c.in-If.is ∙ if_view c.in-If.e c.in-If.a c.in-If.c)
-    (let ws = weights_as _ _ (ap statement_of c.in-If.is ∙ if_view c.in-If.e c.in-If.a c.in-If.c) c.requires.weights in branches.both_blame c.args.turns c.args.attempts (expression_of c.in-If.e) (statements_of c.in-If.a) (statements_of c.in-If.c) c.args.table.states.entries _ _ c.args.ended.now _ c.in_ok-first-in-If.ensures.first c.in_ok-first-in-If.ensures.second _ _ c.in_ok-left-in-If.ensures.ok ws.0 _ _ _ ws.1 c.in_ok-right-in-If.ensures.ok c.in_err-merge-in-If.ensures.cause))
+    rw out (blames_as c.args.turns c.args.attempts.most _ _ _ _ _ (ap statement_of c.in-If.is ∙ if_view c.in-If.e c.in-If.a c.in-If.c)
+    (let ws = weights_as _ _ (ap statement_of c.in-If.is ∙ if_view c.in-If.e c.in-If.a c.in-If.c) c.requires.weights in branches.both_blame c.args.turns c.args.attempts.most (expression_of c.in-If.e) (statements_of c.in-If.a) (statements_of c.in-If.c) c.args.table.states.entries _ _ c.args.ended.now _ c.in_ok-first-in-If.ensures.first c.in_ok-first-in-If.ensures.second _ _ c.in_ok-left-in-If.ensures.ok ws.0 _ _ _ ws.1 c.in_ok-right-in-If.ensures.ok c.in_err-merge-in-If.ensures.cause))
 
 pub fold_stmt-returns-in_err-right-in-If-clause-cause : goal.fold_stmt-returns-in_err-right-in-If-clause-cause
 fold_stmt-returns-in_err-right-in-If-clause-cause t c =
     let out : c.from_residual-in_err-right-in-If.result ≡ Err c.in_err-right-in-If.field-0.0 = grind arith in
-    rw out (blames_as c.args.turns c.args.attempts _ _ _ _ _ (ap statement_of c.in-If.is ∙ if_view c.in-If.e c.in-If.a c.in-If.c)
-    (let ws = weights_as _ _ (ap statement_of c.in-If.is ∙ if_view c.in-If.e c.in-If.a c.in-If.c) c.requires.weights in branches.second_blames c.args.turns c.args.attempts (expression_of c.in-If.e) (statements_of c.in-If.a) (statements_of c.in-If.c) c.args.table.states.entries _ _ c.args.ended.now _ c.in_ok-first-in-If.ensures.first c.in_ok-first-in-If.ensures.second _ _ c.in_ok-left-in-If.ensures.ok ws.0 _ c.in_err-right-in-If.ensures.cause))
+    rw out (blames_as c.args.turns c.args.attempts.most _ _ _ _ _ (ap statement_of c.in-If.is ∙ if_view c.in-If.e c.in-If.a c.in-If.c)
+    (let ws = weights_as _ _ (ap statement_of c.in-If.is ∙ if_view c.in-If.e c.in-If.a c.in-If.c) c.requires.weights in branches.second_blames c.args.turns c.args.attempts.most (expression_of c.in-If.e) (statements_of c.in-If.a) (statements_of c.in-If.c) c.args.table.states.entries _ _ c.args.ended.now _ c.in_ok-first-in-If.ensures.first c.in_ok-first-in-If.ensures.second _ _ c.in_ok-left-in-If.ensures.ok ws.0 _ c.in_err-right-in-If.ensures.cause))
 
 pub fold_stmt-returns-in_err-left-in-If-clause-cause : goal.fold_stmt-returns-in_err-left-in-If-clause-cause
 fold_stmt-returns-in_err-left-in-If-clause-cause t c =
     let out : c.from_residual-in_err-left-in-If.result ≡ Err c.in_err-left-in-If.field-0.0 = grind arith in
-    rw out (blames_as c.args.turns c.args.attempts _ _ _ _ _ (ap statement_of c.in-If.is ∙ if_view c.in-If.e c.in-If.a c.in-If.c)
-    (branches.first_blames c.args.turns c.args.attempts (expression_of c.in-If.e) (statements_of c.in-If.a) (statements_of c.in-If.c) c.args.table.states.entries _ _ c.args.ended.now _ c.in_ok-first-in-If.ensures.first c.in_ok-first-in-If.ensures.second _ c.in_err-left-in-If.ensures.cause))
+    rw out (blames_as c.args.turns c.args.attempts.most _ _ _ _ _ (ap statement_of c.in-If.is ∙ if_view c.in-If.e c.in-If.a c.in-If.c)
+    (branches.first_blames c.args.turns c.args.attempts.most (expression_of c.in-If.e) (statements_of c.in-If.a) (statements_of c.in-If.c) c.args.table.states.entries _ _ c.args.ended.now _ c.in_ok-first-in-If.ensures.first c.in_ok-first-in-If.ensures.second _ c.in_err-left-in-If.ensures.cause))
 
 pub fold_stmt-returns-in_err-first-in-If-clause-cause : goal.fold_stmt-returns-in_err-first-in-If-clause-cause
 fold_stmt-returns-in_err-first-in-If-clause-cause t c =
     let out : c.from_residual-in_err-first-in-If.result ≡ Err c.in_err-first-in-If.field-0.0 = grind arith in
-    rw out (blames_as c.args.turns c.args.attempts _ _ _ _ _ (ap statement_of c.in-If.is ∙ if_view c.in-If.e c.in-If.a c.in-If.c)
-    (branches.branch_blames c.args.turns c.args.attempts (expression_of c.in-If.e) (statements_of c.in-If.a) (statements_of c.in-If.c) c.args.table.states.entries c.args.ended.now _ c.in_err-first-in-If.ensures.cause))
+    rw out (blames_as c.args.turns c.args.attempts.most _ _ _ _ _ (ap statement_of c.in-If.is ∙ if_view c.in-If.e c.in-If.a c.in-If.c)
+    (branches.branch_blames c.args.turns c.args.attempts.most (expression_of c.in-If.e) (statements_of c.in-If.a) (statements_of c.in-If.c) c.args.table.states.entries c.args.ended.now _ c.in_err-first-in-If.ensures.cause))
 
 pub fold_stmt-fold_loop-requires : goal.fold_stmt-fold_loop-requires
 fold_stmt-fold_loop-requires t c =
     let q = (ap statement_of c.in-While.is ∙ while_view c.in-While.e c.in-While.body) in
-    (search (rules, the_lemmas), ((below_as _ _ _ q c.requires.below).0, ((below_as _ _ _ q c.requires.below).1, (weights_as _ _ q c.requires.weights, c.requires.some))))
+    (search (rules, the_lemmas), ((below_as _ _ _ q c.requires.below).0, ((below_as _ _ _ q c.requires.below).1, weights_as _ _ q c.requires.weights)))
 
 pub fold_stmt-returns-in-While-clause-ok : goal.fold_stmt-returns-in-While-clause-ok
 fold_stmt-returns-in-While-clause-ok t c =
     IfOk-weaker c.fold_loop.result _ _
-    (λ next a. folds_as c.args.turns c.args.attempts _ _ _ _ _ _ (ap statement_of c.in-While.is ∙ while_view c.in-While.e c.in-While.body)
+    (λ next a. folds_as c.args.turns c.args.attempts.most _ _ _ _ _ _ (ap statement_of c.in-While.is ∙ while_view c.in-While.e c.in-While.body)
     (a))
     c.fold_loop.ensures.ok
 
 pub fold_stmt-returns-in-While-clause-cause : goal.fold_stmt-returns-in-While-clause-cause
 fold_stmt-returns-in-While-clause-cause t c =
     IfErr-weaker c.fold_loop.result _ _
-    (λ e a. blames_as c.args.turns c.args.attempts _ _ _ _ _ (ap statement_of c.in-While.is ∙ while_view c.in-While.e c.in-While.body)
+    (λ e a. blames_as c.args.turns c.args.attempts.most _ _ _ _ _ (ap statement_of c.in-While.is ∙ while_view c.in-While.e c.in-While.body)
     (a))
     c.fold_loop.ensures.cause
 
-pub fold_stmt-sides-requires-clause-weight : goal.fold_stmt-sides-requires-clause-weight
-fold_stmt-sides-requires-clause-weight t c =
+pub fold_stmt-sides-requires : goal.fold_stmt-sides-requires
+fold_stmt-sides-requires t c =
     (weights_as _ _ (ap statement_of c.in-Choice.is ∙ choice_view c.in-Choice.p c.in-Choice.a c.in-Choice.c) c.requires.weights).0
 
 pub fold_stmt-fold_block-requires-in-Choice : goal.fold_stmt-fold_block-requires-in-Choice
 fold_stmt-fold_block-requires-in-Choice t c =
     let q = (ap statement_of c.in-Choice.is ∙ choice_view c.in-Choice.p c.in-Choice.a c.in-Choice.c) in
-    (search (rules, the_lemmas), (subst (λ m. BlockBelow m (statements_of c.in-Choice.a)) (sym c.in_ok-first-in-Choice.ensures.vars.0) (below_as _ _ _ q c.requires.below).0, ((weights_as _ _ q c.requires.weights).1, c.requires.some)))
+    (search (rules, the_lemmas), (subst (λ m. BlockBelow m (statements_of c.in-Choice.a)) (sym c.in_ok-first-in-Choice.ensures.vars.0) (below_as _ _ _ q c.requires.below).0, (weights_as _ _ q c.requires.weights).1))
 
 pub fold_stmt-fold_block-requires-in-Choice-2 : goal.fold_stmt-fold_block-requires-in-Choice-2
 fold_stmt-fold_block-requires-in-Choice-2 t c =
     let q = (ap statement_of c.in-Choice.is ∙ choice_view c.in-Choice.p c.in-Choice.a c.in-Choice.c) in
-    (search (rules, the_lemmas), (subst (λ m. BlockBelow m (statements_of c.in-Choice.c)) (sym c.in_ok-first-in-Choice.ensures.vars.1) (below_as _ _ _ q c.requires.below).1, ((weights_as _ _ q c.requires.weights).2, c.requires.some)))
+    (search (rules, the_lemmas), (subst (λ m. BlockBelow m (statements_of c.in-Choice.c)) (sym c.in_ok-first-in-Choice.ensures.vars.1) (below_as _ _ _ q c.requires.below).1, (weights_as _ _ q c.requires.weights).2))
 
 pub fold_stmt-returns-in_ok-merge-in-Choice-clause-ok : goal.fold_stmt-returns-in_ok-merge-in-Choice-clause-ok
 fold_stmt-returns-in_ok-merge-in-Choice-clause-ok t c =
-    folds_as c.args.turns c.args.attempts _ _ _ _ _ _ (ap statement_of c.in-Choice.is ∙ choice_view c.in-Choice.p c.in-Choice.a c.in-Choice.c)
-    (let ws = weights_as _ _ (ap statement_of c.in-Choice.is ∙ choice_view c.in-Choice.p c.in-Choice.a c.in-Choice.c) c.requires.weights in fold_choice c.args.turns c.args.attempts c.in-Choice.p (statements_of c.in-Choice.a) (statements_of c.in-Choice.c) ws.0 c.args.table.states.entries c.args.ended.now _ _ _ c.in_ok-first-in-Choice.ensures.ok _ _ _ _ _ c.in_ok-left-in-Choice.ensures.ok c.in_ok-right-in-Choice.ensures.ok c.in_ok-merge-in-Choice.ensures.ok)
+    folds_as c.args.turns c.args.attempts.most _ _ _ _ _ _ (ap statement_of c.in-Choice.is ∙ choice_view c.in-Choice.p c.in-Choice.a c.in-Choice.c)
+    (let ws = weights_as _ _ (ap statement_of c.in-Choice.is ∙ choice_view c.in-Choice.p c.in-Choice.a c.in-Choice.c) c.requires.weights in fold_choice c.args.turns c.args.attempts.most c.in-Choice.p (statements_of c.in-Choice.a) (statements_of c.in-Choice.c) ws.0 c.args.table.states.entries c.args.ended.now _ _ _ c.in_ok-first-in-Choice.ensures.ok _ _ _ _ _ c.in_ok-left-in-Choice.ensures.ok c.in_ok-right-in-Choice.ensures.ok c.in_ok-merge-in-Choice.ensures.ok)
 
 pub fold_stmt-returns-in_err-merge-in-Choice-clause-cause : goal.fold_stmt-returns-in_err-merge-in-Choice-clause-cause
 fold_stmt-returns-in_err-merge-in-Choice-clause-cause t c =
     let out : c.from_residual-in_err-merge-in-Choice.result ≡ Err c.in_err-merge-in-Choice.field-0.0 = grind arith in
-    rw out (blames_as c.args.turns c.args.attempts _ _ _ _ _ (ap statement_of c.in-Choice.is ∙ choice_view c.in-Choice.p c.in-Choice.a c.in-Choice.c)
-    (let ws = weights_as _ _ (ap statement_of c.in-Choice.is ∙ choice_view c.in-Choice.p c.in-Choice.a c.in-Choice.c) c.requires.weights in choices.both_blame c.args.turns c.args.attempts c.in-Choice.p (statements_of c.in-Choice.a) (statements_of c.in-Choice.c) ws.0 c.args.table.states.entries c.args.ended.now _ _ _ c.in_ok-first-in-Choice.ensures.ok _ _ c.in_ok-left-in-Choice.ensures.ok ws.1 _ _ _ ws.2 c.in_ok-right-in-Choice.ensures.ok c.in_err-merge-in-Choice.ensures.cause))
+    rw out (blames_as c.args.turns c.args.attempts.most _ _ _ _ _ (ap statement_of c.in-Choice.is ∙ choice_view c.in-Choice.p c.in-Choice.a c.in-Choice.c)
+    (let ws = weights_as _ _ (ap statement_of c.in-Choice.is ∙ choice_view c.in-Choice.p c.in-Choice.a c.in-Choice.c) c.requires.weights in choices.both_blame c.args.turns c.args.attempts.most c.in-Choice.p (statements_of c.in-Choice.a) (statements_of c.in-Choice.c) ws.0 c.args.table.states.entries c.args.ended.now _ _ _ c.in_ok-first-in-Choice.ensures.ok _ _ c.in_ok-left-in-Choice.ensures.ok ws.1 _ _ _ ws.2 c.in_ok-right-in-Choice.ensures.ok c.in_err-merge-in-Choice.ensures.cause))
 
 pub fold_stmt-returns-in_err-right-in-Choice-clause-cause : goal.fold_stmt-returns-in_err-right-in-Choice-clause-cause
 fold_stmt-returns-in_err-right-in-Choice-clause-cause t c =
     let out : c.from_residual-in_err-right-in-Choice.result ≡ Err c.in_err-right-in-Choice.field-0.0 = grind arith in
-    rw out (blames_as c.args.turns c.args.attempts _ _ _ _ _ (ap statement_of c.in-Choice.is ∙ choice_view c.in-Choice.p c.in-Choice.a c.in-Choice.c)
-    (let ws = weights_as _ _ (ap statement_of c.in-Choice.is ∙ choice_view c.in-Choice.p c.in-Choice.a c.in-Choice.c) c.requires.weights in choices.second_blames c.args.turns c.args.attempts c.in-Choice.p (statements_of c.in-Choice.a) (statements_of c.in-Choice.c) ws.0 c.args.table.states.entries c.args.ended.now _ _ _ c.in_ok-first-in-Choice.ensures.ok _ _ c.in_ok-left-in-Choice.ensures.ok ws.1 _ c.in_err-right-in-Choice.ensures.cause))
+    rw out (blames_as c.args.turns c.args.attempts.most _ _ _ _ _ (ap statement_of c.in-Choice.is ∙ choice_view c.in-Choice.p c.in-Choice.a c.in-Choice.c)
+    (let ws = weights_as _ _ (ap statement_of c.in-Choice.is ∙ choice_view c.in-Choice.p c.in-Choice.a c.in-Choice.c) c.requires.weights in choices.second_blames c.args.turns c.args.attempts.most c.in-Choice.p (statements_of c.in-Choice.a) (statements_of c.in-Choice.c) ws.0 c.args.table.states.entries c.args.ended.now _ _ _ c.in_ok-first-in-Choice.ensures.ok _ _ c.in_ok-left-in-Choice.ensures.ok ws.1 _ c.in_err-right-in-Choice.ensures.cause))
 
 pub fold_stmt-returns-in_err-left-in-Choice-clause-cause : goal.fold_stmt-returns-in_err-left-in-Choice-clause-cause
 fold_stmt-returns-in_err-left-in-Choice-clause-cause t c =
     let out : c.from_residual-in_err-left-in-Choice.result ≡ Err c.in_err-left-in-Choice.field-0.0 = grind arith in
-    rw out (blames_as c.args.turns c.args.attempts _ _ _ _ _ (ap statement_of c.in-Choice.is ∙ choice_view c.in-Choice.p c.in-Choice.a c.in-Choice.c)
-    (let ws = weights_as _ _ (ap statement_of c.in-Choice.is ∙ choice_view c.in-Choice.p c.in-Choice.a c.in-Choice.c) c.requires.weights in choices.first_blames c.args.turns c.args.attempts c.in-Choice.p (statements_of c.in-Choice.a) (statements_of c.in-Choice.c) ws.0 c.args.table.states.entries c.args.ended.now _ _ _ c.in_ok-first-in-Choice.ensures.ok _ c.in_err-left-in-Choice.ensures.cause))
+    rw out (blames_as c.args.turns c.args.attempts.most _ _ _ _ _ (ap statement_of c.in-Choice.is ∙ choice_view c.in-Choice.p c.in-Choice.a c.in-Choice.c)
+    (let ws = weights_as _ _ (ap statement_of c.in-Choice.is ∙ choice_view c.in-Choice.p c.in-Choice.a c.in-Choice.c) c.requires.weights in choices.first_blames c.args.turns c.args.attempts.most c.in-Choice.p (statements_of c.in-Choice.a) (statements_of c.in-Choice.c) ws.0 c.args.table.states.entries c.args.ended.now _ _ _ c.in_ok-first-in-Choice.ensures.ok _ c.in_err-left-in-Choice.ensures.cause))
 
 pub fold_stmt-returns-in_err-first-in-Choice-clause-cause : goal.fold_stmt-returns-in_err-first-in-Choice-clause-cause
 fold_stmt-returns-in_err-first-in-Choice-clause-cause t c =
     let out : c.from_residual-in_err-first-in-Choice.result ≡ Err c.in_err-first-in-Choice.field-0.0 = grind arith in
-    rw out (blames_as c.args.turns c.args.attempts _ _ _ _ _ (ap statement_of c.in-Choice.is ∙ choice_view c.in-Choice.p c.in-Choice.a c.in-Choice.c)
-    (let ws = weights_as _ _ (ap statement_of c.in-Choice.is ∙ choice_view c.in-Choice.p c.in-Choice.a c.in-Choice.c) c.requires.weights in sides_blame c.args.turns c.args.attempts c.in-Choice.p (statements_of c.in-Choice.a) (statements_of c.in-Choice.c) ws.0 c.args.table.states.entries c.args.ended.now _ (λ e. c.if-len-eq0.false (c.len.ensures.len ∙ ap length e)) c.in_err-first-in-Choice.ensures.cause))
+    rw out (blames_as c.args.turns c.args.attempts.most _ _ _ _ _ (ap statement_of c.in-Choice.is ∙ choice_view c.in-Choice.p c.in-Choice.a c.in-Choice.c)
+    (let ws = weights_as _ _ (ap statement_of c.in-Choice.is ∙ choice_view c.in-Choice.p c.in-Choice.a c.in-Choice.c) c.requires.weights in sides_blame c.args.turns c.args.attempts.most c.in-Choice.p (statements_of c.in-Choice.a) (statements_of c.in-Choice.c) ws.0 c.args.table.states.entries c.args.ended.now _ (λ e. c.if-len-eq0.false (c.len.ensures.len ∙ ap length e)) c.in_err-first-in-Choice.ensures.cause))
 
 pub fold_stmt-returns-then-len-eq0-clause-bits : goal.fold_stmt-returns-then-len-eq0-clause-bits
 fold_stmt-returns-then-len-eq0-clause-bits t c =
-    meters_empty c.args.turns c.args.attempts _ c.args.table.states.entries c.args.ended.now c.args.meter.now c.requires.weights (empty_of c.args.table.states.entries (sym c.len.ensures.len ∙ c.if-len-eq0.true))
+    meters_empty c.args.turns c.args.attempts.most _ c.args.table.states.entries c.args.ended.now c.args.meter.now c.requires.weights (empty_of c.args.table.states.entries (sym c.len.ensures.len ∙ c.if-len-eq0.true))
 
 pub fold_stmt-returns-in-Uniform-clause-bits : goal.fold_stmt-returns-in-Uniform-clause-bits
 fold_stmt-returns-in-Uniform-clause-bits t c =
     IfOk-weaker c.draw.result _ _
-    (λ next _. meters_as c.args.turns c.args.attempts _ _ _ _ _ _ (ap statement_of c.in-Uniform.is ∙ uniform_view c.in-Uniform.x c.in-Uniform.e)
-    (uniform_meters c.args.turns c.args.attempts c.in-Uniform.x (expression_of c.in-Uniform.e) c.args.table.states.entries c.args.ended.now _ _ c.count_uniform.ensures))
+    (λ next _. meters_as c.args.turns c.args.attempts.most _ _ _ _ _ _ (ap statement_of c.in-Uniform.is ∙ uniform_view c.in-Uniform.x c.in-Uniform.e)
+    (uniform_meters c.args.turns c.args.attempts.most c.in-Uniform.x (expression_of c.in-Uniform.e) c.args.table.states.entries c.args.ended.now _ _ c.count_uniform.ensures))
     c.draw.ensures.ok
 
 pub fold_stmt-returns-in_ok-merge-in-If-clause-bits : goal.fold_stmt-returns-in_ok-merge-in-If-clause-bits
 fold_stmt-returns-in_ok-merge-in-If-clause-bits t c =
-    meters_as c.args.turns c.args.attempts _ _ _ _ _ _ (ap statement_of c.in-If.is ∙ if_view c.in-If.e c.in-If.a c.in-If.c)
-    (branch_meters c.args.turns c.args.attempts (expression_of c.in-If.e) (statements_of c.in-If.a) (statements_of c.in-If.c) c.args.table.states.entries _ _ c.args.ended.now _ c.in_ok-first-in-If.ensures.first c.in_ok-first-in-If.ensures.second _ _ _ _ _ c.in_ok-left-in-If.ensures.ok c.in_ok-left-in-If.ensures.bits c.in_ok-right-in-If.ensures.bits)
+    meters_as c.args.turns c.args.attempts.most _ _ _ _ _ _ (ap statement_of c.in-If.is ∙ if_view c.in-If.e c.in-If.a c.in-If.c)
+    (branch_meters c.args.turns c.args.attempts.most (expression_of c.in-If.e) (statements_of c.in-If.a) (statements_of c.in-If.c) c.args.table.states.entries _ _ c.args.ended.now _ c.in_ok-first-in-If.ensures.first c.in_ok-first-in-If.ensures.second _ _ _ _ _ c.in_ok-left-in-If.ensures.ok c.in_ok-left-in-If.ensures.bits c.in_ok-right-in-If.ensures.bits)
 
 pub fold_stmt-returns-in-While-clause-bits : goal.fold_stmt-returns-in-While-clause-bits
 fold_stmt-returns-in-While-clause-bits t c =
     IfOk-weaker c.fold_loop.result _ _
-    (λ next a. meters_as c.args.turns c.args.attempts _ _ _ _ _ _ (ap statement_of c.in-While.is ∙ while_view c.in-While.e c.in-While.body)
+    (λ next a. meters_as c.args.turns c.args.attempts.most _ _ _ _ _ _ (ap statement_of c.in-While.is ∙ while_view c.in-While.e c.in-While.body)
     (a))
     c.fold_loop.ensures.bits
 
 pub fold_stmt-returns-in_ok-merge-in-Choice-clause-bits : goal.fold_stmt-returns-in_ok-merge-in-Choice-clause-bits
 fold_stmt-returns-in_ok-merge-in-Choice-clause-bits t c =
-    meters_as c.args.turns c.args.attempts _ _ _ _ _ _ (ap statement_of c.in-Choice.is ∙ choice_view c.in-Choice.p c.in-Choice.a c.in-Choice.c)
+    meters_as c.args.turns c.args.attempts.most _ _ _ _ _ _ (ap statement_of c.in-Choice.is ∙ choice_view c.in-Choice.p c.in-Choice.a c.in-Choice.c)
     (let ws = weights_as _ _ (ap statement_of c.in-Choice.is ∙ choice_view c.in-Choice.p c.in-Choice.a c.in-Choice.c) c.requires.weights in
-    choice_meters c.args.turns c.args.attempts c.in-Choice.p (statements_of c.in-Choice.a) (statements_of c.in-Choice.c) ws.0 c.args.table.states.entries c.args.ended.now _ _ _ c.in_ok-first-in-Choice.ensures.ok _ _ _ _ _ _ c.count_choice.ensures c.in_ok-left-in-Choice.ensures.ok c.in_ok-left-in-Choice.ensures.bits c.in_ok-right-in-Choice.ensures.bits)
+    choice_meters c.args.turns c.args.attempts.most c.in-Choice.p (statements_of c.in-Choice.a) (statements_of c.in-Choice.c) ws.0 c.args.table.states.entries c.args.ended.now _ _ _ c.in_ok-first-in-Choice.ensures.ok _ _ _ _ _ _ c.count_choice.ensures c.in_ok-left-in-Choice.ensures.ok c.in_ok-left-in-Choice.ensures.bits c.in_ok-right-in-Choice.ensures.bits)
 
 pub fold_stmt-count_arms-requires-clause-parts : goal.fold_stmt-count_arms-requires-clause-parts
 fold_stmt-count_arms-requires-clause-parts t c = (weights_as _ _ (ap statement_of c.in-Choose.is ∙ choose_view c.in-Choose.arms) c.requires.weights).0
@@ -339,42 +339,42 @@ fold_stmt-total-requires t c = (weights_as _ _ (ap statement_of c.in-Choose.is �
 pub fold_stmt-undecided-requires : goal.fold_stmt-undecided-requires
 fold_stmt-undecided-requires t c =
     let w = weights_as _ _ (ap statement_of c.in-Choose.is ∙ choose_view c.in-Choose.arms) c.requires.weights in
-    record { least = omega (arith, c.total.ensures, w.0.positive); most = omega (arith, c.total.ensures, w.0.coarse); some = c.requires.some }
+    record { least = omega (arith, c.total.ensures, w.0.positive); most = omega (arith, c.total.ensures, w.0.coarse) }
 
 pub fold_stmt-fold_arms-requires : goal.fold_stmt-fold_arms-requires
 fold_stmt-fold_arms-requires t c =
     let q = (ap statement_of c.in-Choose.is ∙ choose_view c.in-Choose.arms) in
     let w = weights_as _ _ q c.requires.weights in
     let some : 1 ≤ length c.args.table.states.entries = omega (arith, c.if-len-eq0.false, c.len.ensures.len) in
-    let equal = subst (λ b. IsEqual c.in_ok-part-in-Choose.part (class_weight b c.args.attempts 1)) c.total.ensures c.in_ok-part-in-Choose.ensures.equal in
-    (search (rules, the_lemmas), (below_as _ _ _ q c.requires.below, (w.0, (w.1, (c.in_ok-part-in-Choose.ensures.above, (equal, (c.requires.some, some)))))))
+    let equal = subst (λ b. IsEqual c.in_ok-part-in-Choose.part (class_weight b c.args.attempts.most 1)) c.total.ensures c.in_ok-part-in-Choose.ensures.equal in
+    (search (rules, the_lemmas), (below_as _ _ _ q c.requires.below, (w.0, (w.1, (c.in_ok-part-in-Choose.ensures.above, (equal, some))))))
 
 pub fold_stmt-returns-in_ok-part-in-Choose-clause-ok : goal.fold_stmt-returns-in_ok-part-in-Choose-clause-ok
 fold_stmt-returns-in_ok-part-in-Choose-clause-ok t c =
     IfOk-weaker c.fold_arms.result _ _
-    (λ next a. folds_as c.args.turns c.args.attempts _ _ _ _ _ _ (ap statement_of c.in-Choose.is ∙ choose_view c.in-Choose.arms) (a c.args.ended.now (subst (λ b. UndecidedTo b c.args.attempts c.args.table.states.entries c.args.ended.now c.undecided.new.ended) c.total.ensures c.in_ok-part-in-Choose.ensures.ok)))
+    (λ next a. folds_as c.args.turns c.args.attempts.most _ _ _ _ _ _ (ap statement_of c.in-Choose.is ∙ choose_view c.in-Choose.arms) (a c.args.ended.now (subst (λ b. UndecidedTo b c.args.attempts.most c.args.table.states.entries c.args.ended.now c.undecided.new.ended) c.total.ensures c.in_ok-part-in-Choose.ensures.ok)))
     c.fold_arms.ensures.ok
 
 pub fold_stmt-returns-in_ok-part-in-Choose-clause-bits : goal.fold_stmt-returns-in_ok-part-in-Choose-clause-bits
 fold_stmt-returns-in_ok-part-in-Choose-clause-bits t c =
     IfOk-weaker c.fold_arms.result _ _
-    (λ next a. meters_as c.args.turns c.args.attempts _ _ _ _ _ _ (ap statement_of c.in-Choose.is ∙ choose_view c.in-Choose.arms)
-    (a c.args.ended.now (subst (λ b. UndecidedTo b c.args.attempts c.args.table.states.entries c.args.ended.now c.undecided.new.ended) c.total.ensures c.in_ok-part-in-Choose.ensures.ok) c.args.meter.now c.count_arms.ensures))
+    (λ next a. meters_as c.args.turns c.args.attempts.most _ _ _ _ _ _ (ap statement_of c.in-Choose.is ∙ choose_view c.in-Choose.arms)
+    (a c.args.ended.now (subst (λ b. UndecidedTo b c.args.attempts.most c.args.table.states.entries c.args.ended.now c.undecided.new.ended) c.total.ensures c.in_ok-part-in-Choose.ensures.ok) c.args.meter.now c.count_arms.ensures))
     c.fold_arms.ensures.bits
 
 pub fold_stmt-returns-in_ok-part-in-Choose-clause-cause : goal.fold_stmt-returns-in_ok-part-in-Choose-clause-cause
 fold_stmt-returns-in_ok-part-in-Choose-clause-cause t c =
     IfErr-weaker c.fold_arms.result _ _
-    (λ e a. blames_as c.args.turns c.args.attempts _ _ _ _ _ (ap statement_of c.in-Choose.is ∙ choose_view c.in-Choose.arms) (a c.args.ended.now (subst (λ b. UndecidedTo b c.args.attempts c.args.table.states.entries c.args.ended.now c.undecided.new.ended) c.total.ensures c.in_ok-part-in-Choose.ensures.ok)))
+    (λ e a. blames_as c.args.turns c.args.attempts.most _ _ _ _ _ (ap statement_of c.in-Choose.is ∙ choose_view c.in-Choose.arms) (a c.args.ended.now (subst (λ b. UndecidedTo b c.args.attempts.most c.args.table.states.entries c.args.ended.now c.undecided.new.ended) c.total.ensures c.in_ok-part-in-Choose.ensures.ok)))
     c.fold_arms.ensures.cause
 
 pub fold_stmt-returns-in_err-part-in-Choose-clause-cause : goal.fold_stmt-returns-in_err-part-in-Choose-clause-cause
 fold_stmt-returns-in_err-part-in-Choose-clause-cause t c =
     let w = weights_as _ _ (ap statement_of c.in-Choose.is ∙ choose_view c.in-Choose.arms) c.requires.weights in
     let out : c.from_residual-in_err-part-in-Choose.result ≡ Err c.in_err-part-in-Choose.field-0.0 = grind arith in
-    rw out (blames_as c.args.turns c.args.attempts _ _ _ _ _ (ap statement_of c.in-Choose.is ∙ choose_view c.in-Choose.arms)
-    (undecided_blames c.args.turns c.args.attempts (list_of_arms c.in-Choose.arms) w.0 c.args.table.states.entries c.args.ended.now c.in_err-part-in-Choose.field-0.0 (λ e. c.if-len-eq0.false (c.len.ensures.len ∙ ap length e))
-    (subst (λ b. UndecidedBlames b c.args.attempts c.args.table.states.entries c.args.ended.now c.in_err-part-in-Choose.field-0.0) c.total.ensures c.in_err-part-in-Choose.ensures.cause)))
+    rw out (blames_as c.args.turns c.args.attempts.most _ _ _ _ _ (ap statement_of c.in-Choose.is ∙ choose_view c.in-Choose.arms)
+    (undecided_blames c.args.turns c.args.attempts.most (list_of_arms c.in-Choose.arms) w.0 c.args.table.states.entries c.args.ended.now c.in_err-part-in-Choose.field-0.0 (λ e. c.if-len-eq0.false (c.len.ensures.len ∙ ap length e))
+    (subst (λ b. UndecidedBlames b c.args.attempts.most c.args.table.states.entries c.args.ended.now c.in_err-part-in-Choose.field-0.0) c.total.ensures c.in_err-part-in-Choose.ensures.cause)))
 
 pub fold_arms-loop-count-init : goal.fold_arms-loop-count-init
 fold_arms-loop-count-init t c =
@@ -384,8 +384,8 @@ fold_arms-loop-count-init t c =
       below = subst (ArmsBelow c.args.table.now.vars) (sym same) c.requires.below;
       weights = subst ArmsAreWeighed (sym same) c.requires.weights;
       few = let e = ap (λ a. sum (parts_of a)) same in omega (arith, e);
-      so_far = λ E u. arms_as c.args.turns c.args.attempts (list_of_arms c.args.arms.now) c.requires.parts c.args.table.now.states.entries E _ _ c.new-out.result.states.entries c.args.ended.now (sym same) (arms_start c.args.turns c.args.attempts (list_of_arms c.args.arms.now) c.requires.parts c.args.table.now.states.entries E c.args.ended.now c.new-out.result.states.entries u c.new-out.ensures.empty);
-      bits = λ E u m k. metered_as c.args.turns c.args.attempts (list_of_arms c.args.arms.now) c.requires.parts c.args.table.now.states.entries E m _ _ c.args.meter.now (sym same) (metered_start c.args.turns c.args.attempts (list_of_arms c.args.arms.now) c.requires.parts c.args.table.now.states.entries E m c.args.meter.now k);
+      so_far = λ E u. arms_as c.args.turns c.args.attempts.most (list_of_arms c.args.arms.now) c.requires.parts c.args.table.now.states.entries E _ _ c.new-out.result.states.entries c.args.ended.now (sym same) (arms_start c.args.turns c.args.attempts.most (list_of_arms c.args.arms.now) c.requires.parts c.args.table.now.states.entries E c.args.ended.now c.new-out.result.states.entries u c.new-out.ensures.empty);
+      bits = λ E u m k. metered_as c.args.turns c.args.attempts.most (list_of_arms c.args.arms.now) c.requires.parts c.args.table.now.states.entries E m _ _ c.args.meter.now (sym same) (metered_start c.args.turns c.args.attempts.most (list_of_arms c.args.arms.now) c.requires.parts c.args.table.now.states.entries E m c.args.meter.now k);
     }
 
 pub fold_arms-returns-in_err-side-clause-cause : goal.fold_arms-returns-in_err-side-clause-cause
@@ -394,7 +394,7 @@ fold_arms-returns-in_err-side-clause-cause t c =
     rw out (λ E u.
     let next = arms_next c.deref-count-items.result.now c.loop-count.count-index c.loop-count-item.result c.loop-count-test.true c.loop-count-item.is in
     let e = ap (λ a. sum (parts_of a)) next in
-    weighed_blames c.args.turns c.args.attempts (list_of_arms c.args.arms.now) c.requires.parts c.args.table.now.states.entries E c.loop-count-item.result.0 (statements_of c.loop-count-item.result.1) (arm_list_of (drop (c.loop-count.count-index + 1) c.deref-count-items.result.now)) c.loop-count.out.states.entries c.loop-count.ended (arms_as c.args.turns c.args.attempts (list_of_arms c.args.arms.now) c.requires.parts c.args.table.now.states.entries E _ _ c.loop-count.out.states.entries c.loop-count.ended next (c.loop-count.invariant.so_far E u)) c.args.part.now c.requires.equal c.in_err-side.field-0.0 (λ e. some_states c.args.table.now.states.entries c.requires.any e) c.requires.weights (subst ArmsAreWeighed next c.loop-count.invariant.weights)
+    weighed_blames c.args.turns c.args.attempts.most (list_of_arms c.args.arms.now) c.requires.parts c.args.table.now.states.entries E c.loop-count-item.result.0 (statements_of c.loop-count-item.result.1) (arm_list_of (drop (c.loop-count.count-index + 1) c.deref-count-items.result.now)) c.loop-count.out.states.entries c.loop-count.ended (arms_as c.args.turns c.args.attempts.most (list_of_arms c.args.arms.now) c.requires.parts c.args.table.now.states.entries E _ _ c.loop-count.out.states.entries c.loop-count.ended next (c.loop-count.invariant.so_far E u)) c.args.part.now c.requires.equal c.in_err-side.field-0.0 (λ e. some_states c.args.table.now.states.entries c.requires.any e) c.requires.weights (subst ArmsAreWeighed next c.loop-count.invariant.weights)
     (omega (arith, e, c.loop-count.invariant.few)) c.in_err-side.ensures.cause)
 
 pub fold_arms-fold_block-requires : goal.fold_arms-fold_block-requires
@@ -403,7 +403,7 @@ fold_arms-fold_block-requires t c =
       search (rules, the_lemmas),
       (
         subst (λ m. BlockBelow m (statements_of c.loop-count-item.result.1)) (sym c.in_ok-side.ensures.vars) (subst (ArmsBelow c.args.table.now.vars) next c.loop-count.invariant.below).0,
-        ((subst ArmsAreWeighed next c.loop-count.invariant.weights).0, c.requires.some),
+        (subst ArmsAreWeighed next c.loop-count.invariant.weights).0,
       ),
     )
 
@@ -412,7 +412,7 @@ fold_arms-returns-in_err-left-clause-cause t c =
     let out : c.from_residual-in_err-left.result ≡ Err c.in_err-left.field-0.0 = grind arith in
     rw out (λ E u.
     let next = arms_next c.deref-count-items.result.now c.loop-count.count-index c.loop-count-item.result c.loop-count-test.true c.loop-count-item.is in
-    block_blames c.args.turns c.args.attempts (list_of_arms c.args.arms.now) c.requires.parts c.args.table.now.states.entries E c.loop-count-item.result.0 (statements_of c.loop-count-item.result.1) (arm_list_of (drop (c.loop-count.count-index + 1) c.deref-count-items.result.now)) c.loop-count.out.states.entries c.loop-count.ended (arms_as c.args.turns c.args.attempts (list_of_arms c.args.arms.now) c.requires.parts c.args.table.now.states.entries E _ _ c.loop-count.out.states.entries c.loop-count.ended next (c.loop-count.invariant.so_far E u)) c.args.part.now c.requires.equal _ c.in_ok-side.ensures.ok c.in_err-left.field-0.0 c.requires.weights (subst ArmsAreWeighed next c.loop-count.invariant.weights) c.in_err-left.ensures.cause)
+    block_blames c.args.turns c.args.attempts.most (list_of_arms c.args.arms.now) c.requires.parts c.args.table.now.states.entries E c.loop-count-item.result.0 (statements_of c.loop-count-item.result.1) (arm_list_of (drop (c.loop-count.count-index + 1) c.deref-count-items.result.now)) c.loop-count.out.states.entries c.loop-count.ended (arms_as c.args.turns c.args.attempts.most (list_of_arms c.args.arms.now) c.requires.parts c.args.table.now.states.entries E _ _ c.loop-count.out.states.entries c.loop-count.ended next (c.loop-count.invariant.so_far E u)) c.args.part.now c.requires.equal _ c.in_ok-side.ensures.ok c.in_err-left.field-0.0 c.requires.weights (subst ArmsAreWeighed next c.loop-count.invariant.weights) c.in_err-left.ensures.cause)
 
 pub fold_arms-merge-requires : goal.fold_arms-merge-requires
 fold_arms-merge-requires t c = c.in_ok-left.ensures.vars ∙ c.in_ok-side.ensures.vars ∙ sym c.loop-count.invariant.vars
@@ -422,7 +422,7 @@ fold_arms-returns-in_err-merge-clause-cause t c =
     let out : c.from_residual-in_err-merge.result ≡ Err c.in_err-merge.field-0.0 = grind arith in
     rw out (λ E u.
     let next = arms_next c.deref-count-items.result.now c.loop-count.count-index c.loop-count-item.result c.loop-count-test.true c.loop-count-item.is in
-    arm_blames c.args.turns c.args.attempts (list_of_arms c.args.arms.now) c.requires.parts c.args.table.now.states.entries E c.loop-count-item.result.0 (statements_of c.loop-count-item.result.1) (arm_list_of (drop (c.loop-count.count-index + 1) c.deref-count-items.result.now)) c.loop-count.out.states.entries c.loop-count.ended (arms_as c.args.turns c.args.attempts (list_of_arms c.args.arms.now) c.requires.parts c.args.table.now.states.entries E _ _ c.loop-count.out.states.entries c.loop-count.ended next (c.loop-count.invariant.so_far E u)) c.args.part.now c.requires.equal _ c.in_ok-side.ensures.ok _ _ c.in_ok-left.ensures.ok c.in_err-merge.field-0.0 c.requires.weights c.in_err-merge.ensures.cause)
+    arm_blames c.args.turns c.args.attempts.most (list_of_arms c.args.arms.now) c.requires.parts c.args.table.now.states.entries E c.loop-count-item.result.0 (statements_of c.loop-count-item.result.1) (arm_list_of (drop (c.loop-count.count-index + 1) c.deref-count-items.result.now)) c.loop-count.out.states.entries c.loop-count.ended (arms_as c.args.turns c.args.attempts.most (list_of_arms c.args.arms.now) c.requires.parts c.args.table.now.states.entries E _ _ c.loop-count.out.states.entries c.loop-count.ended next (c.loop-count.invariant.so_far E u)) c.args.part.now c.requires.equal _ c.in_ok-side.ensures.ok _ _ c.in_ok-left.ensures.ok c.in_err-merge.field-0.0 c.requires.weights c.in_err-merge.ensures.cause)
 
 pub fold_arms-loop-count-preserved : goal.fold_arms-loop-count-preserved
 fold_arms-loop-count-preserved t c =
@@ -432,19 +432,19 @@ fold_arms-loop-count-preserved t c =
       below = (subst (ArmsBelow c.args.table.now.vars) next c.loop-count.invariant.below).1;
       weights = (subst ArmsAreWeighed next c.loop-count.invariant.weights).1;
       few = let s = sum_next c.deref-count-items.result.now c.loop-count.count-index c.loop-count-item.result c.loop-count-test.true c.loop-count-item.is in omega (arith, s, c.loop-count.invariant.few);
-      so_far = λ E u. arm_turn c.args.turns c.args.attempts (list_of_arms c.args.arms.now) c.requires.parts c.args.table.now.states.entries E c.loop-count-item.result.0 (statements_of c.loop-count-item.result.1) (arm_list_of (drop (c.loop-count.count-index + 1) c.deref-count-items.result.now)) c.loop-count.out.states.entries c.loop-count.ended (arms_as c.args.turns c.args.attempts (list_of_arms c.args.arms.now) c.requires.parts c.args.table.now.states.entries E _ _ c.loop-count.out.states.entries c.loop-count.ended next (c.loop-count.invariant.so_far E u)) c.args.part.now c.requires.equal _ c.in_ok-side.ensures.ok _ _ c.in_ok-left.ensures.ok _ c.in_ok-merge.ensures.ok;
-      bits = λ E u m k. metered_turn c.args.turns c.args.attempts (list_of_arms c.args.arms.now) c.requires.parts c.args.table.now.states.entries E m c.loop-count-item.result.0 (statements_of c.loop-count-item.result.1) (arm_list_of (drop (c.loop-count.count-index + 1) c.deref-count-items.result.now)) c.loop-count.out.states.entries c.loop-count.ended (arms_as c.args.turns c.args.attempts (list_of_arms c.args.arms.now) c.requires.parts c.args.table.now.states.entries E _ _ c.loop-count.out.states.entries c.loop-count.ended next (c.loop-count.invariant.so_far E u)) c.args.part.now c.requires.equal _ c.in_ok-side.ensures.ok c.loop-count.meter _ (metered_as c.args.turns c.args.attempts (list_of_arms c.args.arms.now) c.requires.parts c.args.table.now.states.entries E m _ _ c.loop-count.meter next (c.loop-count.invariant.bits E u m k)) c.in_ok-left.ensures.bits;
+      so_far = λ E u. arm_turn c.args.turns c.args.attempts.most (list_of_arms c.args.arms.now) c.requires.parts c.args.table.now.states.entries E c.loop-count-item.result.0 (statements_of c.loop-count-item.result.1) (arm_list_of (drop (c.loop-count.count-index + 1) c.deref-count-items.result.now)) c.loop-count.out.states.entries c.loop-count.ended (arms_as c.args.turns c.args.attempts.most (list_of_arms c.args.arms.now) c.requires.parts c.args.table.now.states.entries E _ _ c.loop-count.out.states.entries c.loop-count.ended next (c.loop-count.invariant.so_far E u)) c.args.part.now c.requires.equal _ c.in_ok-side.ensures.ok _ _ c.in_ok-left.ensures.ok _ c.in_ok-merge.ensures.ok;
+      bits = λ E u m k. metered_turn c.args.turns c.args.attempts.most (list_of_arms c.args.arms.now) c.requires.parts c.args.table.now.states.entries E m c.loop-count-item.result.0 (statements_of c.loop-count-item.result.1) (arm_list_of (drop (c.loop-count.count-index + 1) c.deref-count-items.result.now)) c.loop-count.out.states.entries c.loop-count.ended (arms_as c.args.turns c.args.attempts.most (list_of_arms c.args.arms.now) c.requires.parts c.args.table.now.states.entries E _ _ c.loop-count.out.states.entries c.loop-count.ended next (c.loop-count.invariant.so_far E u)) c.args.part.now c.requires.equal _ c.in_ok-side.ensures.ok c.loop-count.meter _ (metered_as c.args.turns c.args.attempts.most (list_of_arms c.args.arms.now) c.requires.parts c.args.table.now.states.entries E m _ _ c.loop-count.meter next (c.loop-count.invariant.bits E u m k)) c.in_ok-left.ensures.bits;
     }
 
 pub fold_arms-returns-clause-ok : goal.fold_arms-returns-clause-ok
 fold_arms-returns-clause-ok t c E u =
     let none = arms_done c.deref-count-items.result.now c.loop-count.count-index (omega (arith, c.loop-count-test.false)) in
-    arms_end c.args.turns c.args.attempts (list_of_arms c.args.arms.now) c.requires.parts c.args.table.now.states.entries E c.loop-count.out.states.entries c.loop-count.ended (arms_as c.args.turns c.args.attempts (list_of_arms c.args.arms.now) c.requires.parts c.args.table.now.states.entries E _ _ c.loop-count.out.states.entries c.loop-count.ended none (c.loop-count.invariant.so_far E u))
+    arms_end c.args.turns c.args.attempts.most (list_of_arms c.args.arms.now) c.requires.parts c.args.table.now.states.entries E c.loop-count.out.states.entries c.loop-count.ended (arms_as c.args.turns c.args.attempts.most (list_of_arms c.args.arms.now) c.requires.parts c.args.table.now.states.entries E _ _ c.loop-count.out.states.entries c.loop-count.ended none (c.loop-count.invariant.so_far E u))
 
 pub fold_arms-returns-clause-bits : goal.fold_arms-returns-clause-bits
 fold_arms-returns-clause-bits t c E u m k =
     let none = arms_done c.deref-count-items.result.now c.loop-count.count-index (omega (arith, c.loop-count-test.false)) in
-    metered_end c.args.turns c.args.attempts (list_of_arms c.args.arms.now) c.requires.parts c.args.table.now.states.entries E m c.loop-count.meter (metered_as c.args.turns c.args.attempts (list_of_arms c.args.arms.now) c.requires.parts c.args.table.now.states.entries E m _ _ c.loop-count.meter none (c.loop-count.invariant.bits E u m k))
+    metered_end c.args.turns c.args.attempts.most (list_of_arms c.args.arms.now) c.requires.parts c.args.table.now.states.entries E m c.loop-count.meter (metered_as c.args.turns c.args.attempts.most (list_of_arms c.args.arms.now) c.requires.parts c.args.table.now.states.entries E m _ _ c.loop-count.meter none (c.loop-count.invariant.bits E u m k))
 
 pub fold_arms-returns-clause-vars : goal.fold_arms-returns-clause-vars
 fold_arms-returns-clause-vars t c = c.loop-count.invariant.vars

@@ -12,11 +12,11 @@ returns-in-None c =
     let v = value_of (expression_of c.args.e.now) in
     let f : SFits w64 c.in-Ok.v = search rules in
     let b = is_bound c.in-Ok.v f (omega (arith, ints)) in
-    bound_wide v c.args.attempts c.args.s.now b.less _ c.uniform_bits.result (ap v (sym c.values.ensures) ∙ sym c.in-Ok.ensures ∙ ap Ok b.is) b.cast c.uniform_bits.ensures.value c.args.f.now c.in-Bits.field-0 c.args.meter c.in-Bits.is c.in-None.ensures.cause
+    bound_wide v c.args.attempts.most c.args.s.now b.less _ c.uniform_bits.result (ap v (sym c.values.ensures) ∙ sym c.in-Ok.ensures ∙ ap Ok b.is) b.cast c.uniform_bits.ensures.value c.args.f.now c.in-Bits.field-0 c.args.meter c.in-Bits.is c.in-None.ensures.cause
 
 pub returns-in-Some : goal.returns-in-Some
 returns-in-Some c =
     let v = value_of (expression_of c.args.e.now) in
     let f : SFits w64 c.in-Ok.v = search rules in
     let b = is_bound c.in-Ok.v f (omega (arith, ints)) in
-    bound_adds v c.args.attempts c.args.s.now b.less _ c.uniform_bits.result (ap v (sym c.values.ensures) ∙ sym c.in-Ok.ensures ∙ ap Ok b.is) b.cast c.uniform_bits.ensures.value c.in-Some.bits c.args.f.now c.args.meter c.add.result c.in-Some.ensures.value c.add.ensures
+    bound_adds v c.args.attempts.most c.args.s.now b.less _ c.uniform_bits.result (ap v (sym c.values.ensures) ∙ sym c.in-Ok.ensures ∙ ap Ok b.is) b.cast c.uniform_bits.ensures.value c.in-Some.bits c.args.f.now c.args.meter c.add.result c.in-Some.ensures.value c.add.ensures
