@@ -13,10 +13,11 @@ use Rattle.mass_tables.specs.Tables.{peak_of}
 use Rattle.mass_tables.specs.Width.{round_width, width_of}
 use Rattle.mass_fold.specs.declared.error.MassError.{MassError}
 use Rattle.mass_fold.specs.declared.error.MassError.TheVariants.{TooWide, TooManyStates, AllFailed, OutOfMemory}
-use Rattle.mass_fold.specs.Amounts.{held}
-use Rattle.mass_fold.specs.Masses.{counted, HoldMasses, RoundGives, WholeWithin}
+use Rattle.mass_fold.specs.Amounts.{held, WholeWithin}
+use Rattle.mass_fold.specs.inner.Masses.{counted, HoldMasses, RoundGives}
 use Rattle.mass_fold.specs.Refused.{IsLimit, RoundRefused, MassRefused}
-use Rattle.mass_fold.specs.Rounds.{geometric, scale_of, InRounds, RoundsBlame, OverRest, OverRestBlames}
+use Rattle.mass_fold.specs.Rounds.{geometric, scale_of}
+use Rattle.mass_fold.specs.inner.Rounds.{InRounds, RoundsBlame, OverRest, OverRestBlames}
 use Rattle.mass_fold.specs.Rows.{Rows}
 use Rattle.mass_fold.proofs.Failing.{at_scale}
 use Rattle.mass_fold.proofs.OutcomeRows.{lowest_is}

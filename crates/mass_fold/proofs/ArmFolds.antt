@@ -20,7 +20,7 @@ use Rattle.mass_tables.proofs.Kept.{all_end_weight, ends_whole, arms_weight, cho
 use Rattle.mass_tables.proofs.Draws.{class_pos}
 use Rattle.mass_fold.specs.declared.error.MassError.{MassError}
 use Rattle.mass_fold.specs.declared.ended.Ended.{Ended}
-use Rattle.mass_fold.specs.Amounts.{Entries}
+use Rattle.mass_fold.specs.inner.Amounts.{Entries}
 use Rattle.mass_fold.specs.inner.Steps.{StepsTo, StepBlames}
 use Rattle.mass_fold.specs.inner.Fold.{Stands, EndStands, FoldsTo, FoldBlames, Around, FoldsOne, OneBlames, UndecidedTo, UndecidedBlames, WeighedBy, WeighBlamesBy}
 use Rattle.mass_fold.proofs.Folds.{stands_along, end_along, merged, merge_blamed, head_few}

@@ -15,7 +15,7 @@ use Rattle.mass_tables.specs.Scale.{amount}
 use Rattle.mass_tables.proofs.Kept.{first_arm}
 use Rattle.mass_fold.specs.declared.ended.Ended.{Ended}
 use Rattle.mass_fold.specs.declared.meter.Meter.{Meter}
-use Rattle.mass_fold.specs.Amounts.{Entries}
+use Rattle.mass_fold.specs.inner.Amounts.{Entries}
 use Rattle.mass_fold.specs.inner.Fold.{Stands, EndStands, Around, WeighedBy}
 use Rattle.mass_fold.specs.Metering.{Priced, price}
 use Rattle.mass_fold.specs.inner.Metering.{Counted, CountsDraws, Meters, MetersOne}

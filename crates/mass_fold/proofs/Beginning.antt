@@ -15,7 +15,7 @@ use Rattle.mass_tables.proofs.Kept.{kept_all}
 use Rattle.mass_tables.proofs.Wholes.{whole_from}
 use Rattle.mass_fold.specs.declared.error.MassError.{MassError}
 use Rattle.mass_fold.specs.declared.ended.Ended.{Ended}
-use Rattle.mass_fold.specs.Amounts.{Entries, Blames}
+use Rattle.mass_fold.specs.inner.Amounts.{Entries, Blames}
 use Rattle.mass_fold.specs.inner.Ended.{IsNoWeight, IsNone}
 use Rattle.mass_fold.specs.inner.Fold.{Stands, EndStands, FoldsTo, FoldBlames}
 use Rattle.mass_fold.specs.inner.Body.{BodyGives, BodyMeters}

@@ -14,7 +14,8 @@ use Rattle.mass_tables.specs.Scale.{whole, Wholes, Within, amount}
 use Rattle.mass_tables.proofs.Amounts.{amount_append, whole_zero}
 use Rattle.mass_tables.proofs.Linear.{sum_of_all, after_weight, Zero, flow_paths, amounts_paths, counted}
 use Rattle.mass_fold.specs.declared.ended.Ended.{Ended}
-use Rattle.mass_fold.specs.Amounts.{Entries, held}
+use Rattle.mass_fold.specs.Amounts.{held}
+use Rattle.mass_fold.specs.inner.Amounts.{Entries}
 use Rattle.mass_fold.specs.inner.Ended.{rows_of}
 use Rattle.mass_fold.specs.inner.Fold.{Stands, EndStands}
 use Rattle.mass_fold.proofs.Folds.{last_few, held_none}

@@ -17,7 +17,7 @@ use Rattle.mass_fold.specs.declared.error.MassError.{MassError}
 use Rattle.mass_fold.specs.declared.ended.Gone.{Gone}
 use Rattle.mass_fold.specs.declared.ended.Gone.TheVariants as gone_kind
 use Rattle.mass_fold.specs.declared.ended.Ended.{Ended}
-use Rattle.mass_fold.specs.Amounts.{Entries}
+use Rattle.mass_fold.specs.inner.Amounts.{Entries}
 use Rattle.mass_fold.specs.inner.Ended.{end_of, fault_end, EndGives, EndBlames}
 use Rattle.mass_fold.specs.inner.Steps.{AddedBy, StoppedBy, BlamedBy, at_numbers}
 use Rattle.mass_fold.proofs.Drawings.{added_none, stopped_all, blamed_all}

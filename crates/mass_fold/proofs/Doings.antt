@@ -8,7 +8,8 @@ use Rattle.mass_tables.specs.Scale.{whole}
 use Rattle.mass_fold.specs.declared.error.MassError.{MassError}
 use Rattle.mass_fold.specs.declared.ended.Gone.{Gone}
 use Rattle.mass_fold.specs.declared.ended.Ended.{Ended}
-use Rattle.mass_fold.specs.Amounts.{Entries, held, Blames, PutGives, PutBlames}
+use Rattle.mass_fold.specs.Amounts.{held}
+use Rattle.mass_fold.specs.inner.Amounts.{Entries, Blames, PutGives, PutBlames}
 use Rattle.mass_fold.specs.inner.Ended.{end_of, EndGives, EndBlames}
 use Rattle.mass_tables.specs.Counts.{all_kept}
 use Rattle.mass_fold.specs.inner.Steps.{StepsTo, StepsOn, StepBlames}

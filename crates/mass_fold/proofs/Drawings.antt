@@ -15,7 +15,8 @@ use Rattle.mass_fold.specs.declared.error.MassError.{MassError}
 use Rattle.mass_fold.specs.declared.error.MassError.TheVariants.{TooWide}
 use Rattle.mass_fold.specs.declared.ended.Gone.{Gone}
 use Rattle.mass_fold.specs.declared.ended.Ended.{Ended}
-use Rattle.mass_fold.specs.Amounts.{Entries, held, AreHeld, Blames, PutGives, PutBlames}
+use Rattle.mass_fold.specs.Amounts.{held, AreHeld}
+use Rattle.mass_fold.specs.inner.Amounts.{Entries, Blames, PutGives, PutBlames}
 use Rattle.mass_fold.specs.inner.Ended.{end_of, rows_of, EndGives, EndBlames}
 use Rattle.mass_fold.specs.inner.Steps.{DrawsOn, DrawBlames, PartsBlame, AddedBy, StoppedBy, BlamedBy, SpreadGives, SpreadBlames, at_numbers}
 use Rattle.mass_fold.proofs.Insertion.{whole_pos, numerator_pos}

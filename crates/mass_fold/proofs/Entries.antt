@@ -16,7 +16,8 @@ use Rattle.gcl_core.specs.meaning.Value.{State}
 use Rattle.gcl_core.specs.weighing.Fractions.{Fraction}
 use Rattle.mass_tables.specs.Tables.{Table, states}
 use Rattle.mass_tables.specs.Scale.{whole, Whole, amount}
-use Rattle.mass_fold.specs.Amounts.{Entries, held, AreHeld, PartOf, order, found}
+use Rattle.mass_fold.specs.Amounts.{held, AreHeld}
+use Rattle.mass_fold.specs.inner.Amounts.{Entries, PartOf, order, found}
 use Rattle.mass_fold.proofs.Insertion.{whole_pos}
 use Rattle.mass_fold.specs.declared.table.TheConstants.{MOST_STATES}
 

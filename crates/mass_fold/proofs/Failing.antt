@@ -11,7 +11,8 @@ use Rattle.mass_tables.proofs.Wholes.{whole_from}
 use Rattle.mass_fold.specs.declared.error.MassError.{MassError}
 use Rattle.mass_fold.specs.Amounts.{held, AreHeld}
 use Rattle.mass_fold.specs.inner.Outcomes.{AddGives, AddBlames}
-use Rattle.mass_fold.specs.Rounds.{geometric, scale_of, TableParts, InRounds, RoundsBlame}
+use Rattle.mass_fold.specs.Rounds.{geometric, scale_of}
+use Rattle.mass_fold.specs.inner.Rounds.{TableParts, InRounds, RoundsBlame}
 use Rattle.mass_fold.specs.Rows.{Rows}
 use Rattle.mass_fold.specs.inner.Steps.{IsPower, PowerBlames}
 use Rattle.mass_fold.proofs.Powers.{equal_whole}

@@ -7,7 +7,7 @@ use Rattle.gcl_core.specs.meaning.Bounds.{StatementIsWeighed, BlockIsWeighed, St
 use Rattle.mass_tables.specs.Tables.{statement_flow}
 use Rattle.mass_fold.specs.declared.error.MassError.{MassError}
 use Rattle.mass_fold.specs.declared.ended.Ended.{Ended}
-use Rattle.mass_fold.specs.Amounts.{Entries}
+use Rattle.mass_fold.specs.inner.Amounts.{Entries}
 use Rattle.mass_fold.specs.inner.Fold.{FoldsOne, OneBlames}
 
 pub below_as : (m : ℕ) (st st' : Statement) → st ≡ st' → StatementBelow m st → StatementBelow m st'

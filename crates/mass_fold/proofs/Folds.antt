@@ -21,7 +21,8 @@ use Rattle.mass_tables.proofs.NoneReached.{none_counts}
 use Rattle.mass_fold.specs.declared.error.MassError.{MassError}
 use Rattle.mass_fold.specs.declared.ended.Gone.TheVariants as gone_kind
 use Rattle.mass_fold.specs.declared.ended.Ended.{Ended}
-use Rattle.mass_fold.specs.Amounts.{Entries, held, AreHeld, Blames, order}
+use Rattle.mass_fold.specs.Amounts.{held, AreHeld}
+use Rattle.mass_fold.specs.inner.Amounts.{Entries, Blames, order}
 use Rattle.mass_fold.specs.inner.Ended.{end_of, rows_of}
 use Rattle.mass_fold.specs.inner.Steps.{StepsTo, StepBlames, Shares, shared, BothWhole, UniformTo, UniformBlames}
 use Rattle.mass_fold.specs.inner.Fold.{Stands, EndStands, FoldsTo, FoldBlames, Around, FoldsOne, OneBlames}

@@ -13,7 +13,8 @@ use Rattle.frac128.specs.Fraction.{InLowest, sum_of}
 use Rattle.frac128.proofs.Divisors.{product_pos, factor_pos}
 use Rattle.mass_tables.specs.Scale.{whole, Whole}
 use Rattle.mass_tables.proofs.Wholes.{sum_whole, sum_refused}
-use Rattle.mass_fold.specs.Amounts.{held, AreHeld, PutGives, found, SumAt}
+use Rattle.mass_fold.specs.Amounts.{held, AreHeld}
+use Rattle.mass_fold.specs.inner.Amounts.{PutGives, found, SumAt}
 
 pub product_below : (a b : ℕ) → 0 < a * b → 0 < a
 product_below zero b h = absurd (omega arith)

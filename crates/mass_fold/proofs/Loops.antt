@@ -15,7 +15,8 @@ use Rattle.mass_tables.proofs.NoneReached.{none_counts}
 use Rattle.mass_fold.specs.declared.error.MassError.{MassError}
 use Rattle.mass_fold.specs.declared.ended.Gone.TheVariants as gone_kind
 use Rattle.mass_fold.specs.declared.ended.Ended.{Ended}
-use Rattle.mass_fold.specs.Amounts.{Entries, held}
+use Rattle.mass_fold.specs.Amounts.{held}
+use Rattle.mass_fold.specs.inner.Amounts.{Entries}
 use Rattle.mass_fold.specs.inner.Ended.{end_of}
 use Rattle.mass_fold.specs.inner.Steps.{StepsTo, StepBlames}
 use Rattle.mass_fold.specs.inner.Fold.{Stands, FoldsTo, FoldBlames, FoldsOne, OneBlames, LoopAt, LoopsOn}

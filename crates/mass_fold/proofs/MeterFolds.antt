@@ -18,7 +18,8 @@ use Rattle.mass_tables.proofs.Amounts.{amount_append, both_first, both_second}
 use Rattle.mass_tables.proofs.NoneReached.{amount_drawn_each, amount_drawn_bound, none_one}
 use Rattle.mass_fold.specs.declared.ended.Ended.{Ended}
 use Rattle.mass_fold.specs.declared.meter.Meter.{Meter}
-use Rattle.mass_fold.specs.Amounts.{Entries, held}
+use Rattle.mass_fold.specs.Amounts.{held}
+use Rattle.mass_fold.specs.inner.Amounts.{Entries}
 use Rattle.mass_fold.specs.inner.Steps.{StepsTo}
 use Rattle.mass_fold.specs.inner.Fold.{Stands, FoldsTo, FoldsOne, SidesTo}
 use Rattle.mass_fold.specs.Metering.{IsPriced, Priced, price}

@@ -13,7 +13,8 @@ use Rattle.mass_tables.proofs.Amounts.{amount_append}
 use Rattle.mass_tables.proofs.NoneReached.{none_turns, none_all}
 use Rattle.mass_fold.specs.declared.ended.Ended.{Ended}
 use Rattle.mass_fold.specs.declared.meter.Meter.{Meter}
-use Rattle.mass_fold.specs.Amounts.{Entries, held}
+use Rattle.mass_fold.specs.Amounts.{held}
+use Rattle.mass_fold.specs.inner.Amounts.{Entries}
 use Rattle.mass_fold.specs.inner.Steps.{StepsTo}
 use Rattle.mass_fold.specs.inner.Fold.{Stands, EndStands, FoldsTo, LoopAt}
 use Rattle.mass_fold.specs.Metering.{Priced, price}

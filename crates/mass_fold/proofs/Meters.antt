@@ -10,7 +10,8 @@ use Rattle.mass_tables.specs.Scale.{whole, Whole}
 use Rattle.mass_tables.proofs.Wholes.{whole_from, sum_whole, sum_wide, product_whole, product_wide}
 use Rattle.mass_fold.specs.declared.meter.Meter.{Meter}
 use Rattle.mass_fold.specs.declared.meter.Meter.TheVariants.{Off, Bits, TooWide}
-use Rattle.mass_fold.specs.Amounts.{Entries, held}
+use Rattle.mass_fold.specs.Amounts.{held}
+use Rattle.mass_fold.specs.inner.Amounts.{Entries}
 use Rattle.mass_fold.specs.inner.Steps.{EachState, IsParts, PartsBlame}
 use Rattle.mass_fold.specs.Metering.{IsPriced}
 use Rattle.mass_fold.specs.inner.Metering.{Counted, AddsBits, IsPrice, PriceBlames, CountsAll, CountsRest}

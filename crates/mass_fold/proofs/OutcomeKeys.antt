@@ -9,7 +9,7 @@ use Rattle.std.specs.List.Sorted.{IsStrictlySortedBy}
 use Rattle.gcl_core.specs.declared.answers.Outcome.{Outcome}
 use Rattle.gcl_core.specs.weighing.Fractions.{Fraction}
 use Rattle.gcl_core.specs.meaning.Order.{is_before}
-use Rattle.mass_fold.specs.Amounts.{SumAt}
+use Rattle.mass_fold.specs.inner.Amounts.{SumAt}
 use Rattle.mass_fold.specs.Rows.{Rows}
 use Rattle.mass_fold.specs.inner.Outcomes.{AddGives}
 use Rattle.mass_fold.proofs.Insertion.{put_gives}

@@ -14,7 +14,7 @@ use Rattle.frac128.proofs.Divisors.{gauss, along_to, lowest_from, product_pos, c
 use Rattle.mass_tables.specs.Scale.{whole, Whole}
 use Rattle.mass_fold.specs.declared.error.MassError.{MassError}
 use Rattle.mass_fold.specs.Amounts.{held, AreHeld}
-use Rattle.mass_fold.specs.Masses.{counted, HoldMasses}
+use Rattle.mass_fold.specs.inner.Masses.{counted, HoldMasses}
 use Rattle.mass_fold.specs.Rows.{Rows, outcomes_of, Ascending, EachLowest, AreMasses}
 use Rattle.mass_fold.proofs.Insertion.{whole_pos}
 

@@ -4,9 +4,10 @@ use Rattle.gcl_core.specs.declared.answers.Outcome.{Outcome}
 use Rattle.gcl_core.specs.weighing.Fractions.{Fraction}
 use Rattle.mass_tables.specs.Scale.{whole, Whole}
 use Rattle.mass_fold.specs.declared.error.MassError.{MassError}
-use Rattle.mass_fold.specs.Amounts.{held, AreHeld, Blames}
+use Rattle.mass_fold.specs.Amounts.{held, AreHeld}
+use Rattle.mass_fold.specs.inner.Amounts.{Blames}
 use Rattle.mass_fold.specs.inner.Outcomes.{AddGives, AddBlames}
-use Rattle.mass_fold.specs.Rounds.{ArePartsOfOne, TableParts}
+use Rattle.mass_fold.specs.inner.Rounds.{ArePartsOfOne, TableParts}
 use Rattle.mass_fold.specs.Rows.{Rows}
 
 -- what stands once the rest is left: each weight at scale M is C times what it was at scale N

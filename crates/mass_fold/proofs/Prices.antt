@@ -10,7 +10,7 @@ use Rattle.cost_law.specs.ExpectedBits.{attempt_bits}
 use Rattle.mass_tables.specs.Scale.{whole, Whole}
 use Rattle.mass_fold.specs.declared.meter.Meter.{Meter}
 use Rattle.mass_fold.specs.declared.meter.Meter.TheVariants.{Bits, TooWide}
-use Rattle.mass_fold.specs.Amounts.{Entries}
+use Rattle.mass_fold.specs.inner.Amounts.{Entries}
 use Rattle.mass_fold.specs.Metering.{IsPriced, price}
 use Rattle.mass_fold.specs.inner.Metering.{AddsBits, IsPrice, PriceBlames, bound_price, IsValuePriced, IsBoundPriced, CountsAll, CountsDraws}
 use Rattle.mass_fold.proofs.Meters.{counted_as, counts_as, wide_here}

@@ -6,7 +6,8 @@ use Rattle.frac128.specs.Fraction.{InLowest, sum_of, product_of}
 use Rattle.frac128.proofs.Divisors.{product_pos, lowest_in_lowest}
 use Rattle.mass_tables.specs.Scale.{whole, Whole}
 use Rattle.mass_tables.proofs.Wholes.{whole_from, sum_whole, sum_wide, product_whole, product_wide, whole_multiple}
-use Rattle.mass_fold.specs.Rounds.{geometric, scale_of, ArePartsOfOne, MayRepeat, IsRepeated, RepeatBlames}
+use Rattle.mass_fold.specs.Rounds.{geometric, scale_of, MayRepeat, IsRepeated, RepeatBlames}
+use Rattle.mass_fold.specs.inner.Rounds.{ArePartsOfOne}
 use Rattle.mass_fold.proofs.Powers.{product_is}
 
 -- ---- numbers

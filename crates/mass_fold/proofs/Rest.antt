@@ -10,8 +10,8 @@ use Rattle.mass_tables.specs.Scale.{whole, Whole}
 use Rattle.mass_tables.proofs.Wholes.{whole_from, product_whole, product_refused}
 use Rattle.mass_fold.specs.declared.error.MassError.{MassError}
 use Rattle.mass_fold.specs.declared.error.MassError.TheVariants.{TooWide, TooManyStates, AllFailed, OutOfMemory}
-use Rattle.mass_fold.specs.Amounts.{Blames}
-use Rattle.mass_fold.specs.Rounds.{ArePartsOfOne, TableParts, OverRestBlames}
+use Rattle.mass_fold.specs.inner.Amounts.{Blames}
+use Rattle.mass_fold.specs.inner.Rounds.{ArePartsOfOne, TableParts, OverRestBlames}
 use Rattle.mass_fold.specs.Rows.{Rows}
 
 abbrev turned : Fraction → Fraction

@@ -7,7 +7,8 @@ use Rattle.gcl_core.specs.meaning.Syntax.{Expression}
 use Rattle.gcl_core.specs.meaning.Value.{State, value_of}
 use Rattle.mass_tables.specs.Scale.{whole}
 use Rattle.mass_fold.specs.declared.error.MassError.{MassError}
-use Rattle.mass_fold.specs.Amounts.{Entries, held, AreHeld}
+use Rattle.mass_fold.specs.Amounts.{held, AreHeld}
+use Rattle.mass_fold.specs.inner.Amounts.{Entries}
 use Rattle.mass_fold.specs.Rows.{Rows}
 use Rattle.mass_fold.specs.inner.Outcomes.{AddGives, AddBlames, by_result, ResultsGive, ResultsBlame}
 

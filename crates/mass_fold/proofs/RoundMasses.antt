@@ -18,10 +18,11 @@ use Rattle.mass_tables.proofs.Paths.{ends_positive, sum_positive}
 use Rattle.mass_fold.specs.declared.ended.Ended.{Ended}
 use Rattle.mass_fold.specs.declared.error.MassError.{MassError}
 use Rattle.mass_fold.specs.declared.error.MassError.TheVariants.{TooWide, TooManyStates, AllFailed, OutOfMemory}
-use Rattle.mass_fold.specs.Amounts.{Entries, held, AreHeld, Blames}
+use Rattle.mass_fold.specs.Amounts.{held, AreHeld}
+use Rattle.mass_fold.specs.inner.Amounts.{Entries, Blames}
 use Rattle.mass_fold.specs.inner.Body.{BodyGives}
 use Rattle.mass_fold.specs.inner.Ended.{rows_of}
-use Rattle.mass_fold.specs.Masses.{counted, RoundGives}
+use Rattle.mass_fold.specs.inner.Masses.{counted, RoundGives}
 use Rattle.mass_fold.specs.inner.Outcomes.{by_result, ResultsGive, ResultsBlame, EndedGive, EndedBlame}
 use Rattle.mass_fold.specs.Refused.{RoundRefused}
 use Rattle.mass_fold.specs.Rows.{Rows}

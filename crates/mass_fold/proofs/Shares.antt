@@ -20,7 +20,8 @@ use Rattle.mass_tables.proofs.Wholes.{whole_from}
 use Rattle.mass_tables.proofs.Draws.{share, class_pos, no_class_pos}
 use Rattle.mass_tables.proofs.EqualFractions.{equal_times}
 use Rattle.mass_tables.proofs.Kept.{times_swap}
-use Rattle.mass_fold.specs.Amounts.{Entries, held, AreHeld, order}
+use Rattle.mass_fold.specs.Amounts.{held, AreHeld}
+use Rattle.mass_fold.specs.inner.Amounts.{Entries, order}
 use Rattle.mass_fold.specs.inner.Steps.{Shares, shared, EachState, BothWhole}
 use Rattle.mass_fold.specs.inner.Fold.{Stands}
 use Rattle.mass_fold.proofs.Entries.{same, same_is, same_is_eq, at}

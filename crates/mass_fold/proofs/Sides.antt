@@ -23,7 +23,7 @@ use Rattle.mass_fold.specs.declared.error.MassError.{MassError}
 use Rattle.mass_fold.specs.declared.error.MassError.TheVariants.{TooWide}
 use Rattle.mass_fold.specs.declared.ended.Gone.TheVariants as gone_kind
 use Rattle.mass_fold.specs.declared.ended.Ended.{Ended}
-use Rattle.mass_fold.specs.Amounts.{Entries, order}
+use Rattle.mass_fold.specs.inner.Amounts.{Entries, order}
 use Rattle.mass_fold.specs.inner.Ended.{end_of, rows_of}
 use Rattle.mass_fold.specs.inner.Steps.{StepsTo, StepBlames, EachState, BothWhole, DrawsTo, DrawBlames, IsParts, PartsBlame}
 use Rattle.mass_fold.specs.inner.Fold.{Stands, FoldsTo, FoldBlames, Around, FoldsOne, OneBlames, UndecidedTo, UndecidedBlames, WeighedBy, WeighBlamesBy, SidesWithin, SidesTo, SidesBlame}

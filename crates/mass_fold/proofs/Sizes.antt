@@ -9,7 +9,7 @@ use Rattle.std.proofs.lemmas.Map.Entries.{length-keys_of}
 use Rattle.std.proofs.lemmas.Map.Views.{All-keys-insert_entry, All-turn}
 use Rattle.gcl_core.specs.meaning.Value.{State}
 use Rattle.gcl_core.specs.weighing.Fractions.{Fraction}
-use Rattle.mass_fold.specs.Amounts.{Entries, order}
+use Rattle.mass_fold.specs.inner.Amounts.{Entries, order}
 
 module _ (m : ℕ) (es : Entries) (sized : All (λ s. length s ≡ m) (keys_of es)) where
   -- after a state of this length was put, or could not be

@@ -2,7 +2,6 @@ pub mod Amounts
 pub mod Body
 pub mod Rows
 pub mod Rounds
-pub mod Masses
 pub mod Refused
 pub mod Weighed
 pub mod Metering

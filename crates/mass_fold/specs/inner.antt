@@ -1,4 +1,7 @@
 -- Words of proofs and of private contracts. No public definition or clause cites one.
+pub mod Amounts
+pub mod Rounds
+pub mod Masses
 pub mod Ended
 pub mod Steps
 pub mod Fold

@@ -8,7 +8,8 @@ ghost use Rattle.gcl_core.specs.meaning.Outcomes.{same_outcome};
 ghost use Rattle.gcl_core.specs.meaning.Views.{source_of};
 ghost use Rattle.gcl_core.specs.declared.rules.TheConstants.{MOST_LIMIT};
 ghost use Rattle.mass_tables.specs.Width.{round_width, width_of};
-ghost use Rattle.mass_fold.specs.Masses.{RoundGives, WholeWithin};
+ghost use Rattle.mass_fold.specs.Amounts.{WholeWithin};
+ghost use Rattle.mass_fold.specs.inner.Masses.{RoundGives};
 ghost use Rattle.mass_fold.specs.Refused.{IsLimit, RoundRefused, MassRefused};
 ghost use Rattle.mass_fold.specs.Rows.{AreMasses};
 

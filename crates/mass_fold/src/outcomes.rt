@@ -4,7 +4,7 @@ ghost use Rattle.std.specs.Prelude.{◌≡◌, length, IfOk, OnOk, IfErr};
 ghost use Rattle.gcl_core.specs.meaning.Outcomes.{outcome_of};
 ghost use Rattle.gcl_core.specs.meaning.Value.{value_of, ExpressionBelow};
 ghost use Rattle.gcl_core.specs.meaning.Views.{expression_of};
-ghost use Rattle.mass_fold.specs.Amounts.{SumAt};
+ghost use Rattle.mass_fold.specs.inner.Amounts.{SumAt};
 ghost use Rattle.mass_fold.specs.inner.Outcomes.{AddGives, AddBlames, ResultsGive, ResultsBlame, EndedGive, EndedBlame};
 
 use crate::ended::Ended;

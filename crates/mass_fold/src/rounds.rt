@@ -1,7 +1,8 @@
 // Rounds after the first.
 
 ghost use Rattle.std.specs.Prelude.{◌≡◌, ◌≤◌, ◌<◌, IfOk, IfErr, IfSome, IfNone};
-ghost use Rattle.mass_fold.specs.Rounds.{IsRepeated, RepeatBlames, InRounds, RoundsBlame, OverRest, OverRestBlames};
+ghost use Rattle.mass_fold.specs.Rounds.{IsRepeated, RepeatBlames};
+ghost use Rattle.mass_fold.specs.inner.Rounds.{InRounds, RoundsBlame, OverRest, OverRestBlames};
 ghost use Rattle.mass_fold.specs.inner.Steps.{IsPower, PowerBlames};
 
 use crate::draws::power;

@@ -5,7 +5,7 @@ ghost use Rattle.std.specs.BTreeMap.{keys};
 ghost use Rattle.std.proofs.Props.{props};
 ghost use Rattle.gcl_core.specs.meaning.Outcomes.{zeros};
 ghost use Rattle.mass_fold.specs.declared.error.MassError.TheVariants.{OutOfMemory};
-ghost use Rattle.mass_fold.specs.Amounts.{PutGives, PutBlames, SumAt, order};
+ghost use Rattle.mass_fold.specs.inner.Amounts.{PutGives, PutBlames, SumAt, order};
 
 use crate::error::MassError;
 use crate::state::State;

@@ -13,7 +13,7 @@ use Rattle.gcl_core.specs.meaning.Outcomes.{same_outcome}
 use Rattle.gcl_core.specs.meaning.Syntax.{SourceProgram}
 use Rattle.mass_fold.specs.declared.error.MassError.{MassError}
 use Rattle.mass_fold.specs.declared.error.MassError.TheVariants.{TooWide, TooManyStates, AllFailed, OutOfMemory}
-use Rattle.mass_fold.specs.Masses.{WholeWithin}
+use Rattle.mass_fold.specs.Amounts.{WholeWithin}
 use Rattle.mass_fold.specs.Refused.{MassRefused}
 use Rattle.mass_fold.specs.Rows as masses
 use Rattle.mass_tables.specs.Width.{width_of}

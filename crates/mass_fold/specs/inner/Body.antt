@@ -12,7 +12,8 @@ use Rattle.mass_tables.specs.Tables.{tables_of}
 use Rattle.mass_tables.specs.Width.{round_width}
 use Rattle.mass_fold.specs.declared.ended.Ended.{Ended}
 use Rattle.mass_fold.specs.declared.meter.Meter.{Meter}
-use Rattle.mass_fold.specs.Amounts.{Entries, held}
+use Rattle.mass_fold.specs.Amounts.{held}
+use Rattle.mass_fold.specs.inner.Amounts.{Entries}
 use Rattle.mass_fold.specs.inner.Ended.{rows_of}
 use Rattle.mass_fold.specs.inner.Fold.{Stands, EndStands}
 use Rattle.mass_fold.specs.Metering.{Priced, price}

@@ -13,7 +13,8 @@ use Rattle.mass_tables.specs.Tables.{Table, Flow, all_end, states, statement_flo
 use Rattle.mass_tables.specs.Scale.{Whole, Wholes, Within, amount, weight}
 use Rattle.mass_fold.specs.declared.error.MassError.{MassError}
 use Rattle.mass_fold.specs.declared.ended.Ended.{Ended}
-use Rattle.mass_fold.specs.Amounts.{Entries, held, AreHeld, Blames}
+use Rattle.mass_fold.specs.Amounts.{held, AreHeld}
+use Rattle.mass_fold.specs.inner.Amounts.{Entries, Blames}
 use Rattle.mass_fold.specs.inner.Ended.{rows_of}
 
 -- a table with each state once stands for a list of states, at a scale: whatever counts a state, both count the same

@@ -15,7 +15,8 @@ use Rattle.mass_tables.specs.Scale.{whole, Whole, Within, amount}
 use Rattle.mass_fold.specs.declared.ended.Ended.{Ended}
 use Rattle.mass_fold.specs.declared.meter.Meter.{Meter}
 use Rattle.mass_fold.specs.declared.meter.Meter.TheVariants.{Off, Bits, TooWide}
-use Rattle.mass_fold.specs.Amounts.{Entries, held, AreHeld}
+use Rattle.mass_fold.specs.Amounts.{held, AreHeld}
+use Rattle.mass_fold.specs.inner.Amounts.{Entries}
 use Rattle.mass_fold.specs.inner.Steps.{EachState}
 use Rattle.mass_fold.specs.inner.Fold.{Stands, EndStands, Around, AfterUndecided}
 use Rattle.frac128.specs.Fraction.{Overfills}

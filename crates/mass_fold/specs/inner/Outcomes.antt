@@ -10,7 +10,8 @@ use Rattle.gcl_core.specs.meaning.Value.{State, value_of}
 use Rattle.mass_tables.specs.Scale.{whole, Whole, Wholes, amount}
 use Rattle.mass_fold.specs.declared.error.MassError.{MassError}
 use Rattle.mass_fold.specs.declared.ended.Ended.{Ended}
-use Rattle.mass_fold.specs.Amounts.{Entries, held, AreHeld, Blames}
+use Rattle.mass_fold.specs.Amounts.{held, AreHeld}
+use Rattle.mass_fold.specs.inner.Amounts.{Entries, Blames}
 use Rattle.mass_fold.specs.inner.Ended.{rows_of}
 use Rattle.mass_fold.specs.Rows.{Rows}
 

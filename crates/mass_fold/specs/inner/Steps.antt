@@ -10,7 +10,8 @@ use Rattle.mass_tables.specs.Scale.{whole, Whole, Wholes, amount, weight}
 use Rattle.mass_tables.specs.Counts.{sum_below, part_at, rest_at, drawn, undrawn}
 use Rattle.mass_fold.specs.declared.error.MassError.{MassError}
 use Rattle.mass_fold.specs.declared.ended.Ended.{Ended}
-use Rattle.mass_fold.specs.Amounts.{Entries, held, AreHeld, Blames}
+use Rattle.mass_fold.specs.Amounts.{held, AreHeld}
+use Rattle.mass_fold.specs.inner.Amounts.{Entries, Blames}
 use Rattle.mass_fold.specs.inner.Ended.{rows_of}
 
 -- what each entry of es adds to the table bs, by go, and to what has ended, by stop

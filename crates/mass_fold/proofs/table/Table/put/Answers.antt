@@ -1,4 +1,4 @@
-use Rattle.mass_fold.specs.Amounts.{order}
+use Rattle.mass_fold.specs.inner.Amounts.{order}
 use Rattle.mass_fold.proofs.Entries.{order_total, equal_is}
 use Rattle.mass_fold.proofs.Insertion.{put_gives}
 use Rattle.mass_fold.proofs.Sizes.{sized_after}

@@ -1,5 +1,5 @@
 -- Rows that hold masses, at a scale.
-use Rattle.std.specs.Prelude.{◌≡◌, ℕ, ◌*◌, ◌<◌, ◌≤◌, Bool, cond, Option}
+use Rattle.std.specs.Prelude.{◌≡◌, ℕ, ◌*◌, ◌<◌, Bool, cond, Option}
 use Rattle.gcl_core.specs.declared.answers.Outcome.{Outcome}
 use Rattle.gcl_core.specs.weighing.Fractions.{Fraction}
 use Rattle.gcl_core.specs.weighing.Mass.{round_mass, failed_mass}
@@ -7,7 +7,7 @@ use Rattle.gcl_core.specs.meaning.Syntax.{SourceProgram}
 use Rattle.frac128.specs.Fraction.{IsEqual}
 use Rattle.mass_tables.specs.Width.{round_width}
 use Rattle.mass_fold.specs.Amounts.{held, AreHeld}
-use Rattle.mass_fold.specs.Rounds.{TableParts}
+use Rattle.mass_fold.specs.inner.Rounds.{TableParts}
 use Rattle.mass_fold.specs.Rows.{Rows}
 
 abbrev pub counted : (Outcome → Bool) → Outcome → ℕ
@@ -26,11 +26,3 @@ pub record RoundGives (p : SourceProgram) (n : ℕ) (r : Option ℕ) (rows : Row
   pub parts : TableParts (round_width p n r) rows f
   pub failed : IsEqual f (failed_mass p n r)
   pub fails : 0 < (failed_mass p n r).1
-
--- the weights are whole parts of one number, which is at most so much, and no more than it together
-pub record WholeWithin (most : ℕ) (rows : Rows) : Type 0 where
-  pub scale : ℕ
-  pub positive : 0 < scale
-  pub within : scale ≤ most
-  pub kept : AreHeld scale rows
-  pub sum : held scale (λ x. 1) rows ≤ scale
