@@ -8,9 +8,9 @@ pub fits : {T : Type 0} (o p : Option T) (x : T) → o ≡ p → Ok x ≡ ok_or 
 fits None p x a b = cc
 fits (Some y) p x a b = cc
 
-pub none_fits : {T : Type 0} (o p : Option T) (e : MassError) → o ≡ p → Err e ≡ ok_or o TooWide → p ≡ None
-none_fits None p e a b = cc
-none_fits (Some y) p e a b = cc
+pub none_where_wide : {T : Type 0} (o p : Option T) (e : MassError) → o ≡ p → Err e ≡ ok_or o TooWide → p ≡ None
+none_where_wide None p e a b = cc
+none_where_wide (Some y) p e a b = cc
 
 pub is_wide : {T : Type 0} (o : Option T) (e : MassError) → Err e ≡ ok_or o TooWide → e ≡ TooWide
 is_wide None e b = cc
@@ -26,15 +26,15 @@ pub some_fits : {T : Type 0} (o : Option T) (x : T) (P : T → Type 0) → IfSom
 some_fits None x P h b = cc
 some_fits (Some y) x P h b = let e : y ≡ x = cc in subst P e h
 
-pub nothing_fits : {T : Type 0} (o : Option T) (e : MassError) (P : Type 0) → IfNone o P → Err e ≡ ok_or o TooWide → P
-nothing_fits None e P h b = h
-nothing_fits (Some y) e P h b = cc
+pub on_wide : {T : Type 0} (o : Option T) (e : MassError) (P : Type 0) → IfNone o P → Err e ≡ ok_or o TooWide → P
+on_wide None e P h b = h
+on_wide (Some y) e P h b = cc
 
 -- an answer that is returned as it is
-pub is_some : {T : Type 0} (o p : Option T) (P : T → Type 0) → o ≡ p → ((x : T) → p ≡ Some x → P x) → IfSome o P
-is_some None p P a f = tt
-is_some (Some x) p P a f = f x (sym a)
+pub if_some_as_is : {T : Type 0} (o p : Option T) (P : T → Type 0) → o ≡ p → ((x : T) → p ≡ Some x → P x) → IfSome o P
+if_some_as_is None p P a f = tt
+if_some_as_is (Some x) p P a f = f x (sym a)
 
-pub is_none : {T : Type 0} (o p : Option T) (P : Type 0) → o ≡ p → (p ≡ None → P) → IfNone o P
-is_none None p P a f = f (sym a)
-is_none (Some x) p P a f = tt
+pub if_none_as_is : {T : Type 0} (o p : Option T) (P : Type 0) → o ≡ p → (p ≡ None → P) → IfNone o P
+if_none_as_is None p P a f = f (sym a)
+if_none_as_is (Some x) p P a f = tt

@@ -2,14 +2,14 @@ use Rattle.std.proofs.Common.{◌≡◌, Err, arith}
 use Rattle.mass_fold.specs.declared.error.MassError.TheVariants.{TooWide}
 use Rattle.mass_fold.specs.inner.Steps.{IsParts}
 use Rattle.mass_fold.proofs.Bounds.{class_above}
-use Rattle.mass_fold.proofs.Fits.{is_wide, some_fits, nothing_fits}
+use Rattle.mass_fold.proofs.Fits.{is_wide, some_fits, on_wide}
 use Rattle.mass_fold.proofs.Sides.{part_above_zero, parts_refuse, undecided_refused, undecided_to}
 use Rattle.mass_fold.proofs.choosing.undecided.Goals as goal
 
 pub returns-in_err-part-clause-cause : goal.returns-in_err-part-clause-cause
 returns-in_err-part-clause-cause c =
     let out : c.from_residual.result ≡ Err TooWide = grind (arith, is_wide _ _ c.in_err-part.ensures.value) in
-    rw out (parts_refuse c.args.bound c.args.attempts.most c.args.table.now.states.entries c.args.ended.now (nothing_fits _ _ _ c.parts.ensures.cause c.in_err-part.ensures.value))
+    rw out (parts_refuse c.args.bound c.args.attempts.most c.args.table.now.states.entries c.args.ended.now (on_wide _ _ _ c.parts.ensures.cause c.in_err-part.ensures.value))
 
 pub returns-in_err-end_part-clause-cause : goal.returns-in_err-end_part-clause-cause
 returns-in_err-end_part-clause-cause c =

@@ -1,7 +1,7 @@
 use Rattle.std.proofs.lemmas.Result.{IfOk-weaker, IfErr-weaker}
 use Rattle.std.proofs.Common.{arith, ◌≡◌, Err}
 use Rattle.mass_fold.proofs.Sides.{weighed_none, side_refused, side_given, side_blames, side_above, as_count}
-use Rattle.mass_fold.proofs.Fits.{fits, none_fits, is_wide}
+use Rattle.mass_fold.proofs.Fits.{fits, none_where_wide, is_wide}
 use Rattle.mass_fold.specs.declared.error.MassError.TheVariants.{TooWide}
 use Rattle.mass_fold.proofs.choosing.weighed.Goals as goal
 
@@ -12,7 +12,7 @@ pub returns-in_err-w-clause-cause : goal.returns-in_err-w-clause-cause
 returns-in_err-w-clause-cause c =
     let out : c.from_residual.result ≡ Err TooWide = grind (arith, is_wide _ _ c.in_err-w.ensures.value) in
     rw out (side_refused c.args.part.now c.of-over.result c.args.part.now c.args.count c.args.table.now.states.entries (omega (arith, c.of-over.ensures.lowest.positive)) (omega (arith, c.num-low.ensures.lowest.positive))
-    (as_count _ _ _ c.from.ensures c.of-over.ensures.equal) (none_fits _ _ _ c.mul.ensures c.in_err-w.ensures.value))
+    (as_count _ _ _ c.from.ensures c.of-over.ensures.equal) (none_where_wide _ _ _ c.mul.ensures c.in_err-w.ensures.value))
 
 pub scale-requires : goal.scale-requires
 scale-requires c =

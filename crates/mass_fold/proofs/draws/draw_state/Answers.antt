@@ -8,14 +8,14 @@ use Rattle.mass_fold.specs.declared.error.MassError.TheVariants.{TooWide}
 use Rattle.mass_fold.specs.inner.Steps.{IsParts, at_numbers}
 use Rattle.mass_fold.proofs.Bounds.{class_above}
 use Rattle.mass_fold.proofs.Drawings.{added_spread, blamed_spread, blamed_part, blamed_rest, blamed_parts, blamed_end, stopped_end}
-use Rattle.mass_fold.proofs.Fits.{fits, none_fits, is_wide, some_fits, nothing_fits}
+use Rattle.mass_fold.proofs.Fits.{fits, none_where_wide, is_wide, some_fits, on_wide}
 use Rattle.mass_fold.proofs.draws.draw_state.Goals as goal
 use Rattle.mass_tables.proofs.Kept.{sum_ones}
 
 pub returns-in_err-part-clause-cause : goal.returns-in_err-part-clause-cause
 returns-in_err-part-clause-cause c =
     let out : c.from_residual.result ≡ Err TooWide = grind (arith, is_wide _ _ c.in_err-part.ensures.value) in
-    rw out (blamed_parts c.args.bound c.args.attempts.most c.args.next.now.states.entries c.args.ended.now c.args.f.now (at_numbers c.args.x c.args.bound c.args.s.now) (λ G. G (limit Attempts)) (nothing_fits _ _ _ c.parts.ensures.cause c.in_err-part.ensures.value))
+    rw out (blamed_parts c.args.bound c.args.attempts.most c.args.next.now.states.entries c.args.ended.now c.args.f.now (at_numbers c.args.x c.args.bound c.args.s.now) (λ G. G (limit Attempts)) (on_wide _ _ _ c.parts.ensures.cause c.in_err-part.ensures.value))
 
 pub returns-in_err-h-clause-cause : goal.returns-in_err-h-clause-cause
 returns-in_err-h-clause-cause c =
@@ -23,7 +23,7 @@ returns-in_err-h-clause-cause c =
     let o : 1 ≤ at_numbers c.args.x c.args.bound c.args.s.now (λ s. 1) = let e = sum_ones c.args.bound in let h = c.requires.least in omega arith in
     let out : c.from_residual-in_err-h.result ≡ Err TooWide = grind (arith, is_wide _ _ c.in_err-h.ensures.value) in
     rw out (blamed_part _ (class_weight c.args.bound c.args.attempts.most 1) (no_class_weight c.args.bound c.args.attempts.most) c.args.next.now.states.entries c.args.ended.now c.args.f.now (at_numbers c.args.x c.args.bound c.args.s.now) (λ G. G (limit Attempts))
-    p.part_positive p.part_is o (none_fits _ _ _ c.mul.ensures c.in_err-h.ensures.value))
+    p.part_positive p.part_is o (none_where_wide _ _ _ c.mul.ensures c.in_err-h.ensures.value))
 
 pub returns-in_err-spread-clause-cause : goal.returns-in_err-spread-clause-cause
 returns-in_err-spread-clause-cause c =
@@ -37,7 +37,7 @@ returns-in_err-g-clause-cause c =
     let p = some_fits _ _ (λ t. IsParts c.args.bound c.args.attempts.most t.0 t.1) c.parts.ensures.value c.in_ok-part.ensures.value in
     let out : c.from_residual-in_err-g.result ≡ Err TooWide = grind (arith, is_wide _ _ c.in_err-g.ensures.value) in
     rw out (blamed_rest _ (class_weight c.args.bound c.args.attempts.most 1) (no_class_weight c.args.bound c.args.attempts.most) c.args.next.now.states.entries c.args.ended.now c.args.f.now (at_numbers c.args.x c.args.bound c.args.s.now) gone_kind.Attempts
-    p.rest_positive p.rest_is (none_fits _ _ _ c.mul-2.ensures c.in_err-g.ensures.value))
+    p.rest_positive p.rest_is (none_where_wide _ _ _ c.mul-2.ensures c.in_err-g.ensures.value))
 
 pub returns-clause-added : goal.returns-clause-added
 returns-clause-added c =

@@ -3,7 +3,7 @@ use Rattle.mass_tables.specs.Counts.{none_kept, all_stopped}
 use Rattle.mass_fold.specs.inner.Ended.{end_of}
 use Rattle.mass_fold.specs.declared.error.MassError.TheVariants.{TooWide}
 use Rattle.mass_fold.proofs.Drawings.{drawing_start, drawing_along, drawing_turn, drawing_blame, added_none, stopped_end, blamed_end, blamed_rest}
-use Rattle.mass_fold.proofs.Fits.{fits, none_fits, is_wide}
+use Rattle.mass_fold.proofs.Fits.{fits, none_where_wide, is_wide}
 use Rattle.mass_fold.proofs.draws.end_part.Goals as goal
 
 pub loop-f-init : goal.loop-f-init
@@ -35,7 +35,7 @@ returns-in_err-h-clause-cause c =
     let out : c.from_residual.result ≡ Err TooWide = grind (arith, is_wide _ _ c.in_err-h.ensures.value) in
     rw out (drawing_blame (λ s. w) (λ s. w) none_kept (all_stopped (end_of c.args.x)) c.args.table.now.states.entries c.args.ended.now [] c.loop-f.ended c.in-Some.field-0-0.now c.in-Some.f.now c.next.new.self
     (drawing_along (λ s. w) (λ s. w) none_kept (all_stopped (end_of c.args.x)) c.args.table.now.states.entries c.args.ended.now _ _ _ _ c.in-Some.ensures.steps c.loop-f.invariant.so_far) TooWide
-    (blamed_rest w w w [] c.loop-f.ended c.in-Some.f.now (λ G. 0) c.args.x wp refl (none_fits _ _ _ c.mul.ensures c.in_err-h.ensures.value)))
+    (blamed_rest w w w [] c.loop-f.ended c.in-Some.f.now (λ G. 0) c.args.x wp refl (none_where_wide _ _ _ c.mul.ensures c.in_err-h.ensures.value)))
 
 pub returns-in_err-add-clause-cause : goal.returns-in_err-add-clause-cause
 returns-in_err-add-clause-cause c =

@@ -4,7 +4,7 @@ use Rattle.mass_tables.specs.Counts.{all_kept, none_stopped}
 use Rattle.mass_fold.proofs.Sizes.{sized_at}
 use Rattle.mass_fold.specs.declared.error.MassError.TheVariants.{TooWide}
 use Rattle.mass_fold.proofs.Drawings.{drawing_start, drawing_along, drawing_turn, drawing_blame, added_put, stopped_none, blamed_put, blamed_part}
-use Rattle.mass_fold.proofs.Fits.{fits, none_fits, is_wide}
+use Rattle.mass_fold.proofs.Fits.{fits, none_where_wide, is_wide}
 use Rattle.mass_fold.proofs.draws.scale.Goals as goal
 
 pub loop-s-init : goal.loop-s-init
@@ -45,7 +45,7 @@ returns-in_err-h-clause-cause c =
     let out : c.from_residual.result ≡ Err TooWide = grind (arith, is_wide _ _ c.in_err-h.ensures.value) in
     rw out (λ E. drawing_blame (λ s. w) (λ s. w) all_kept none_stopped c.args.table.now.states.entries E c.loop-s.next.states.entries E c.in-Some.s.now c.in-Some.f.now c.next.new.self
     (drawing_along (λ s. w) (λ s. w) all_kept none_stopped c.args.table.now.states.entries E _ E _ _ c.in-Some.ensures.steps (c.loop-s.invariant.so_far E)) TooWide
-    (blamed_part w w w c.loop-s.next.states.entries E c.in-Some.f.now (λ G. G c.in-Some.s.now) (λ G. 0) wp refl (omega arith) (none_fits _ _ _ c.mul.ensures c.in_err-h.ensures.value)))
+    (blamed_part w w w c.loop-s.next.states.entries E c.in-Some.f.now (λ G. G c.in-Some.s.now) (λ G. 0) wp refl (omega arith) (none_where_wide _ _ _ c.mul.ensures c.in_err-h.ensures.value)))
 
 pub returns-in_err-put-clause-cause : goal.returns-in_err-put-clause-cause
 returns-in_err-put-clause-cause c =

@@ -1,5 +1,5 @@
 use Rattle.std.proofs.Common.{◌≡◌, None, arith}
-use Rattle.mass_fold.proofs.Fits.{is_some, is_none}
+use Rattle.mass_fold.proofs.Fits.{if_some_as_is, if_none_as_is}
 use Rattle.mass_fold.proofs.Meters.{price_is, price_wide, parts_wide}
 use Rattle.mass_fold.proofs.meter.price.Goals as goal
 
@@ -10,8 +10,8 @@ returns-in_err-part-clause-cause c =
 
 pub returns-clause-value : goal.returns-clause-value
 returns-clause-value c =
-    is_some _ _ _ c.mul.ensures (price_is c.args.undecided c.args.bound c.args.attempts.most _ _ c.of.result c.in_ok-part.ensures.value c.of.ensures.lowest c.of.ensures.equal)
+    if_some_as_is _ _ _ c.mul.ensures (price_is c.args.undecided c.args.bound c.args.attempts.most _ _ c.of.result c.in_ok-part.ensures.value c.of.ensures.lowest c.of.ensures.equal)
 
 pub returns-clause-cause : goal.returns-clause-cause
 returns-clause-cause c =
-    is_none _ _ _ c.mul.ensures (price_wide c.args.undecided c.args.bound c.args.attempts.most _ _ c.of.result c.in_ok-part.ensures.value c.of.ensures.lowest c.of.ensures.equal)
+    if_none_as_is _ _ _ c.mul.ensures (price_wide c.args.undecided c.args.bound c.args.attempts.most _ _ c.of.result c.in_ok-part.ensures.value c.of.ensures.lowest c.of.ensures.equal)

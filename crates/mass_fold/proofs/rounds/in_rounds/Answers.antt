@@ -3,7 +3,7 @@ use Rattle.mass_fold.specs.Rounds.{geometric, scale_of, IsRepeated}
 use Rattle.mass_fold.proofs.Failing.{at_scale, rows_room, with_limit, limit_blames, power_blames}
 use Rattle.mass_fold.proofs.Passing.{passing_end, passing_next, passing_blames, parts_here}
 use Rattle.mass_fold.proofs.Repeats.{parts_blame, parts_turn}
-use Rattle.mass_fold.proofs.Fits.{is_wide, some_fits, nothing_fits}
+use Rattle.mass_fold.proofs.Fits.{is_wide, some_fits, on_wide}
 use Rattle.mass_fold.specs.declared.error.MassError.TheVariants.{TooWide}
 use Rattle.mass_fold.specs.inner.Steps.{IsPower}
 use Rattle.mass_fold.proofs.rounds.in_rounds.Goals as goal
@@ -34,7 +34,7 @@ returns-in_err-mass-clause-cause c =
     let f = c.args.failed.now in
     let R = c.args.rounds in
     let out : c.from_residual.result ≡ Err TooWide = grind (arith, is_wide _ _ c.in_err-mass.ensures.value) in
-    rw out (λ N L h. parts_blame _ f R (nothing_fits _ _ _ c.repeated.ensures.cause c.in_err-mass.ensures.value) N (parts_here (λ N. scale_of N f R) (λ N. geometric f R) f c.args.table.entries c.loop-x.masses.entries _ c.in-Some.x c.in-Some.s _ c.in-Some.ensures.steps c.loop-x.invariant.so_far N h))
+    rw out (λ N L h. parts_blame _ f R (on_wide _ _ _ c.repeated.ensures.cause c.in_err-mass.ensures.value) N (parts_here (λ N. scale_of N f R) (λ N. geometric f R) f c.args.table.entries c.loop-x.masses.entries _ c.in-Some.x c.in-Some.s _ c.in-Some.ensures.steps c.loop-x.invariant.so_far N h))
 
 pub returns-in_err-add-2-clause-cause : goal.returns-in_err-add-2-clause-cause
 returns-in_err-add-2-clause-cause c =
@@ -48,7 +48,7 @@ returns-in_err-add-2-clause-cause c =
 pub returns-in_err-rest-clause-cause : goal.returns-in_err-rest-clause-cause
 returns-in_err-rest-clause-cause c =
     let out : c.from_residual-in_err-rest.result ≡ Err TooWide = grind (arith, is_wide _ _ c.in_err-rest.ensures.value) in
-    rw out (λ N L h. power_blames c.args.failed.now c.args.rounds c.requires.some c.requires.most c.args.table.entries (nothing_fits _ _ _ c.all_failed.ensures.cause c.in_err-rest.ensures.value) N h)
+    rw out (λ N L h. power_blames c.args.failed.now c.args.rounds c.requires.some c.requires.most c.args.table.entries (on_wide _ _ _ c.all_failed.ensures.cause c.in_err-rest.ensures.value) N h)
 
 pub returns-clause-ok : goal.returns-clause-ok
 returns-clause-ok c =

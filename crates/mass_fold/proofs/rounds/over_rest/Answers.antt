@@ -4,7 +4,7 @@ use Rattle.mass_tables.specs.Scale.{whole}
 use Rattle.mass_fold.proofs.Passing.{passing_next, passing_blames, parts_here}
 use Rattle.mass_fold.proofs.Powers.{as_given}
 use Rattle.mass_fold.proofs.Rest.{over_is, over_refused, rest_above, blames_more}
-use Rattle.mass_fold.proofs.Fits.{fits, none_fits, is_wide}
+use Rattle.mass_fold.proofs.Fits.{fits, none_where_wide, is_wide}
 use Rattle.mass_fold.specs.declared.error.MassError.TheVariants.{TooWide}
 use Rattle.mass_fold.proofs.rounds.over_rest.Goals as goal
 
@@ -43,4 +43,4 @@ returns-in_err-mass-clause-cause c =
     let out : c.from_residual.result ≡ Err TooWide = grind (arith, is_wide _ _ c.in_err-mass.ensures.value) in
     rw out (λ N L h. over_refused c.in-Some.s f r c.requires rp is N
     (parts_here (λ N. N - whole N f) (λ N. 1) f es c.loop-x.masses.entries _ c.in-Some.x c.in-Some.s _ c.in-Some.ensures.steps c.loop-x.invariant.so_far N h)
-    (rest_above f es c.requires N h) (none_fits _ _ _ c.div.ensures c.in_err-mass.ensures.value))
+    (rest_above f es c.requires N h) (none_where_wide _ _ _ c.div.ensures c.in_err-mass.ensures.value))
