@@ -1,20 +1,27 @@
-//! Tests of runs, audits, tallies and hunts, and of the outside that they stand on, by public calls. There is no other code here, so that
-//! none of these crates is proved once more with its tests.
+//! Uses of runs and of the outside by public calls, each with what it promises. The tests of both, and of audits, tallies and hunts, stand
+//! here too, so that none of these crates is proved once more with its tests.
 #![tactic(auto)]
 
 #[cfg(test)]
 mod auditing;
+mod feeding;
 #[cfg(test)]
 mod hunting;
+mod in_memory;
 #[cfg(test)]
 mod lending;
 #[cfg(test)]
 mod outside;
 #[cfg(test)]
 mod programs;
-#[cfg(test)]
 mod ranges;
+mod retrying;
 #[cfg(test)]
 mod sampling;
 #[cfg(test)]
 mod tallying;
+
+pub use feeding::{fed_in_two, go_both_ways, run_anew};
+pub use in_memory::{put_on_a_vector, two_files};
+pub use ranges::{FAR, streams};
+pub use retrying::sample_again;

@@ -1,8 +1,6 @@
 // The outside: sinks, sources, files and bits.
 
-ghost use Rattle.std.specs.Prelude.{◌≡◌, ◌<◌, ◌++◌, IfOk, false};
-
-use std::alloc::{AllocError, Global};
+use crate::in_memory::{put_on_a_vector, two_files};
 use std::fs;
 use std::process::Abort;
 use std::test::Fail;
@@ -10,17 +8,6 @@ use zar_io::{
     Bits, Failed, FaultyBits, FileBits, Files, Gate, HostFiles, HostSink, MemFiles, MemSink,
     NullSink, OneFile, Open, OpenError, Ready, Sink, SourceError, StreamBits, put, read_source,
 };
-
-// A file of each name, in steps of so many bytes.
-fn two_files(alloc: Global, step: usize, fails: &[u64]) -> Result<MemFiles, AllocError>
-    requires { 0 < step }
-    ensures { IfOk result (λ files. ⟦<MemFiles as Files>⟧.is_open files ≡ false) }
-{
-    let mut files = MemFiles::new(alloc, step, fails)?;
-    files.add("bits", &[0xc0, 0xd4])?;
-    files.add("text", b"skip; return 7;")?;
-    Ok(files)
-}
 
 // The answer that a letter stands for: a bit, that none is left, or a fault.
 fn answer_of(letter: char) -> Result<Option<bool>, Failed> {
@@ -213,15 +200,6 @@ fn the_host_has_files_and_writers(rt: HostRuntime) -> Result<(), Fail> {
     fs::remove_file(&rt, name)?;
     assert_eq!(rt; files.open(name), Err(OpenError::Missing));
     Ok(())
-}
-
-// A piece that is put on a writer over a vector is appended to what the vector holds.
-fn put_on_a_vector(bytes: Vec<u8>, piece: &[u8]) -> Result<HostSink<Vec<u8>>, Failed>
-    ensures { IfOk result (λ sink. ⟦<HostSink<Vec<u8>> as Sink>⟧.written sink ≡ bytes.items ++ piece.now) }
-{
-    let mut sink = HostSink::new(bytes);
-    put(&mut sink, piece)?;
-    Ok(sink)
 }
 
 #[test]

@@ -1,82 +1,14 @@
 // Runs of programs, on lists of bits, on words and on sources.
 
-ghost use Rattle.std.specs.Prelude.{◌≡◌, ◌++◌, IfOk, OnOk, IsTrue};
-ghost use Rattle.gcl_core.specs.meaning.Runs.{run_on};
-ghost use Rattle.gcl_core.specs.meaning.LimitRange.{InRange};
-ghost use Rattle.gcl_core.specs.meaning.Views.{source_of};
-ghost use Rattle.sampler_code.specs.Assembled.{CodeReaches};
-ghost use Rattle.sampler_run.specs.Held.{StandsAfter, set_back};
-ghost use Rattle.sampler_run.specs.Sampled.{reached_by, CountsRun};
-ghost use Rattle.sampler_run.specs.Telling.{Tells, progress_in};
-
+use crate::feeding::{fed_in_two, go_both_ways, run_anew};
 use crate::programs::{DIE, GEOMETRIC, LIMITS, TWO_THIRDS, program, sampler};
-use gcl_core::{Answer, Checked, Fault, Limit, Limits, Outcome};
+use crate::retrying::sample_again;
+use gcl_core::{Answer, Checked, Fault, Limit, Outcome};
 use sampler_code::list;
 use sampler_run::{Progress, RunError, Sampler, State, Stop, compile, sample};
 use std::alloc::{AllocError, Global};
 use std::test::Fail;
 use zar_io::{Bits, FaultyBits, FileBits, Files, ListBits, OneFile};
-
-// The program's run on two lists of bits in a row, by its sampler, which is fed one and then the other.
-fn fed_in_two(
-    alloc: Global,
-    p: &Checked,
-    l: &Limits,
-    first: &[bool],
-    second: &[bool],
-) -> Result<Progress, AllocError>
-    requires limits { InRange l.now }
-    ensures { IfOk result (λ q. q ≡ progress_in (run_on (source_of p.now) l.now (first.now ++ second.now))) }
-{
-    let sampler = compile(alloc, p)?;
-    let mut state = sampler.start(alloc, l)?;
-    state.feed_all(first);
-    Ok(state.feed_all(second))
-}
-
-// A run goes on with some bits, and another from where it stood with others.
-fn go_both_ways<'s>(
-    state: &mut State<'s>,
-    alloc: Global,
-    here: &[bool],
-    there: &[bool],
-) -> Result<State<'s>, AllocError>
-    ensures here { OnOk result (StandsAfter here.now state.old state.new) }
-    ensures there { IfOk result (λ other. StandsAfter there.now state.old other) }
-{
-    let mut other = state.fork(alloc)?;
-    state.feed_all(here);
-    other.feed_all(there);
-    Ok(other)
-}
-
-// A run on the second bits, by a state that ran on the first before.
-fn run_anew(state: &mut State<'_>, first: &[bool], second: &[bool]) -> Progress
-    ensures stands { StandsAfter second.now (set_back state.old) state.new }
-    ensures told { Tells state.new result }
-{
-    state.feed_all(first);
-    state.restart();
-    state.feed_all(second)
-}
-
-// A run that is tried again where there was no memory for it.
-fn sample_again<B: Bits>(
-    alloc: Global,
-    s: &Sampler,
-    l: &Limits,
-    bits: &mut B,
-) -> Result<Stop, RunError>
-    requires limits { InRange l.now }
-    ensures answer { IfOk result (λ stop. IsTrue B.told → CodeReaches s.now l.now (B.left bits.old) (reached_by stop)) }
-    ensures count { CountsRun result (B.faults bits.old) (B.faults bits.new) }
-    ensures same_source { B.source bits.new ≡ B.source bits.old }
-{
-    match sample(alloc, s, l, bits) {
-        Err(RunError::OutOfMemory) => sample(alloc, s, l, bits),
-        answer => answer,
-    }
-}
 
 fn answers(alloc: Global, s: &Sampler, bits: &[bool], answer: Answer) -> Result<bool, AllocError> {
     let mut bits = ListBits::new(alloc, bits)?;

@@ -1,6 +1,6 @@
 use Rattle.std.proofs.Common.{[]}
 use Rattle.sampler_run.proofs.Standing.{stands_then}
-use Rattle.run_tests.proofs.sampling.go_both_ways.Goals as goal
+use Rattle.run_tests.proofs.feeding.go_both_ways.Goals as goal
 
 pub returns-clause-there : goal.returns-clause-there
 returns-clause-there c =

@@ -1,7 +1,7 @@
 use Rattle.std.proofs.Common.{[], ◌++◌}
 use Rattle.sampler_run.specs.Held.{run_begun}
 use Rattle.sampler_run.proofs.Standing.{stands_then, reached_here}
-use Rattle.run_tests.proofs.sampling.fed_in_two.Goals as goal
+use Rattle.run_tests.proofs.feeding.fed_in_two.Goals as goal
 
 pub returns : goal.returns
 returns c =

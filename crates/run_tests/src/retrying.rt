@@ -1,0 +1,37 @@
+//! Runs that are tried again.
+
+ghost use Rattle.std.specs.Prelude.{◌≡◌, IfOk, OnOk, IsErrOf, IsTrue};
+ghost use Rattle.gcl_core.specs.meaning.LimitRange.{InRange};
+ghost use Rattle.sampler_code.specs.Assembled.{CodeReaches};
+ghost use Rattle.sampler_run.specs.declared.sampling.RunError.TheVariants.{OutOfMemory};
+ghost use Rattle.sampler_run.specs.Held.{run_begun};
+ghost use Rattle.sampler_run.specs.Sampled.{reached_by, Asked, CountsRun};
+
+use gcl_core::Limits;
+use sampler_run::{RunError, Sampler, Stop, sample};
+use std::alloc::Global;
+use zar_io::Bits;
+
+/// Runs a sampler on bits, under these limits, and tries once more where there was no memory for it. The bits that the run asks for are
+/// asked for once.
+///
+/// `Read` comes only where the count of faults of `bits` rose in this call, and `OutOfMemory` only where memory ran out twice; no bit was
+/// asked for then.
+pub fn sample_again<B: Bits>(
+    alloc: Global,
+    s: &Sampler,
+    l: &Limits,
+    bits: &mut B,
+) -> Result<Stop, RunError>
+    requires limits { InRange l.now }
+    ensures answer { IfOk result (λ stop. IsTrue B.told → CodeReaches s.now l.now (B.left bits.old) (reached_by stop)) }
+    ensures asked { OnOk result (IsTrue B.told → Asked (run_begun s.now l.now) (B.left bits.old) (B.left bits.new)) }
+    ensures count { CountsRun result (B.faults bits.old) (B.faults bits.new) }
+    ensures untouched { IsErrOf result RunError.OutOfMemory → bits.new ≡ bits.old }
+    ensures same_source { B.source bits.new ≡ B.source bits.old }
+{
+    match sample(alloc, s, l, bits) {
+        Err(RunError::OutOfMemory) => sample(alloc, s, l, bits),
+        answer => answer,
+    }
+}
