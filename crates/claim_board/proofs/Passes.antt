@@ -1,6 +1,6 @@
 -- Lists of passes, while a board is made and closed.
 use Rattle.std.proofs.Common.{◌≡◌, ℕ, ◌+◌, ◌<◌, Bool, true, cond, min, List, [], ◌∷◌, ◌++◌, length, get_or, set, All, Any, sym, refl, ap, ◌∙◌, subst, arith}
-use mathlib.Core.Option.{some, some-injective, some-ne-none}
+use mathlib.Core.Option.{some}
 use lib.ListN.{get_elem?}
 use Rattle.std.proofs.lemmas.List.Elements.{All-set, AllZip-get_or}
 use Rattle.std.proofs.lemmas.Slice.Zip.{AllZip-long}
@@ -42,13 +42,6 @@ ended_once p h = subst (λ (xs : List ℕ). 0 < length xs) (sym (p.ended ∙ ap 
 pub some_ended : (items : List Pass) → Any (λ (p : Pass). had_none p ≡ true) items → 0 < total (λ (p : Pass). length p.seat.me.0.ended) items
 some_ended items any = let p : Pass = any.1 in let one = ended_once p any.4 in let le = total_get (λ (q : Pass). length q.seat.me.0.ended) items any.0 p any.2 in
     let same : length (get_or items any.0 p).seat.me.0.ended ≡ length p.seat.me.0.ended = ap (λ (q : Pass). length q.seat.me.0.ended) any.3 in omega arith
-
-pub word_is : (l ws : List ℕ) (w : ℕ) → l ≡ ws → get_elem? ws 0 ≡ some w → get_or l 0 0 ≡ w
-word_is l ws w same at = ap (λ (xs : List ℕ). get_or xs 0 0) same ∙ go ws at
-  where
-    go : (xs : List ℕ) → get_elem? xs 0 ≡ some w → get_or xs 0 0 ≡ w
-    go [] e = absurd (some-ne-none w (sym e))
-    go (x ∷ xs) e = some-injective x w e
 
 -- What is known of the last seat. It stands for all passes, so that what was dealt to it was dealt to all
 pub gathered : (t : Terms) (n : ℕ) (views : List Hand) (id : ℕ) (v : Hand) (passes : List Pass) → Kept t.blocks t.workers n views → get_elem? views id ≡ some v

@@ -10,7 +10,8 @@ use Rattle.number_lists.proofs.Times.{times-append, once_there}
 use Rattle.claim_board.proofs.Keeps.{joins}
 use Rattle.number_lists.proofs.Totals.{total_empty, total_pop}
 use Rattle.number_lists.proofs.Elements.{all_pop}
-use Rattle.claim_board.proofs.Passes.{word_is, gathered}
+use Rattle.number_lists.proofs.Elements.{word_is}
+use Rattle.claim_board.proofs.Passes.{gathered}
 use Rattle.claim_board.proofs.pass.Board.close.Goals as goal
 
 pub unreachable-requires : goal.unreachable-requires
