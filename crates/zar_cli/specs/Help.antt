@@ -1,26 +1,37 @@
--- What `help` and `--version` print: the constants of the code.
-use Rattle.std.specs.Prelude.{ℕ, List}
+-- What `help` and `--version` print: pages of words and numbers, which are constants of the code.
+use Rattle.std.specs.Prelude.{ℕ, List, ◌++◌, flat_map, Option, Some, None, decimal}
 use Rattle.zar_cli.specs.declared.help.TheConstants.{VERSION, COMMANDS, SAMPLE, MASS, COST, POSTERIOR, AUDIT, TALLY, HUNT, CHECK, SHOW, CODE, GEN, FAST}
 use Rattle.zar_cli.specs.declared.help.Topic.{Topic}
 use Rattle.zar_cli.specs.declared.help.Topic.TheVariants.{Everything, One, Version}
-use Rattle.zar_cli.specs.declared.settings.Verb.{Verb}
 use Rattle.zar_cli.specs.declared.settings.Verb.TheVariants as verb
 
-abbrev pub help_of : Verb → List ℕ
-help_of verb.Sample = SAMPLE.now
-help_of verb.Mass = MASS.now
-help_of verb.Cost = COST.now
-help_of verb.Posterior = POSTERIOR.now
-help_of verb.Audit = AUDIT.now
-help_of verb.Tally = TALLY.now
-help_of verb.Hunt = HUNT.now
-help_of verb.Check = CHECK.now
-help_of verb.Show = SHOW.now
-help_of verb.Code = CODE.now
-help_of verb.Gen = GEN.now
-help_of verb.Fast = FAST.now
+-- the words, and the number behind them where there is one
+abbrev pub piece_text : List ℕ → Option ℕ → List ℕ
+piece_text words (Some n) = words ++ decimal n
+piece_text words None = words
+
+-- the words that a page begins with, and its parts, of pieces each
+abbrev Page : Type 0
+Page = record { now : List ℕ } × record { now : List (record { now : List (record { now : List ℕ } × Option ℕ) }) }
+
+abbrev pub page_text : Page → List ℕ
+page_text (words, parts) = words.now ++ flat_map (λ part. flat_map (λ piece. piece_text piece.0.now piece.1) part.now) parts.now
+
+abbrev pub page_of : Topic → Page
+page_of Everything = COMMANDS
+page_of (One verb.Sample) = SAMPLE
+page_of (One verb.Mass) = MASS
+page_of (One verb.Cost) = COST
+page_of (One verb.Posterior) = POSTERIOR
+page_of (One verb.Audit) = AUDIT
+page_of (One verb.Tally) = TALLY
+page_of (One verb.Hunt) = HUNT
+page_of (One verb.Check) = CHECK
+page_of (One verb.Show) = SHOW
+page_of (One verb.Code) = CODE
+page_of (One verb.Gen) = GEN
+page_of (One verb.Fast) = FAST
+page_of Version = VERSION
 
 abbrev pub topic_text : Topic → List ℕ
-topic_text Everything = COMMANDS.now
-topic_text (One v) = help_of v
-topic_text Version = VERSION.now
+topic_text topic = page_text (page_of topic)

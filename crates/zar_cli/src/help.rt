@@ -1,10 +1,19 @@
 // What `help` and `--version` print. A number in brackets stands where the option is not given.
 
-ghost use Rattle.std.specs.Prelude.{◌≡◌};
-ghost use Rattle.zar_cli.specs.Help.{help_of, topic_text};
+ghost use Rattle.std.specs.Prelude.{◌≡◌, ◌++◌, flat_map};
+ghost use Rattle.zar_cli.specs.Help.{piece_text, topic_text};
 ghost use Rattle.zar_cli.specs.Words.{topic_named};
 
-use crate::settings::Verb;
+use crate::settings::{
+    LEAST_GENERATED, USUAL_BUDGET, USUAL_LIMIT, USUAL_MASS_TURNS, USUAL_WEIGHED_FLIPS,
+    USUAL_WORKERS, Verb,
+};
+use audit_walk::MOST_DEPTH;
+use dice_roll::{LEAST_LABELS, MOST_FLIPS, MOST_LABELS};
+use gcl_core::MOST_LIMIT;
+use generated_program::GREATEST_NUMBER;
+use tally_range::MOST_WORKERS;
+use zar_io::MOST_BUDGET;
 
 /// What help is asked for.
 #[derive(Clone, Copy, Debug, PartialEq, Eq)]
@@ -16,10 +25,107 @@ pub enum Topic {
     Version,
 }
 
-pub const VERSION: &str = "zar 1.0.0
-";
+/// Words, and the number behind them where there is one.
+pub type Piece = (&'static str, Option<u64>);
 
-pub const COMMANDS: &str = "zar sample FILE --bits FILE
+/// Pieces that stand one behind the other.
+pub type Part = &'static [Piece];
+
+/// The words that a page begins with, and its parts. Pages share parts.
+pub type Page = (&'static str, &'static [Part]);
+
+// Options, up to the greatest number that they take.
+const TURNS: Piece = (
+    "--turns N     turns for each entry of a loop, 0 to ",
+    Some(MOST_LIMIT),
+);
+
+const ATTEMPTS: Piece = (
+    "--attempts N  attempts for each draw, 1 to ",
+    Some(MOST_LIMIT),
+);
+
+const ROUNDS: Piece = ("--rounds N    rounds, 1 to ", Some(MOST_LIMIT));
+
+const DEPTH: Piece = (
+    "--depth N     the length of the strings in bits, 0 to ",
+    Some(MOST_DEPTH as u64),
+);
+
+const WANT: Piece = (
+    "--want X      a value, or overflow, zero-divisor, bad-bound, turns, attempts, rounds or more-bits\n",
+    None,
+);
+
+// What stands where they are not given.
+const REQUIRED: Piece = ("\n", None);
+
+const NO_LIMIT: Piece = (" (no limit)\n", None);
+
+const USUAL: Piece = (" (", Some(USUAL_LIMIT));
+
+const END: Piece = (")\n", None);
+
+// The limits of a run.
+const LIMITS: Part = &[TURNS, USUAL, END, ATTEMPTS, USUAL, END, ROUNDS, USUAL, END];
+
+// The turns under which masses, expected bits and bounds are worked out.
+const MASS_TURNS: Part = &[TURNS, (" (", Some(USUAL_MASS_TURNS)), END];
+
+// The bits of one run.
+const ONE_RUN: Part = &[
+    ("--bits FILE   the file of bits\n", None),
+    (
+        "--seed N      the seed of the stream, 0 to ",
+        Some(u64::MAX),
+    ),
+    ("\n--stream N    its number, 0 to ", Some(u64::MAX)),
+    (
+        " (0)\n--budget N    the most bits of it, 0 to ",
+        Some(MOST_BUDGET),
+    ),
+    (" (", Some(USUAL_BUDGET)),
+    END,
+];
+
+// The streams of a range.
+const RANGE: Part = &[
+    (
+        "--seed N      the seed of the streams, 0 to ",
+        Some(u64::MAX),
+    ),
+    ("\n--from N      the first stream, 0 to ", Some(u64::MAX)),
+    (
+        "\n--to N        the one behind the last, 0 to ",
+        Some(u64::MAX),
+    ),
+    REQUIRED,
+];
+
+// What is read of each stream, and by how many threads.
+const WORK: Part = &[
+    (
+        "--budget N    the most bits of each stream, 0 to ",
+        Some(MOST_BUDGET),
+    ),
+    (" (", Some(USUAL_BUDGET)),
+    (")\n--workers N   threads, 1 to ", Some(MOST_WORKERS as u64)),
+    (" (", Some(USUAL_WORKERS)),
+    END,
+];
+
+// The flips of a roll.
+const FLIPS: Part = &[
+    ("--flips N     the most flips, 0 to ", Some(MOST_FLIPS)),
+    USUAL,
+    ("; without bits ", Some(USUAL_WEIGHED_FLIPS)),
+    END,
+];
+
+pub const VERSION: Page = ("zar 1.0.0\n", &[]);
+
+pub const COMMANDS: Page = (
+    "zar sample FILE --bits FILE
     run the program once, on the bits of a file
 zar sample FILE --seed N
     run the program once, on the bits of a seeded stream
@@ -49,107 +155,119 @@ zar help COMMAND
     print the options of a command
 zar --version
     print the version
-";
+",
+    &[],
+);
 
-pub const SAMPLE: &str = "zar sample FILE --bits FILE
+pub const SAMPLE: Page = (
+    "zar sample FILE --bits FILE
 zar sample FILE --seed N
     run the program once, and print the outcome and how many bits were read
 
---bits FILE   the file of bits
---seed N      the seed of the stream, 0 to 18446744073709551615
---stream N    its number, 0 to 18446744073709551615 (0)
---budget N    the most bits of it, 0 to 1000000000 (65536)
---turns N     turns for each entry of a loop, 0 to 1000000000 (1000)
---attempts N  attempts for each draw, 1 to 1000000000 (1000)
---rounds N    rounds, 1 to 1000000000 (1000)
-";
+",
+    &[ONE_RUN, LIMITS],
+);
 
-pub const MASS: &str = "zar mass FILE
+pub const MASS: Page = (
+    "zar mass FILE
     print each outcome with its exact mass
 
---turns N     turns for each entry of a loop, 0 to 1000000000 (30)
---attempts N  attempts for each draw, 1 to 1000000000 (no limit)
---rounds N    rounds, 1 to 1000000000 (no limit)
-";
+",
+    &[MASS_TURNS, &[ATTEMPTS, NO_LIMIT, ROUNDS, NO_LIMIT]],
+);
 
-pub const COST: &str = "zar cost FILE --attempts N --rounds N
+pub const COST: Page = (
+    "zar cost FILE --attempts N --rounds N
     print how many bits a run reads on average
 
---attempts N  attempts for each draw, 1 to 1000000000
---rounds N    rounds, 1 to 1000000000
---turns N     turns for each entry of a loop, 0 to 1000000000 (30)
-";
+",
+    &[&[ATTEMPTS, REQUIRED, ROUNDS, REQUIRED], MASS_TURNS],
+);
 
-pub const POSTERIOR: &str = "zar posterior FILE
+pub const POSTERIOR: Page = (
+    "zar posterior FILE
     print each outcome with bounds that hold for every greater limit of turns
 
---turns N     turns for each entry of a loop, 0 to 1000000000 (30)
-";
+",
+    &[MASS_TURNS],
+);
 
-pub const AUDIT: &str = "zar audit FILE --depth N
+pub const AUDIT: Page = (
+    "zar audit FILE --depth N
     print how all strings of N bits end
 
---depth N     the length of the strings in bits, 0 to 20
---turns N     turns for each entry of a loop, 0 to 1000000000 (1000)
---attempts N  attempts for each draw, 1 to 1000000000 (1000)
---rounds N    rounds, 1 to 1000000000 (1000)
-";
+",
+    &[&[DEPTH, REQUIRED], LIMITS],
+);
 
-pub const TALLY: &str = "zar tally FILE --seed N --from N --to N
+pub const TALLY: Page = (
+    "zar tally FILE --seed N --from N --to N
     count how the runs on a range of streams end
 
---seed N      the seed of the streams, 0 to 18446744073709551615
---from N      the first stream, 0 to 18446744073709551615
---to N        the one behind the last, 0 to 18446744073709551615
---budget N    the most bits of each stream, 0 to 1000000000 (65536)
---workers N   threads, 1 to 64 (4)
---turns N     turns for each entry of a loop, 0 to 1000000000 (1000)
---attempts N  attempts for each draw, 1 to 1000000000 (1000)
---rounds N    rounds, 1 to 1000000000 (1000)
-";
+",
+    &[RANGE, WORK, LIMITS],
+);
 
-pub const HUNT: &str = "zar hunt FILE --seed N --from N --to N --want OUTCOME
+pub const HUNT: Page = (
+    "zar hunt FILE --seed N --from N --to N --want OUTCOME
     print the least stream of a range with a wanted outcome
 
---seed N      the seed of the streams, 0 to 18446744073709551615
---from N      the first stream, 0 to 18446744073709551615
---to N        the one behind the last, 0 to 18446744073709551615
---want X      a value, or overflow, zero-divisor, bad-bound, turns, attempts, rounds or more-bits
---budget N    the most bits of each stream, 0 to 1000000000 (65536)
---workers N   threads, 1 to 64 (4)
---turns N     turns for each entry of a loop, 0 to 1000000000 (1000)
---attempts N  attempts for each draw, 1 to 1000000000 (1000)
---rounds N    rounds, 1 to 1000000000 (1000)
-";
+",
+    &[RANGE, &[WANT], WORK, LIMITS],
+);
 
-pub const CHECK: &str = "zar check FILE
+pub const CHECK: Page = (
+    "zar check FILE
     check the program, and count its statements and names
-";
+",
+    &[],
+);
 
-pub const SHOW: &str = "zar show FILE
+pub const SHOW: Page = (
+    "zar show FILE
     print the canonical text of the program
-";
+",
+    &[],
+);
 
-pub const CODE: &str = "zar code FILE
+pub const CODE: Page = (
+    "zar code FILE
     list the code that samples the program
-";
+",
+    &[],
+);
 
-pub const GEN: &str = "zar gen N
-    make a large program from a number, 1 to 1000, and print its size and a tally of it
-";
+pub const GEN: Page = (
+    "zar gen N
+    make a large program from a number, ",
+    &[&[
+        ("", Some(LEAST_GENERATED)),
+        (" to ", Some(GREATEST_NUMBER as u64)),
+        (", and print its size and a tally of it\n", None),
+    ]],
+);
 
-pub const FAST: &str = "zar fast N
-    print what N labels weigh, 2 to 4611686018427387904
+pub const FAST: Page = (
+    "zar fast N
+    print what N labels weigh, ",
+    &[
+        &[
+            ("", Some(LEAST_LABELS)),
+            (" to ", Some(MOST_LABELS)),
+            (
+                "
 zar fast N --bits FILE
 zar fast N --seed N
     draw one of N labels
 
---bits FILE   the file of bits
---seed N      the seed of the stream, 0 to 18446744073709551615
---stream N    its number, 0 to 18446744073709551615 (0)
---budget N    the most bits of it, 0 to 1000000000 (65536)
---flips N     the most flips, 0 to 1000000000 (1000; without bits 30)
-";
+",
+                None,
+            ),
+        ],
+        ONE_RUN,
+        FLIPS,
+    ],
+);
 
 /// What help a word asks for.
 pub fn topic_named(word: &str) -> Option<Topic>
@@ -162,33 +280,24 @@ pub fn topic_named(word: &str) -> Option<Topic>
     }
 }
 
-// What `help` prints of a command.
-fn help_of(verb: Verb) -> &'static str
-    ensures { result.now ≡ help_of verb }
-{
-    match verb {
-        Verb::Sample => SAMPLE,
-        Verb::Mass => MASS,
-        Verb::Cost => COST,
-        Verb::Posterior => POSTERIOR,
-        Verb::Audit => AUDIT,
-        Verb::Tally => TALLY,
-        Verb::Hunt => HUNT,
-        Verb::Check => CHECK,
-        Verb::Show => SHOW,
-        Verb::Code => CODE,
-        Verb::Gen => GEN,
-        Verb::Fast => FAST,
-    }
-}
-
-/// The text that is asked for.
-pub fn topic_text(topic: Topic) -> &'static str
-    ensures { result.now ≡ topic_text topic }
+/// The page that is asked for.
+pub fn page_of(topic: Topic) -> Page
+    ensures { result.0.now ++ flat_map (λ part. flat_map (λ piece. piece_text piece.0.now piece.1) part.now) result.1.now ≡ topic_text topic }
 {
     match topic {
         Topic::Everything => COMMANDS,
-        Topic::One(verb) => help_of(verb),
+        Topic::One(Verb::Sample) => SAMPLE,
+        Topic::One(Verb::Mass) => MASS,
+        Topic::One(Verb::Cost) => COST,
+        Topic::One(Verb::Posterior) => POSTERIOR,
+        Topic::One(Verb::Audit) => AUDIT,
+        Topic::One(Verb::Tally) => TALLY,
+        Topic::One(Verb::Hunt) => HUNT,
+        Topic::One(Verb::Check) => CHECK,
+        Topic::One(Verb::Show) => SHOW,
+        Topic::One(Verb::Code) => CODE,
+        Topic::One(Verb::Gen) => GEN,
+        Topic::One(Verb::Fast) => FAST,
         Topic::Version => VERSION,
     }
 }

@@ -1,22 +1,28 @@
 // How an output is shown: by its status, and on two sinks.
 
-ghost use Rattle.std.specs.Prelude.{◌≡◌, if◌then◌else◌};
+ghost use Rattle.std.specs.Prelude.{◌≡◌, is_err, if◌then◌else◌};
 ghost use Rattle.report_text.specs.Lines.{refusal_text};
-ghost use Rattle.zar_cli.specs.Delivery.{answer_status, roll_status, said_status, refusal_status, status_of, out_text, err_text, IsWrittenOn};
+ghost use Rattle.zar_cli.specs.Delivery.{answer_status, roll_status, said_status, refusal_status, status_of, said_text, out_text, err_text, IsWrittenOn};
 ghost use Rattle.zar_cli.specs.Seen.{sink_seen};
 
-use crate::deliver::{Delivery, deliver};
-use crate::help::topic_text;
 use crate::said::Said;
 use crate::statuses::{
     DONE, LIMIT_REACHED, MASS_REFUSED, MORE_BITS, NO_FILE, OUT_OF_MEMORY, READ_FAULT, TEXT_REFUSED,
     WORDS_REFUSED, WRITE_FAULT,
 };
+use crate::writing::{put_text, put_topic};
 use dice_roll::Roll;
 use gcl_core::refusals::{BAD_WORDS, TOO_FINE};
 use gcl_core::{Answer, Outcome};
 use report_text::{Refusal, check_line, cost_line, fault_line, hunt_line, roll_line, sample_line};
-use zar_io::Sink;
+use zar_io::{Failed, Sink};
+
+// Whether a write to `out`, and whether one to `err`, has failed.
+#[derive(Clone, Copy)]
+pub struct Delivery {
+    pub out_failed: bool,
+    pub err_failed: bool,
+}
 
 fn answer_status(answer: &Answer) -> u8
     ensures { result ≡ answer_status answer.now }
@@ -77,30 +83,49 @@ pub fn status_of(output: &Result<Said, Refusal>) -> u8
     }
 }
 
-/// Writes an output: what is said on `out`, and a refusal on `err`.
+fn put_said<S: Sink>(sink: &mut S, said: &Said) -> Result<(), Failed>
+    ensures { IsWrittenOn (is_err result) (sink_seen S.told S.faults S.written sink.old sink.new) (said_text said.now) }
+{
+    match said {
+        Said::Answered(answer) => put_text(sink, sample_line(answer).bytes()),
+        Said::Accepted(statements, names) => put_text(
+            sink,
+            check_line(*statements, *names).bytes(),
+        ),
+        Said::Costed(bits) => put_text(sink, cost_line(bits).bytes()),
+        Said::Shown(text) => put_text(sink, text.bytes()),
+        Said::Found(stream) => put_text(sink, hunt_line(*stream).bytes()),
+        Said::Rolled(roll) => put_text(sink, roll_line(roll).bytes()),
+        Said::Helped(topic) => put_topic(sink, *topic),
+    }
+}
+
+fn put_refusal<S: Sink>(sink: &mut S, refusal: &Refusal) -> Result<(), Failed>
+    ensures { IsWrittenOn (is_err result) (sink_seen S.told S.faults S.written sink.old sink.new) (refusal_text refusal.now) }
+{
+    put_text(sink, fault_line(refusal).bytes())
+}
+
+/// Writes an output: what is said on `out`, and a refusal on `err`. Where a write to `out` fails, that is said on `err`.
 pub fn show<O: Sink, E: Sink>(output: &Result<Said, Refusal>, out: &mut O, err: &mut E) -> Delivery
     ensures on_out { IsWrittenOn result.out_failed (sink_seen O.told O.faults O.written out.old out.new) (out_text output.now) }
     ensures on_err { IsWrittenOn result.err_failed (sink_seen E.told E.faults E.written err.old err.new)
         (if result.out_failed then refusal_text Refusal.Write else err_text output.now) }
 {
-    let fault = fault_line(&Refusal::Write);
     match output {
-        Ok(Said::Answered(answer)) => {
-            deliver(out, err, sample_line(answer).bytes(), &[], fault.bytes())
-        }
-        Ok(Said::Accepted(statements, names)) => {
-            let line = check_line(*statements, *names);
-            deliver(out, err, line.bytes(), &[], fault.bytes())
-        }
-        Ok(Said::Costed(bits)) => deliver(out, err, cost_line(bits).bytes(), &[], fault.bytes()),
-        Ok(Said::Found(stream)) => {
-            deliver(out, err, hunt_line(*stream).bytes(), &[], fault.bytes())
-        }
-        Ok(Said::Rolled(roll)) => deliver(out, err, roll_line(roll).bytes(), &[], fault.bytes()),
-        Ok(Said::Shown(text)) => deliver(out, err, text.bytes(), &[], fault.bytes()),
-        Ok(Said::Helped(topic)) => {
-            deliver(out, err, topic_text(*topic).as_bytes(), &[], fault.bytes())
-        }
-        Err(refusal) => deliver(out, err, &[], fault_line(refusal).bytes(), fault.bytes()),
+        Ok(said) => match put_said(out, said) {
+            Ok(()) => Delivery {
+                out_failed: false,
+                err_failed: false,
+            },
+            Err(Failed) => Delivery {
+                out_failed: true,
+                err_failed: put_refusal(err, &Refusal::Write).is_err(),
+            },
+        },
+        Err(refusal) => Delivery {
+            out_failed: false,
+            err_failed: put_refusal(err, refusal).is_err(),
+        },
     }
 }
