@@ -1,5 +1,6 @@
 -- What the forms of a formula stand for.
-use Rattle.std.proofs.Common.{◌≡◌, ℕ, ◌+◌, max, List, [], ◌∷◌, ◌++◌, refl, sym, ap, ◌∙◌, subst}
+use Rattle.std.proofs.Common.{◌≡◌, ℕ, ◌+◌, max, List, [], ◌∷◌, ◌++◌, Option, None, Some, ℤ, w64, to_z, of_z, refl, sym, ap, ◌∙◌, subst}
+use Rattle.std.proofs.lemmas.Option.{same_Some}
 use Rattle.gcl_core.specs.declared.syntax.BinOp.{BinOp}
 use Rattle.gcl_core.specs.declared.syntax.BinOp.TheVariants.{And, Or}
 use Rattle.gcl_core.specs.meaning.Value.{State, value_of, ◌>>=◌, applied, ExpressionBelow}
@@ -11,11 +12,13 @@ use Rattle.formula.specs.declared.op.Atom.TheVariants.{Num, Var}
 use Rattle.formula.specs.declared.op.Term.{Term}
 use Rattle.formula.specs.declared.op.Term.TheVariants.{One, Two}
 use Rattle.formula.specs.declared.op.Form.{Form}
-use Rattle.formula.specs.declared.op.Form.TheVariants.{Short, Joined, Long}
+use Rattle.formula.specs.declared.op.Form.TheVariants.{On, Joined, Long}
+use Rattle.formula.specs.declared.op.Form.TheVariants as form
 use Rattle.formula.specs.Steps.{settling, steps_between, joining, step_count, steps_at, steps_of, depth}
 use Rattle.formula.specs.ReadBack.{expression_in}
-use Rattle.formula.specs.Forms.{term_steps, term_expression, IsTerm, term_depth, TermReads, term_value, joined_steps, joined_value, form_steps, FormOf}
+use Rattle.formula.specs.Forms.{term_steps, term_expression, IsTerm, term_depth, TermReads, term_value, joined_steps, joined_value, on, form_steps, TermOf, FormOf}
 use Rattle.formula.proofs.ReadingBack.{stands_for}
+use Rattle.formula.proofs.Slots.{small_back}
 use Rattle.formula.proofs.Written.{Plain, plain_by}
 
 -- ---- terms
@@ -86,14 +89,40 @@ joined_values op t u vars h i k =
 
 -- ---- forms
 
+-- the term that a form is
+abbrev pub term_in : Form → Option Term
+term_in (form.Num n) = Some (One (Num n))
+term_in (form.Var x) = Some (One (Var x))
+term_in (On op x a) = Some (on op x a)
+term_in (Joined op t u) = None
+term_in (Long steps n) = None
+
 abbrev form_depth : Form → ℕ
-form_depth (Short t) = term_depth t
+form_depth (form.Num n) = 1
+form_depth (form.Var x) = 1
+form_depth (On op x a) = 2
 form_depth (Joined op t u) = max (term_depth t) (term_depth u + 1)
 form_depth (Long steps n) = n
 
+short_writes : (t : Term) (e : Expression) → TermOf t e → term_steps t ≡ steps_of e
+short_writes t e h = sym (term_writes t 0 h.0) ∙ ap steps_of (sym h.1)
+
+short_deep : (t : Term) (e : Expression) → TermOf t e → term_depth t ≡ depth e
+short_deep t e h = term_deep t h.0 ∙ ap depth (sym h.1)
+
+-- a form that is a term is of the expression of the term
+form_of_term : (f : Form) (t : Term) (e : Expression) → term_in f ≡ Some t → FormOf f e → TermOf t e
+form_of_term (form.Num n) t e is h = subst (λ u. TermOf u e) (same_Some _ _ is) h.0
+form_of_term (form.Var x) t e is h = subst (λ u. TermOf u e) (same_Some _ _ is) h
+form_of_term (On op x a) t e is h = subst (λ u. TermOf u e) (same_Some _ _ is) h
+form_of_term (Joined op t u) v e is h = absurd (cc)
+form_of_term (Long steps n) t e is h = absurd (cc)
+
 -- a form holds the steps
 pub form_writes : (f : Form) (e : Expression) → FormOf f e → form_steps f ≡ steps_of e
-form_writes (Short t) e h = sym (term_writes t 0 h.0) ∙ ap steps_of (sym h.1)
+form_writes (form.Num n) e h = short_writes (One (Num n)) e h.0
+form_writes (form.Var x) e h = short_writes (One (Var x)) e h
+form_writes (On op x a) e h = short_writes (on op x a) e h
 form_writes (Joined op t u) e h = joined_writes op t u (plain_by op h.0) h.1 h.2 ∙ ap steps_of (sym h.3)
 form_writes (Long steps n) e h = h.0
 
@@ -101,7 +130,9 @@ pub form_reads : (f : Form) (e : Expression) → FormOf f e → expression_in (f
 form_reads f e h = ap expression_in (form_writes f e h) ∙ stands_for e
 
 form_deep : (f : Form) (e : Expression) → FormOf f e → form_depth f ≡ depth e
-form_deep (Short t) e h = term_deep t h.0 ∙ ap depth (sym h.1)
+form_deep (form.Num n) e h = short_deep (One (Num n)) e h.0
+form_deep (form.Var x) e h = short_deep (One (Var x)) e h
+form_deep (On op x a) e h = short_deep (on op x a) e h
 form_deep (Joined op t u) e h =
     let p = plain_by op h.0 in
     ap (λ m. max m (term_depth u + 1)) (term_deep t h.1)
@@ -122,13 +153,17 @@ module _ (f : Form) (e : Expression) (h : FormOf f e) (s : List Op) (view : form
   pub depth_in : (g : Form) → f ≡ g → form_depth g ≡ depth (expression_in s)
   depth_in g is = ap form_depth (sym is) ∙ form_deep f e h ∙ ap depth (sym stands)
 
-  pub short_is : (t : Term) → f ≡ Short t → IsTerm t × (term_expression t ≡ expression_in s)
-  short_is t is = let g = subst (λ f. FormOf f e) is h in (g.0, sym (stands ∙ g.1))
+  -- its number is written and read back
+  pub num_back : (n : ℤ) → f ≡ form.Num n → to_z w64 (of_z w64 n) ≡ n
+  num_back n is = small_back n (subst (λ f. FormOf f e) is h).1
 
-  pub short_reads : (t : Term) (n : ℕ) → f ≡ Short t → ExpressionBelow (expression_in s) n → TermReads t n
+  pub short_is : (t : Term) → term_in f ≡ Some t → IsTerm t × (term_expression t ≡ expression_in s)
+  short_is t is = let g = form_of_term f t e is h in (g.0, sym (stands ∙ g.1))
+
+  pub short_reads : (t : Term) (n : ℕ) → term_in f ≡ Some t → ExpressionBelow (expression_in s) n → TermReads t n
   short_reads t n is r = term_reads t n (subst (λ e. ExpressionBelow e n) (sym (short_is t is).1) r)
 
-  pub short_value : (t : Term) (vars : State) → f ≡ Short t → term_value t vars ≡ value_of (expression_in s) vars
+  pub short_value : (t : Term) (vars : State) → term_in f ≡ Some t → term_value t vars ≡ value_of (expression_in s) vars
   short_value t vars is = term_values t vars (short_is t is).0 ∙ ap (λ e. value_of e vars) (short_is t is).1
 
   joined_form : (op : BinOp) (t u : Term) → f ≡ Joined op t u → FormOf (Joined op t u) e

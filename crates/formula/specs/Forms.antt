@@ -1,11 +1,11 @@
 -- Short forms as steps, and values in slots as a stack.
-use Rattle.std.specs.Prelude.{◌≡◌, ℕ, zero, suc, ◌<◌, ℤ, pos, List, [], ◌∷◌, ◌++◌, Ok, slice_index_or}
+use Rattle.std.specs.Prelude.{◌≡◌, ℕ, zero, suc, ◌<◌, ℤ, pos, List, [], ◌∷◌, ◌++◌, Ok, IsTrue, slice_index_or}
 use Rattle.gcl_core.specs.declared.syntax.BinOp.{BinOp}
 use Rattle.gcl_core.specs.declared.syntax.Expr.{Expr}
 use Rattle.gcl_core.specs.meaning.Views.{expression_of}
 use Rattle.gcl_core.specs.meaning.Syntax.{Expression}
 use Rattle.gcl_core.specs.meaning.Syntax as source
-use Rattle.gcl_core.specs.meaning.Value.{State, Value, ◌>>=◌, applied}
+use Rattle.gcl_core.specs.meaning.Value.{State, Value, ◌>>=◌, applied, fits_64}
 use Rattle.formula.specs.declared.op.Op.{Op}
 use Rattle.formula.specs.declared.op.Op.TheVariants.{Push, Load, Bin}
 use Rattle.formula.specs.declared.op.Atom.{Atom}
@@ -13,7 +13,8 @@ use Rattle.formula.specs.declared.op.Atom.TheVariants.{Num, Var}
 use Rattle.formula.specs.declared.op.Term.{Term}
 use Rattle.formula.specs.declared.op.Term.TheVariants.{One, Two}
 use Rattle.formula.specs.declared.op.Form.{Form}
-use Rattle.formula.specs.declared.op.Form.TheVariants.{Short, Joined, Long}
+use Rattle.formula.specs.declared.op.Form.TheVariants.{On, Joined, Long}
+use Rattle.formula.specs.declared.op.Form.TheVariants as form
 use Rattle.formula.specs.Steps.{steps_of, depth, settling}
 
 abbrev pub atom_step : Atom → Op
@@ -65,14 +66,26 @@ joined_steps op t u = term_steps t ++ (term_steps u ++ Bin op ∷ [])
 abbrev pub joined_value : BinOp → Term → Term → State → Value
 joined_value op t u vars = term_value t vars >>= λ x. (term_value u vars >>= λ y. applied op x y)
 
+-- one operator on a variable and an atom
+abbrev pub on : BinOp → ℕ → Atom → Term
+on op x a = Two op (Var x) a
+
 abbrev pub form_steps : Form → List Op
-form_steps (Short t) = term_steps t
+form_steps (form.Num n) = term_steps (One (Num n))
+form_steps (form.Var x) = term_steps (One (Var x))
+form_steps (On op x a) = term_steps (on op x a)
 form_steps (Joined op t u) = joined_steps op t u
 form_steps (Long steps n) = steps.items
 
--- a short form is of the expression e itself; another holds its depth
+-- a term and the expression that it is
+abbrev pub TermOf : Term → Expression → Type 0
+TermOf t e = IsTerm t × (e ≡ term_expression t)
+
+-- a form without steps is of the expression e itself, and its number has 64 bits; another holds its depth
 abbrev pub FormOf : Form → Expression → Type 0
-FormOf (Short t) e = IsTerm t × (e ≡ term_expression t)
+FormOf (form.Num n) e = TermOf (One (Num n)) e × IsTrue (fits_64 n)
+FormOf (form.Var x) e = TermOf (One (Var x)) e
+FormOf (On op x a) e = TermOf (on op x a) e
 FormOf (Joined op t u) e = (settling op 0 ≡ []) × IsTerm t × IsTerm u × (e ≡ source.Bin op (term_expression t) (term_expression u))
 FormOf (Long steps n) e = (steps.items ≡ steps_of e) × (n ≡ depth e)
 

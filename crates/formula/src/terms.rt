@@ -3,13 +3,21 @@
 ghost use Rattle.std.specs.Prelude.{◌≡◌, ◌<◌, length, Some, slice_get, IfOk, IsTrue};
 ghost use Rattle.gcl_core.specs.meaning.Value.{fits_64};
 ghost use Rattle.gcl_core.specs.meaning.Views.{expression_of};
-ghost use Rattle.formula.specs.Forms.{term_steps, term_expression, term_depth, term_value, TermReads, joined_steps, joined_value};
+ghost use Rattle.formula.specs.Forms.{term_steps, term_expression, term_depth, term_value, TermReads, joined_steps, joined_value, on};
 
-use crate::op::{Op, Term};
+use crate::op::{Atom, Op, Term};
 use crate::reading::{atom, step_of};
 use crate::running::atom_value;
 use gcl_core::{BinOp, Expr, Fault};
 use std::alloc::{AllocError, Global};
+
+// The operator on a variable and an atom, as a term.
+#[inline(always)]
+pub(crate) fn on(op: BinOp, x: u32, a: Atom) -> Term
+    ensures { result ≡ on op x a }
+{
+    Term::Two(op, Atom::Var(x), a)
+}
 
 // How many steps there are.
 pub(crate) fn size_of(t: &Term) -> usize

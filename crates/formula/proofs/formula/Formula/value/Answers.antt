@@ -1,13 +1,20 @@
-use Rattle.std.proofs.Common.{◌≤◌, ◌∙◌, length, ap, sym, subst}
+use Rattle.std.proofs.Common.{◌≤◌, ◌∙◌, Ok, length, ap, sym, subst}
 use Rattle.gcl_core.specs.meaning.Value.{ExpressionBelow}
 use Rattle.formula.specs.Steps.{depth}
 use Rattle.formula.specs.ReadBack.{expression_in}
-use Rattle.formula.specs.Forms.{FormOf}
-use Rattle.formula.proofs.Shapes.{short_reads, short_value, joined_reads, joined_value_in, stands}
+use Rattle.formula.specs.declared.op.Atom.TheVariants.{Num, Var}
+use Rattle.formula.specs.declared.op.Term.TheVariants.{One}
+use Rattle.formula.specs.Forms.{on, term_value, TermReads, FormOf}
+use Rattle.formula.proofs.Shapes.{term_in, num_back, short_reads, short_value, joined_reads, joined_value_in, stands}
+use Rattle.formula.proofs.Slots.{small_back}
 use Rattle.formula.proofs.formula.Formula.value.Goals as goal
 
+pub atom_value-requires : goal.atom_value-requires
+atom_value-requires c = short_reads c.self.inside.form c.self.invariant.tree c.self.invariant.form c.args.self.now c.self.view_is (One (Var c.in-Var.x)) (length c.args.vars.now) (ap term_in c.in-Var.is) c.requires.reads
+
 pub value_of_term-requires : goal.value_of_term-requires
-value_of_term-requires c = short_reads c.self.inside.form c.self.invariant.tree c.self.invariant.form c.args.self.now c.self.view_is c.in-Short.t (length c.args.vars.now) c.in-Short.is c.requires.reads
+value_of_term-requires c =
+    subst (λ t. TermReads t (length c.args.vars.now)) (sym c.on.ensures) (short_reads c.self.inside.form c.self.invariant.tree c.self.invariant.form c.args.self.now c.self.view_is (on c.in-On.op c.in-On.x c.in-On.a) (length c.args.vars.now) (ap term_in c.in-On.is) c.requires.reads)
 
 pub value_of_joined-requires-clause-left : goal.value_of_joined-requires-clause-left
 value_of_joined-requires-clause-left c = (joined_reads c.self.inside.form c.self.invariant.tree c.self.invariant.form c.args.self.now c.self.view_is c.in-Joined.op c.in-Joined.t c.in-Joined.u (length c.args.vars.now) c.in-Joined.is c.requires.reads).0
@@ -32,9 +39,16 @@ value-requires c =
       );
     }
 
-pub returns-in-Short-clause-value : goal.returns-in-Short-clause-value
-returns-in-Short-clause-value c =
-    c.value_of_term.ensures.value ∙ short_value c.self.inside.form c.self.invariant.tree c.self.invariant.form c.args.self.now c.self.view_is c.in-Short.t c.args.vars.now c.in-Short.is
+pub returns-in-Num-clause-value : goal.returns-in-Num-clause-value
+returns-in-Num-clause-value c = ap Ok (num_back c.self.inside.form c.self.invariant.tree c.self.invariant.form c.args.self.now c.self.view_is c.in-Num.n c.in-Num.is) ∙ short_value c.self.inside.form c.self.invariant.tree c.self.invariant.form c.args.self.now c.self.view_is (One (Num c.in-Num.n)) c.args.vars.now (ap term_in c.in-Num.is)
+
+pub returns-in-Var-clause-value : goal.returns-in-Var-clause-value
+returns-in-Var-clause-value c =
+    ap Ok (small_back _ c.atom_value.ensures.small ∙ c.atom_value.ensures.value) ∙ short_value c.self.inside.form c.self.invariant.tree c.self.invariant.form c.args.self.now c.self.view_is (One (Var c.in-Var.x)) c.args.vars.now (ap term_in c.in-Var.is)
+
+pub returns-in-On-clause-value : goal.returns-in-On-clause-value
+returns-in-On-clause-value c =
+    c.value_of_term.ensures.value ∙ ap (λ t. term_value t c.args.vars.now) c.on.ensures ∙ short_value c.self.inside.form c.self.invariant.tree c.self.invariant.form c.args.self.now c.self.view_is (on c.in-On.op c.in-On.x c.in-On.a) c.args.vars.now (ap term_in c.in-On.is)
 
 pub returns-in-Joined-clause-value : goal.returns-in-Joined-clause-value
 returns-in-Joined-clause-value c =
