@@ -16,13 +16,11 @@ use Rattle.sampler_code.specs.Machine.{Drawing, idle, below, Machine, goes, ends
 use Rattle.sampler_code.specs.Sound.{Sound}
 use Rattle.sampler_code.specs.inner.Bounded.{rest_of, Answered}
 use Rattle.sampler_run.specs.declared.machine.Registers.{Registers}
-use Rattle.sampler_run.specs.declared.stepping.Move.{Move}
-use Rattle.sampler_run.specs.declared.stepping.Move.TheVariants as move
 use Rattle.sampler_run.specs.declared.trials.Came.TheVariants as came
 use Rattle.sampler_run.specs.declared.trials.Trial.{Trial}
 use Rattle.sampler_run.specs.Views.{machine_of}
 use Rattle.sampler_run.specs.inner.Going.{to_go}
-use Rattle.sampler_run.specs.inner.Ran.{CanRun, HasMoved, MovedTo}
+use Rattle.sampler_run.specs.inner.Ran.{CanRun}
 use Rattle.sampler_run.specs.inner.Taken.{Takes}
 use Rattle.sampler_run.specs.inner.Tried.{at_trial, HasTried, HasBegun, Went}
 use Rattle.sampler_run.proofs.Rejections.{step_went, went_answered, went_join}

@@ -1,5 +1,5 @@
 -- An attempt below a bound that fails, on all the bits that it reads at once; and attempts, one after the other.
-use Rattle.std.proofs.Common.{◌≡◌, ℕ, zero, suc, ◌+◌, ◌*◌, ◌^◌, ◌/◌, ◌%◌, ◌-◌, ◌<◌, ◌≤◌, ◌==◌, pos, Bool, true, List, ◌∷◌, ◌++◌, Some, refl, sym, ap, ◌∙◌, subst, arith, le-ltb, inr}
+use Rattle.std.proofs.Common.{◌≡◌, ℕ, zero, suc, ◌+◌, ◌*◌, ◌^◌, ◌/◌, ◌%◌, ◌-◌, ◌<◌, ◌≤◌, ◌==◌, pos, Bool, List, ◌∷◌, ◌++◌, Some, refl, sym, ap, ◌∙◌, subst, arith, le-ltb, inr}
 use Rattle.std.specs.Prelude.{slice_get, if◌then◌else◌}
 use Rattle.std.proofs.lemmas.Nat.{mul-le, pow_pos, div-mul-add}
 use Rattle.std.proofs.Math.Arith.{mod-mul}
@@ -14,7 +14,7 @@ use Rattle.zar_io.specs.FileBits.{low_bits}
 use Rattle.sampler_code.specs.Instruction.{Instruction, Range}
 use Rattle.sampler_code.specs.Machine.{Machine, below, goes, asks, ends, step, stored, narrowed, retry, draws_on}
 use Rattle.sampler_code.specs.inner.Bounded.{rest_of, Answered}
-use Rattle.sampler_run.specs.declared.stepping.Move.TheVariants as move
+use Rattle.sampler_run.specs.declared.machine.Pace.TheVariants as pace
 use Rattle.sampler_run.specs.declared.trials.Trial.{Trial}
 use Rattle.sampler_run.specs.declared.trials.Came.{Came}
 use Rattle.sampler_run.specs.declared.trials.Came.TheVariants.{Number, NeedBit, TriedOut}
@@ -187,7 +187,7 @@ module _ (code : List Instruction) (l : Limits) (x : ℕ) (e : Expression) (b : 
       sym next ∙ sym (side_narrowed code l x e b (at_trial m b t) (t.need - 1) t.low c) ∙ ap (λ s. side s c (at_trial m b t)) (sym more) in
       let bits : low_bits t.left word ≡ c ∷ low_bits u.left word =
       low_bits_first t.left word (λ z. absurd (omega (arith, z, there))) ∙ ap (λ c. c ∷ low_bits (t.left - 1) word) (sym is) ∙ ap (λ i. c ∷ low_bits i word) (sym left) in
-      let led : LedBy (step code l (at_trial m b t)) (at_trial m b t) (at_trial m b u) move.On (low_bits t.left word) (low_bits u.left word) =
+      let led : LedBy (step code l (at_trial m b t)) (at_trial m b t) (at_trial m b u) pace.On (low_bits t.left word) (low_bits u.left word) =
       inr (c, trial_asks m t at some lt, leads, bits) in
       record {
         takes = on_takes code l (rest_of code l (at_trial m b t)) (at_trial m b t) (at_trial m b u) _ _ _ h led (takes_none _ _ _ (λ v. refl));

@@ -1,6 +1,6 @@
 -- What a state tells of the rest of its run, and where two states stand.
 use Rattle.std.proofs.Common.{◌≡◌, ℕ, zero, suc, ◌+◌, ◌<◌, ◌≤◌, ℤ, pos, Bool, List, [], ◌∷◌, ◌++◌, length, take, get_or, Some, refl, sym, ap, ◌∙◌, subst, arith, append_assoc}
-use Rattle.std.proofs.lemmas.List.{append-nil}
+use Rattle.std.proofs.lemmas.List.{append-nil, length-replicate}
 use Rattle.std.proofs.Math.Seq.{take-suc, take-length}
 use Rattle.std.specs.Prelude.{◌↔◌, replicate}
 use Rattle.gcl_core.specs.declared.answers.Limits.{Limits}
@@ -18,7 +18,7 @@ use Rattle.sampler_code.proofs.SoundCode.{answered_of}
 use Rattle.sampler_code.proofs.Steps.{one_reached}
 use Rattle.sampler_run.specs.declared.machine.Progress.{Progress}
 use Rattle.sampler_run.specs.declared.machine.Progress.TheVariants as progress
-use Rattle.sampler_run.specs.Held.{Held, Ahead, StandsAfter}
+use Rattle.sampler_run.specs.Held.{Held, Ahead, StandsAfter, set_back}
 use Rattle.sampler_run.specs.Telling.{progress_in, used_in, Tells, UsedIs, PlaceIs}
 use Rattle.sampler_run.specs.inner.Resting.{Asks, Rests}
 use Rattle.sampler_run.specs.inner.Kept.{KeptState}
@@ -160,3 +160,25 @@ module _ (s : Held) (L V : ℕ) (p : Progress) (k : KeptState s L V p) where
   -- fed a bit, an ended run stands as it is
   pub kept_stays : (x : Outcome) → Tells s (progress.Ended x) → (u : List Bool) → StandsAfter u s s
   kept_stays x h u v a = (kept_ended x h v (u ++ v) a, kept_ended x h (u ++ v) v a)
+
+-- ---- two states of one run before its first step
+
+module _ (s t : Held) (e : set_back s ≡ set_back t) where
+  same_vars : length s.machine.vars ≡ length t.machine.vars
+  same_vars = sym (length-replicate (length s.machine.vars) (pos 0)) ∙ ap (λ (h : Held). length h.machine.vars) e ∙ length-replicate (length t.machine.vars) (pos 0)
+
+  pub same_turns : length s.machine.turns ≡ length t.machine.turns
+  same_turns = sym (length-replicate (length s.machine.turns) 0) ∙ ap (λ (h : Held). length h.machine.turns) e ∙ length-replicate (length t.machine.turns) 0
+
+  -- with the machine of the other, the one is the other
+  pub put_there : (m : Machine) → m ≡ t.machine → record { code = s.code; limits = s.limits; machine = m } ≡ t
+  put_there m f =
+      ap (λ (m : Machine). let h : Held = record { code = s.code; limits = s.limits; machine = m } in h) f
+      ∙ ap (λ (b : Held). let h : Held = record { code = b.code; limits = b.limits; machine = t.machine } in h) e
+
+  -- and it keeps what the other keeps, with its own counts
+  pub kept_there : (L V K W : ℕ) (p q : Progress) → KeptState s L V p → KeptState t K W q → (m : Machine) → m ≡ t.machine →
+      KeptState (record { code = s.code; limits = s.limits; machine = m }) L V q
+  kept_there L V K W p q k o m f =
+      subst (λ h. KeptState h L V q) (sym (put_there m f))
+      (subst (λ n. KeptState t n V q) (sym o.turns ∙ sym same_turns ∙ k.turns) (subst (λ n. KeptState t K n q) (sym o.vars ∙ sym same_vars ∙ k.vars) o))

@@ -1,5 +1,5 @@
 -- Runs on the bits of a word.
-use Rattle.std.proofs.Common.{◌≡◌, ℕ, zero, suc, ◌+◌, ◌*◌, ◌^◌, ◌/◌, ◌%◌, ◌-◌, ◌≢◌, ◌<◌, ◌≤◌, ◌==◌, Bool, true, false, List, [], ◌∷◌, ◌++◌, length, Option, refl, sym, ap, ◌∙◌, subst, arith, length-append, inl, inr}
+use Rattle.std.proofs.Common.{◌≡◌, ℕ, zero, suc, ◌+◌, ◌*◌, ◌^◌, ◌/◌, ◌%◌, ◌-◌, ◌≢◌, ◌<◌, ◌≤◌, ◌==◌, Bool, List, [], ◌∷◌, ◌++◌, length, Option, refl, sym, ap, ◌∙◌, subst, arith, length-append, inl, inr}
 use Rattle.gcl_core.specs.declared.answers.Limits.{Limits}
 use Rattle.gcl_core.specs.declared.answers.Outcome.{Outcome}
 use Rattle.zar_io.specs.FileBits.{low_bits}
@@ -9,11 +9,11 @@ use Rattle.sampler_code.specs.Running.{Reached}
 use Rattle.sampler_code.specs.inner.Bounded.{most_steps, rest_of, Answered}
 use Rattle.sampler_run.specs.declared.machine.Progress.TheVariants as progress
 use Rattle.sampler_run.specs.declared.machine.Registers.{Registers}
-use Rattle.sampler_run.specs.declared.stepping.Move.{Move}
-use Rattle.sampler_run.specs.declared.stepping.Move.TheVariants as move
+use Rattle.sampler_run.specs.declared.machine.Pace.{Pace}
+use Rattle.sampler_run.specs.declared.machine.Pace.TheVariants as pace
 use Rattle.sampler_run.specs.Views.{machine_of}
 use Rattle.sampler_run.specs.inner.Ran.{MovedTo}
-use Rattle.sampler_run.specs.inner.Resting.{Asks, Rests}
+use Rattle.sampler_run.specs.inner.Resting.{Asks, LedSilently, Rests}
 use Rattle.sampler_run.specs.inner.Taken.{NeedsMore, Takes, LedBy}
 use Rattle.sampler_run.specs.inner.Going.{silent_after, silent, steps_left, to_go}
 use Rattle.sampler_run.proofs.Settle.{falls, step_same, bit_same, answered_as, answered_bit}
@@ -61,17 +61,17 @@ module _ (code : List Instruction) (l : Limits) where
 
   -- one instruction on
   pub on_takes : (run : List Bool → Option Reached) (m n : Machine) (old before after : List Bool) → Answered code l m →
-      LedBy (step code l m) m n move.On before after → Takes run (rest_of code l m) old before → Takes run (rest_of code l n) old after
+      LedBy (step code l m) m n pace.On before after → Takes run (rest_of code l m) old before → Takes run (rest_of code l n) old after
   on_takes run m n old before after h (inl e) t =
       subst (λ b. Takes run (rest_of code l n) old b) (sym e.1) (takes_on run (rest_of code l m) (rest_of code l n) old before t (step_same code l m n h e.0))
   on_takes run m n old before after h (inr e) t =
       takes_more run (rest_of code l m) (rest_of code l n) e.0 old before after t e.3 (needs_rest code l m h e.1) (bit_same code l m n e.0 h e.1 e.2)
 
-  pub on_answered : (m n : Machine) (before after : List Bool) → Answered code l m → LedBy (step code l m) m n move.On before after → Answered code l n
+  pub on_answered : (m n : Machine) (before after : List Bool) → Answered code l m → LedBy (step code l m) m n pace.On before after → Answered code l n
   on_answered m n before after h (inl e) = answered_as code l m n h (step_same code l m n h e.0)
   on_answered m n before after h (inr e) = answered_bit code l m n e.0 h (bit_same code l m n e.0 h e.1 e.2)
 
-  pub on_less : (m n : Machine) (w j k : ℕ) → Answered code l m → LedBy (step code l m) m n move.On (low_bits j w) (low_bits k w) →
+  pub on_less : (m n : Machine) (w j k : ℕ) → Answered code l m → LedBy (step code l m) m n pace.On (low_bits j w) (low_bits k w) →
       to_go code l k n < to_go code l j m
   unfolding steps_left
   on_less m n w j k h (inl e) =
@@ -110,21 +110,26 @@ taken_answered code l m n old new h t v = ((h (t.taken ++ v)).0, t.same v ∙ (h
 
 -- ---- what one instruction came to
 
+pub silently : (x : Next) (old new : Machine) (p : Pace) (bits : List Bool) → LedSilently x old new p → LedBy x old new p bits bits
+silently x old new pace.On bits e = inl (e, refl)
+silently x old new pace.NeedBit bits e = absurd e
+silently x old new (pace.Ended o) bits e = (e.0, e.1, refl)
+
 module _ (code : List Instruction) (l : Limits) (old new : Registers) (w j k : ℕ) where
-  pub moved_takes : (p : Move) → Answered code l (machine_of old) → LedBy (step code l (machine_of old)) (machine_of old) (machine_of new) p (low_bits j w) (low_bits k w) →
+  pub moved_takes : (p : Pace) → Answered code l (machine_of old) → LedBy (step code l (machine_of old)) (machine_of old) (machine_of new) p (low_bits j w) (low_bits k w) →
       Takes (rest_of code l (machine_of old)) (rest_of code l (machine_of new)) (low_bits j w) (low_bits k w)
-  moved_takes move.On h e =
+  moved_takes pace.On h e =
       on_takes code l (rest_of code l (machine_of old)) (machine_of old) (machine_of new) (low_bits j w) (low_bits j w) (low_bits k w) h e (takes_none _ _ _ (λ v. refl))
-  moved_takes move.NeedBit h e =
+  moved_takes pace.NeedBit h e =
       stop_takes code l (rest_of code l (machine_of old)) (machine_of old) (machine_of new) (low_bits j w) (low_bits j w) (low_bits k w) e.1 e.3 (takes_none _ _ _ (λ v. refl))
-  moved_takes (move.Ended o) h e =
+  moved_takes (pace.Ended o) h e =
       stop_takes code l (rest_of code l (machine_of old)) (machine_of old) (machine_of new) (low_bits j w) (low_bits j w) (low_bits k w) e.1 e.2 (takes_none _ _ _ (λ v. refl))
 
-  pub moved_to : (p : Move) → Answered code l (machine_of old) → LedBy (step code l (machine_of old)) (machine_of old) (machine_of new) p (low_bits j w) (low_bits k w) →
+  pub moved_to : (p : Pace) → Answered code l (machine_of old) → LedBy (step code l (machine_of old)) (machine_of old) (machine_of new) p (low_bits j w) (low_bits k w) →
       MovedTo code l old new j k p
-  moved_to move.On h e = on_less code l (machine_of old) (machine_of new) w j k h e
-  moved_to move.NeedBit h e = (rests_need code l (machine_of old) (machine_of new) e.1 e.0, no_bits j k w e.2 e.3)
-  moved_to (move.Ended o) h e = rests_end code l (machine_of old) (machine_of new) o e.1 e.0
+  moved_to pace.On h e = on_less code l (machine_of old) (machine_of new) w j k h e
+  moved_to pace.NeedBit h e = (rests_need code l (machine_of old) (machine_of new) e.1 e.0, no_bits j k w e.2 e.3)
+  moved_to (pace.Ended o) h e = rests_end code l (machine_of old) (machine_of new) o e.1 e.0
 
 -- ---- at least one bit is taken of some bits, where the run needs one
 

@@ -1,13 +1,13 @@
 // Attempts of a draw below a bound, on the bits at hand and over plain values.
 
-ghost use Rattle.std.specs.Prelude.{◌≡◌, ℕ, ◌+◌, ◌-◌, ◌*◌, ◌/◌, ◌%◌, ◌^◌, ◌<◌, ◌≤◌, List, slice_get, Some, MatchOption};
+ghost use Rattle.std.specs.Prelude.{◌≡◌, ℕ, ◌+◌, ◌-◌, ◌*◌, ◌/◌, ◌%◌, ◌^◌, ◌<◌, ◌≤◌, List, slice_get, Some, IfSome, MatchOption};
 ghost use Rattle.gcl_core.specs.meaning.Draw.{bits_for, bit as bit_of};
 ghost use Rattle.gcl_core.specs.meaning.Runs.{capped};
 ghost use Rattle.gcl_core.specs.meaning.Syntax.{Expression};
 ghost use Rattle.sampler_code.specs.Instruction.{Instruction, Range};
 ghost use Rattle.sampler_code.specs.Machine.{Machine};
 ghost use Rattle.sampler_code.specs.inner.Bounded.{Answered};
-ghost use Rattle.sampler_run.specs.inner.Tried.{at_trial, HasTried, HasTriedAtOnce, IsSmallTrial};
+ghost use Rattle.sampler_run.specs.inner.Tried.{at_trial, Draws, HasTried, HasTriedAtOnce, IsSmallTrial};
 
 use crate::machine::is_below;
 use draw_tree::bits_for;
@@ -146,6 +146,27 @@ pub(crate) fn by_bits(bound: u64, word: u64, trial: Trial) -> (Trial, Came)
         } else {
             trial = read_one(trial, (word >> (trial.left - 1)) % 2 == 1);
         }
+    }
+}
+
+// An attempt on all its bits at once, where none of them was read so far and all lie ready: the number that is drawn, and what is left
+// then; or `None` where it is none below the bound.
+#[inline(always)]
+pub(crate) fn first_number(bound: u64, word: u64, trial: Trial) -> Option<(Trial, u64)>
+    requires bound { 0 < bound }
+    requires need { trial.need < 64 }
+    requires left { trial.left ≤ 64 }
+    ensures tried { IfSome result (Draws bound word trial) }
+    ensures small { IfSome result (λ r. r.1 < bound) }
+{
+    if trial.low != 0 || trial.need == 0 || trial.need > trial.left {
+        return None;
+    }
+    let number = first_bits(trial.need, word, trial.left);
+    if number < bound {
+        Some((read_all(trial), number))
+    } else {
+        None
     }
 }
 

@@ -10,8 +10,8 @@ use Rattle.sampler_code.specs.Sound.{Sound}
 use Rattle.sampler_run.specs.declared.machine.Progress.{Progress}
 use Rattle.sampler_run.specs.declared.machine.Progress.TheVariants.{NeedBit}
 use Rattle.sampler_run.specs.declared.machine.Registers.{Registers}
-use Rattle.sampler_run.specs.declared.stepping.Move.{Move}
-use Rattle.sampler_run.specs.declared.stepping.Move.TheVariants as move
+use Rattle.sampler_run.specs.declared.machine.Pace.{Pace}
+use Rattle.sampler_run.specs.declared.machine.Pace.TheVariants as pace
 use Rattle.sampler_run.specs.inner.Going.{to_go}
 use Rattle.sampler_run.specs.inner.Resting.{Asks, Rests}
 use Rattle.sampler_run.specs.inner.Shape.{SameShape}
@@ -26,13 +26,13 @@ pub record CanRun (code : List Instruction) (l : Limits) (m : Registers) (count 
   pub bits : count ≤ 64
 
 -- where it went: on, with less to go; or to rest
-abbrev pub MovedTo : List Instruction → Limits → Registers → Registers → ℕ → ℕ → Move → Type 0
-MovedTo code l old new before after move.On = to_go code l after (machine_of new) < to_go code l before (machine_of old)
-MovedTo code l old new before after move.NeedBit = Asks (step code l (machine_of new)) × (after ≡ 0)
-MovedTo code l old new before after (move.Ended o) = step code l (machine_of new) ≡ ends o
+abbrev pub MovedTo : List Instruction → Limits → Registers → Registers → ℕ → ℕ → Pace → Type 0
+MovedTo code l old new before after pace.On = to_go code l after (machine_of new) < to_go code l before (machine_of old)
+MovedTo code l old new before after pace.NeedBit = Asks (step code l (machine_of new)) × (after ≡ 0)
+MovedTo code l old new before after (pace.Ended o) = step code l (machine_of new) ≡ ends o
 
 -- some instructions on, it took those of the lowest bits of a word that it needs
-pub record HasMoved (code : List Instruction) (l : Limits) (old new : Registers) (word before after : ℕ) (p : Move) : Type 0 where
+pub record HasMoved (code : List Instruction) (l : Limits) (old new : Registers) (word before after : ℕ) (p : Pace) : Type 0 where
   pub takes : Takes (rest_of code l (machine_of old)) (rest_of code l (machine_of new)) (low_bits before word) (low_bits after word)
   pub moved : MovedTo code l old new before after p
   pub shape : SameShape old new

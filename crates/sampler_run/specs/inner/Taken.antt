@@ -4,8 +4,8 @@ use Rattle.sampler_code.specs.Machine.{Machine, Next, goes, ends}
 use Rattle.sampler_code.specs.Running.{Reached}
 use Rattle.sampler_run.specs.Telling.{progress_in}
 use Rattle.sampler_run.specs.declared.machine.Progress.TheVariants.{NeedBit}
-use Rattle.sampler_run.specs.declared.stepping.Move.{Move}
-use Rattle.sampler_run.specs.declared.stepping.Move.TheVariants as move
+use Rattle.sampler_run.specs.declared.machine.Pace.{Pace}
+use Rattle.sampler_run.specs.declared.machine.Pace.TheVariants as pace
 use Rattle.sampler_run.specs.inner.Resting.{Asks, side}
 
 -- a bit is needed
@@ -27,7 +27,7 @@ pub record Takes (run rest : List Bool → Option Reached) (old new : List Bool)
   pub needed : Needs run taken
 
 -- from old to new by one instruction, which may take a bit
-abbrev pub LedBy : Next → Machine → Machine → Move → List Bool → List Bool → Type 0
-LedBy x old new move.On before after = ((x ≡ goes new) × (after ≡ before)) ⊎ ((b : Bool) × Asks x × (new ≡ side x b old) × (before ≡ b ∷ after))
-LedBy x old new move.NeedBit before after = Asks x × (new ≡ old) × (before ≡ []) × (after ≡ before)
-LedBy x old new (move.Ended o) before after = (x ≡ ends o) × (new ≡ old) × (after ≡ before)
+abbrev pub LedBy : Next → Machine → Machine → Pace → List Bool → List Bool → Type 0
+LedBy x old new pace.On before after = ((x ≡ goes new) × (after ≡ before)) ⊎ ((b : Bool) × Asks x × (new ≡ side x b old) × (before ≡ b ∷ after))
+LedBy x old new pace.NeedBit before after = Asks x × (new ≡ old) × (before ≡ []) × (after ≡ before)
+LedBy x old new (pace.Ended o) before after = (x ≡ ends o) × (new ≡ old) × (after ≡ before)

@@ -1,12 +1,13 @@
 -- Attempts of a draw below a bound, as plain values.
-use Rattle.std.specs.Prelude.{◌≡◌, ℕ, ◌<◌, ◌≤◌, ◌^◌, pos, List, Option, Some, None}
+use Rattle.std.specs.Prelude.{◌≡◌, ℕ, ◌<◌, ◌≤◌, ◌^◌, pos, List, slice_get, Option, Some, None}
 use Rattle.gcl_core.specs.declared.answers.Limit.TheVariants.{Attempts}
 use Rattle.gcl_core.specs.declared.answers.Limits.{Limits}
 use Rattle.gcl_core.specs.declared.answers.Outcome.TheVariants as outcome
 use Rattle.zar_io.specs.FileBits.{low_bits}
-use Rattle.sampler_code.specs.Instruction.{Instruction}
+use Rattle.gcl_core.specs.meaning.Syntax.{Expression}
+use Rattle.sampler_code.specs.Instruction.{Instruction, Range}
 use Rattle.sampler_code.specs.Machine.{Machine, below, stored, step, ends}
-use Rattle.sampler_code.specs.inner.Bounded.{rest_of}
+use Rattle.sampler_code.specs.inner.Bounded.{rest_of, Answered}
 use Rattle.sampler_run.specs.declared.trials.Trial.{Trial}
 use Rattle.sampler_run.specs.declared.trials.Came.{Came}
 use Rattle.sampler_run.specs.declared.trials.Came.TheVariants.{Number, NeedBit, TriedOut}
@@ -41,6 +42,11 @@ HasTried code l x b m word old new NeedBit =
 HasTried code l x b m word old new TriedOut =
     Takes (rest_of code l (at_trial m b old)) (rest_of code l (at_trial m b new)) (low_bits old.left word) (low_bits new.left word)
     × (step code l (at_trial m b new) ≡ ends (outcome.Limit Attempts))
+
+-- the number that is drawn, and what is left then, of any draw below b from an attempt on
+abbrev pub Draws : ℕ → ℕ → Trial → Trial × ℕ → Type 0
+Draws b word t drawn = (code : List Instruction) (l : Limits) (x : ℕ) (e : Expression) (m : Machine) → slice_get code m.index ≡ Some (Range x e) →
+    Answered code l (at_trial m b t) → HasTried code l x b m word t drawn.0 (Number drawn.1)
 
 -- to a number that is drawn and stored, with less to go; or to an attempt, with no more to go
 abbrev pub HasTriedAtOnce : List Instruction → Limits → ℕ → ℕ → Machine → ℕ → Trial → Trial → Option ℕ → Type 0

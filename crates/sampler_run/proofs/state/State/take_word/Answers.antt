@@ -14,14 +14,14 @@ use Rattle.sampler_run.proofs.state.State.take_word.Goals as goal
 
 pub invariant_of-self : goal.invariant_of-self
 invariant_of-self c =
-    let a = c.run_held-progress.ensures in
+    let a = c.run_word-progress.ensures in
     let k = c.self.invariant.kept in
     record {
       kept = record {
         sound = k.sound;
         turns = a.shape.turns ∙ k.turns;
         vars = a.shape.vars ∙ k.vars;
-        answered = taken_answered c.self.inside.code.now.instrs c.self.inside.limits (machine_of c.self.inside.m) (machine_of c.run_held-progress.new.m) _ _ k.answered a.takes;
+        answered = taken_answered c.self.inside.code.now.instrs c.self.inside.limits (machine_of c.self.inside.m) (machine_of c.run_word-progress.new.m) _ _ k.answered a.takes;
         from_start = k.from_start;
         rests = a.rests;
       };
@@ -31,24 +31,24 @@ invariant_of-self c =
 pub returns-clause-used_up : goal.returns-clause-used_up
 returns-clause-used_up c =
     let k = (invariant_of-self c).kept in
-    λ h. c.run_held-progress.ensures.used_up (kept_one _ _ _ _ k c.run_held-progress.result.0 NeedBit (kept_tells _ _ _ _ k) h)
+    λ h. c.run_word-progress.ensures.used_up (kept_one _ _ _ _ k c.run_word-progress.result.0 NeedBit (kept_tells _ _ _ _ k) h)
 
 pub returns-clause-went : goal.returns-clause-went
 returns-clause-went c =
     let code = c.self.inside.code.now.instrs in
     let l = c.self.inside.limits in
-    let n = machine_of c.run_held-progress.new.m in
+    let n = machine_of c.run_word-progress.new.m in
     let new : Held = record { code = code; limits = l; machine = n } in
-    subst (λ s. WentOn s new (low_bits c.args.count c.args.word) (low_bits c.run_held-progress.result.1 c.args.word)) c.self.view_is
-    (went_taken code l (machine_of c.self.inside.m) n _ _ c.self.invariant.kept.answered (invariant_of-self c).kept.answered c.run_held-progress.ensures.takes)
+    subst (λ s. WentOn s new (low_bits c.args.count c.args.word) (low_bits c.run_word-progress.result.1 c.args.word)) c.self.view_is
+    (went_taken code l (machine_of c.self.inside.m) n _ _ c.self.invariant.kept.answered (invariant_of-self c).kept.answered c.run_word-progress.ensures.takes)
 
 pub returns-clause-fewer : goal.returns-clause-fewer
 returns-clause-fewer c =
     let code = c.self.inside.code.now.instrs in
     let l = c.self.inside.limits in
-    let n = machine_of c.run_held-progress.new.m in
+    let n = machine_of c.run_word-progress.new.m in
     let new : Held = record { code = code; limits = l; machine = n } in
-    let a = c.run_held-progress.ensures in
+    let a = c.run_word-progress.ensures in
     let asks = kept_asks _ _ _ _ c.self.invariant.kept (subst (λ s. Tells s NeedBit) (sym c.self.view_is) c.requires.needs) in
     subst (λ s. most_bits_to_come new < most_bits_to_come s) c.self.view_is
-    (fewer_word code l (machine_of c.self.inside.m) n c.run_held-progress.result.0 c.run_held-progress.result.1 c.args.count c.args.word c.requires.some c.self.invariant.kept.answered asks a.rests a.used_up a.takes)
+    (fewer_word code l (machine_of c.self.inside.m) n c.run_word-progress.result.0 c.run_word-progress.result.1 c.args.count c.args.word c.requires.some c.self.invariant.kept.answered asks a.rests a.used_up a.takes)
