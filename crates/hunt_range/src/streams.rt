@@ -4,6 +4,7 @@ ghost use Rattle.gcl_core.specs.declared.answers.Answer.{Answer};
 ghost use Rattle.gcl_core.specs.meaning.Outcomes.{same_key};
 ghost use Rattle.sampler_run.specs.Held.{IsRestOf, set_back};
 ghost use Rattle.tally_range.specs.Blocks.{first_in_block, blocks_over};
+ghost use Rattle.tally_range.specs.Homes.{IsHome};
 ghost use Rattle.tally_range.specs.Ranges.{IsRange};
 ghost use Rattle.hunt_range.specs.Sought.{sought_of};
 ghost use Rattle.hunt_range.specs.inner.Blocks.{FirstWanted};
@@ -28,13 +29,15 @@ pub fn first_stream(from: u64, to: u64, block: u64) -> u64
     from + STREAMS_OF_A_BLOCK * block
 }
 
-/// The first stream of a block whose run has the key, if there is one. It takes no memory.
-pub fn first_wanted(
-    state: &mut State<'_>,
+/// The first stream of a block whose run, from where `home` stands, has the key, if there is one. It takes no memory.
+pub fn first_wanted<'s>(
+    state: &mut State<'s>,
+    home: &State<'s>,
     range: &SeedRange,
     want: &TallyKey,
     first: u64,
 ) -> Option<u64>
+    requires home { IsHome home.now state.old }
     requires range { IsRange range.now }
     requires inside { first < range.now.to }
     ensures first { (run : List Bool → Answer) → IsRestOf (set_back state.old) run → FirstWanted (sought_of run range.now want.now) first range.now.to result }
@@ -44,7 +47,7 @@ pub fn first_wanted(
     let count = (range.to - first).min(STREAMS_OF_A_BLOCK);
     let mut at = 0;
     while at < count {
-        let key = run_on_stream(state, range.seed, first + at, range.budget);
+        let key = run_on_stream(state, home, range.seed, first + at, range.budget);
         if is_same(key, want) {
             return Some(first + at);
         }

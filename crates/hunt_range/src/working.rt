@@ -38,14 +38,15 @@ pub fn work<G: Gate>(
     ensures same { IsSameHunter hunter.old hunter.new }
     ensures hunted { IfOk result (λ _. HasHuntedRuns s.now l.now range.now want.now hunter.new.pass hunter.new.bid) }
 {
-    let mut state = s.start(alloc, l)?;
+    let home = s.start(alloc, l)?;
+    let mut state = home.fork(alloc)?;
     while let Some(block) = board.claim(&mut hunter.pass) {
         gate.entered(block);
         let first = first_stream(range.from, range.to, block);
         if least.look(&mut hunter.bid) <= first {
             return Ok(());
         }
-        if let Some(stream) = first_wanted(&mut state, range, want, first) {
+        if let Some(stream) = first_wanted(&mut state, &home, range, want, first) {
             least.offer(&mut hunter.bid, stream);
         }
     }

@@ -1,4 +1,4 @@
-//! Runs that are fed their bits: in two pieces, in two ways from one place, and from the start again.
+//! Runs that are fed their bits: in two pieces, in two ways from one place, from the start again, and from where another stands.
 
 ghost use Rattle.std.specs.Prelude.{◌≡◌, ◌++◌, IfOk, OnOk, OnErr};
 ghost use Rattle.gcl_core.specs.meaning.Runs.{run_on};
@@ -55,4 +55,14 @@ pub fn run_anew(state: &mut State<'_>, before: &[bool], bits: &[bool]) -> Progre
     state.feed_all(before);
     state.restart();
     state.feed_all(bits)
+}
+
+/// Puts a run where another of the same sampler under the same limits stands, and goes on with the bits `next`. Answers where it stands then.
+pub fn go_on_from<'s>(state: &mut State<'s>, other: &State<'s>, next: &[bool]) -> Progress
+    requires { set_back state.old ≡ set_back other.now }
+    ensures stands { StandsAfter next.now other.now state.new }
+    ensures told { Tells state.new result }
+{
+    state.fork_from(other);
+    state.feed_all(next)
 }

@@ -21,7 +21,7 @@ mod sampling;
 #[cfg(test)]
 mod tallying;
 
-pub use feeding::{fed_in_two, go_both_ways, run_anew};
+pub use feeding::{fed_in_two, go_both_ways, go_on_from, run_anew};
 pub use in_memory::{put_on_a_vector, two_files};
 pub use ranges::{FAR, streams};
 pub use retrying::sample_again;

@@ -1,9 +1,9 @@
 // Runs of programs, on lists of bits, on words and on sources.
 
-use crate::feeding::{fed_in_two, go_both_ways, run_anew};
+use crate::feeding::{fed_in_two, go_both_ways, go_on_from, run_anew};
 use crate::programs::{DIE, GEOMETRIC, LIMITS, TWO_THIRDS, program, sampler};
 use crate::retrying::sample_again;
-use gcl_core::{Answer, Checked, Fault, Limit, Outcome};
+use gcl_core::{Answer, Checked, Fault, Limit, Limits, Outcome};
 use sampler_code::list;
 use sampler_run::{Progress, RunError, Sampler, State, Stop, compile, sample};
 use std::alloc::{AllocError, Global};
@@ -59,6 +59,102 @@ fn places_of_two_thirds(rt: HostRuntime) -> Result<(), Fail> {
     assert!(rt; places(alloc, &s)?);
     assert!(rt; places_by_words(alloc, &s)?);
     assert!(rt; fed_in_two(alloc, &p, &LIMITS, &[true], &[true, true, false])? == TWO);
+    Ok(())
+}
+
+const TWO_TURNS: Limits = Limits {
+    turns: 2,
+    attempts: 1000,
+    rounds: 1000,
+};
+
+const TWO_BITS: &str = "a ~ uniform(2); b ~ uniform(2); return 2 * a + b;";
+
+const THREE_BITS: &str =
+    "a ~ uniform(2); b ~ uniform(2); c ~ uniform(2); return 4 * a + 2 * b + c;";
+
+const FOUR_BITS: &str =
+    "a ~ uniform(2); b ~ uniform(2); c ~ uniform(2); d ~ uniform(2); return 8 * a + 4 * b + 2 * c + d;";
+
+// The bits of a run, those of another, those that the first goes on with where the other stands, and how it ends.
+const PUT: [(&str, &[bool], &[bool], &[bool], Outcome, u64); 6] = [
+    (
+        DIE,
+        &[true, false, true],
+        &[false, true],
+        &[true],
+        Outcome::Value(3),
+        3,
+    ),
+    (
+        TWO_BITS,
+        &[false, false],
+        &[true],
+        &[true],
+        Outcome::Value(3),
+        2,
+    ),
+    (
+        THREE_BITS,
+        &[true],
+        &[false, true],
+        &[true],
+        Outcome::Value(3),
+        3,
+    ),
+    (
+        FOUR_BITS,
+        &[false, true, false, true],
+        &[true, false],
+        &[true, true],
+        Outcome::Value(11),
+        4,
+    ),
+    (
+        FOUR_BITS,
+        &[],
+        &[true, false, false, true],
+        &[true],
+        Outcome::Value(9),
+        4,
+    ),
+    (
+        GEOMETRIC,
+        &[],
+        &[false],
+        &[false],
+        Outcome::Limit(Limit::Turns),
+        2,
+    ),
+];
+
+fn ends_from_there(
+    alloc: Global,
+    s: &Sampler,
+    here: &[bool],
+    there: &[bool],
+    next: &[bool],
+    outcome: Outcome,
+    used: u64,
+) -> Result<bool, AllocError> {
+    let mut other = s.start(alloc, &TWO_TURNS)?;
+    let mut state = other.fork(alloc)?;
+    state.feed_all(here);
+    other.feed_all(there);
+    let progress = go_on_from(&mut state, &other, next);
+    Ok(progress == Progress::Ended(outcome) && state.used() == used)
+}
+
+#[test]
+fn runs_put_where_others_stand(rt: HostRuntime) -> Result<(), Fail> {
+    let alloc = rt.alloc();
+    for (text, here, there, next, outcome, used) in PUT {
+        let s = sampler(alloc, text)?;
+        assert!(rt;
+            ends_from_there(alloc, &s, here, there, next, outcome, used)?,
+            "at {text}"
+        );
+    }
     Ok(())
 }
 

@@ -3,6 +3,7 @@ pub mod Rows
 pub mod Sums
 pub mod Counts
 pub mod Blocks
+pub mod Homes
 pub mod Shares
 pub mod Laws
 pub mod inner

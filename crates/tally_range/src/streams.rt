@@ -7,6 +7,7 @@ ghost use Rattle.sampler_run.specs.Held.{IsRestOf, set_back};
 ghost use Rattle.zar_io.specs.declared.stream_bits.TheConstants.{MOST_BUDGET};
 ghost use Rattle.tally_range.specs.Blocks.{blocks_over, count_block};
 ghost use Rattle.tally_range.specs.Counts.{key_of_answer, key_on, count_over};
+ghost use Rattle.tally_range.specs.Homes.{IsHome};
 ghost use Rattle.tally_range.specs.Ranges.{IsRange};
 ghost use Rattle.tally_range.specs.Rows.{counted_at};
 ghost use Rattle.tally_range.specs.Sums.{count_in};
@@ -28,13 +29,21 @@ fn key_of_answer(answer: Answer) -> TallyKey
     }
 }
 
-/// Runs from the start on the first bits of a stream, as many as the budget says: the key of the run. It takes no memory.
-pub fn run_on_stream(state: &mut State<'_>, seed: u64, stream: u64, budget: u64) -> TallyKey
-    requires { budget ≤ MOST_BUDGET }
+/// Runs from where `home` stands, before its first bit, on the first bits of a stream, as many as the budget says: the key of the run. It
+/// takes no memory.
+pub fn run_on_stream<'s>(
+    state: &mut State<'s>,
+    home: &State<'s>,
+    seed: u64,
+    stream: u64,
+    budget: u64,
+) -> TallyKey
+    requires home { IsHome home.now state.old }
+    requires budget { budget ≤ MOST_BUDGET }
     ensures key { (run : List Bool → Answer) → IsRestOf (set_back state.old) run → result ≡ key_on run seed budget stream }
     ensures same_start { set_back state.new ≡ set_back state.old }
 {
-    state.restart();
+    state.fork_from(home);
     let mut bits = StreamBits::new(seed, stream, budget);
     match go_on(state, &mut bits) {
         Ok(stop) => key_of_answer(stop.answer),
@@ -56,13 +65,15 @@ fn count_key(small: &mut SmallCounts, table: &mut Tally, key: TallyKey) -> Resul
 }
 
 // Runs on some streams that follow one another, and counts the keys of the runs. An error comes only where memory runs out.
-pub(crate) fn count_streams(
-    state: &mut State<'_>,
+pub(crate) fn count_streams<'s>(
+    state: &mut State<'s>,
+    home: &State<'s>,
     table: &mut Tally,
     range: &SeedRange,
     first: u64,
     end: u64,
 ) -> Result<(), AllocError>
+    requires home { IsHome home.now state.old }
     requires range { IsRange range.now }
     requires order { first ≤ end }
     requires fits { (key : TallyKey) → count_in table.old key + (end - first) < 2 ^ 64 }
@@ -74,7 +85,7 @@ pub(crate) fn count_streams(
     let mut small = SmallCounts::new();
     let mut at = first;
     while at < end {
-        let key = run_on_stream(state, range.seed, at, range.budget);
+        let key = run_on_stream(state, home, range.seed, at, range.budget);
         count_key(&mut small, table, key)?;
         at += 1;
     }
@@ -90,12 +101,14 @@ fn end_of_block(first: u64, to: u64) -> u64
 }
 
 // Runs on the streams of a block, and counts the keys of the runs. An error comes only where memory runs out.
-pub(crate) fn count_block(
-    state: &mut State<'_>,
+pub(crate) fn count_block<'s>(
+    state: &mut State<'s>,
+    home: &State<'s>,
     table: &mut Tally,
     range: &SeedRange,
     block: u64,
 ) -> Result<(), AllocError>
+    requires home { IsHome home.now state.old }
     requires range { IsRange range.now }
     requires block { block < blocks_over range.now.from range.now.to }
     requires fits { (key : TallyKey) → count_in table.old key + STREAMS_OF_A_BLOCK < 2 ^ 64 }
@@ -105,5 +118,6 @@ pub(crate) fn count_block(
     ensures same_start { set_back state.new ≡ set_back state.old }
 {
     let first = range.from + STREAMS_OF_A_BLOCK * block;
-    count_streams(state, table, range, first, end_of_block(first, range.to))
+    let end = end_of_block(first, range.to);
+    count_streams(state, home, table, range, first, end)
 }

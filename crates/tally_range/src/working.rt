@@ -37,10 +37,11 @@ pub fn work<G: Gate>(
     ensures board { IsPassOf board.now (pass_of share.new) }
     ensures counted { OnOk result (IsCounted s.now l.now range.now share.new) }
 {
-    let mut state = s.start(share.alloc, l)?;
+    let home = s.start(share.alloc, l)?;
+    let mut state = home.fork(share.alloc)?;
     while let Some(block) = board.claim(&mut share.pass) {
         gate.entered(block);
-        count_block(&mut state, &mut share.table, range, block)?;
+        count_block(&mut state, &home, &mut share.table, range, block)?;
     }
     Ok(())
 }

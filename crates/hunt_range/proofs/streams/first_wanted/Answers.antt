@@ -5,6 +5,9 @@ use Rattle.hunt_range.specs.Sought.{sought_of}
 use Rattle.hunt_range.proofs.Searching.{none_more}
 use Rattle.hunt_range.proofs.streams.first_wanted.Goals as goal
 
+pub run_on_stream-key-requires-clause-home : goal.run_on_stream-key-requires-clause-home
+run_on_stream-key-requires-clause-home c = record { stands = c.requires.home.stands; same = c.loop-at.invariant.start ∙ c.requires.home.same }
+
 pub returns-then-is_same-clause-first : goal.returns-then-is_same-clause-first
 returns-then-is_same-clause-first c = λ run is.
     let i = c.loop-at.invariant in

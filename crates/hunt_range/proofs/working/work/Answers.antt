@@ -1,10 +1,15 @@
 use Rattle.std.proofs.Common.{Some, None, refl, [], ◌∷◌, ◌++◌, sym, ap, subst, ◌∙◌, arith}
 use Rattle.claim_board.specs.Board.{blocks_of, dealt_to}
-use Rattle.sampler_run.specs.Held.{Held, IsRestOf}
+use Rattle.sampler_run.specs.Held.{Held, IsRestOf, StandsAfter}
 use Rattle.hunt_range.specs.Sought.{sought_of}
 use Rattle.hunt_range.specs.inner.Blocks.{FirstWanted}
 use Rattle.hunt_range.proofs.Searching.{HasSearched, ends, stops, goes_on, offers, fewer_left, hunts_on}
 use Rattle.hunt_range.proofs.working.work.Goals as goal
+
+pub first_wanted-requires-clause-home : goal.first_wanted-requires-clause-home
+first_wanted-requires-clause-home g c =
+    let start = c.in_ok-home.ensures.start in
+    record { stands = subst (λ (s : Held). StandsAfter [] s c.in_ok-home.home) (sym start) c.in_ok-home.ensures.rest; same = c.loop-block.invariant.1 ∙ sym start }
 
 pub returns-then-look-first-clause-hunted : goal.returns-then-look-first-clause-hunted
 returns-then-look-first-clause-hunted g c = λ run is.

@@ -14,6 +14,9 @@ loop-at-init c = (
   λ key. let none = c.new-small.ensures key in omega arith,
 )
 
+pub run_on_stream-key-requires-clause-home : goal.run_on_stream-key-requires-clause-home
+run_on_stream-key-requires-clause-home c = record { stands = c.requires.home.stands; same = c.loop-at.invariant.2 ∙ c.requires.home.same }
+
 pub count_key-requires : goal.count_key-requires
 count_key-requires c = let i = c.loop-at.invariant in let t = c.loop-at-test.true in let key : TallyKey = c.run_on_stream-key.result in
     let fits = c.requires.fits key in let now = i.4 key in omega arith

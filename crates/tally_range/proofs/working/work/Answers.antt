@@ -1,13 +1,18 @@
-use Rattle.std.proofs.Common.{◌≡◌, ℕ, ◌+◌, max, List, sym, ap, ◌∙◌, subst, arith}
+use Rattle.std.proofs.Common.{◌≡◌, ℕ, ◌+◌, max, List, [], sym, ap, ◌∙◌, subst, arith}
 use Rattle.number_lists.specs.Total.{total}
 use Rattle.number_lists.specs.Numbers.{top}
 use Rattle.number_lists.proofs.Times.{top_above, top-snoc}
 use Rattle.number_lists.proofs.Totals.{total_snoc}
 use Rattle.claim_board.specs.Board.{dealt_to}
-use Rattle.sampler_run.specs.Held.{Held, IsRestOf}
+use Rattle.sampler_run.specs.Held.{Held, IsRestOf, StandsAfter}
 use Rattle.tally_range.specs.Blocks.{count_block}
 use Rattle.tally_range.specs.Shares.{pass_of}
 use Rattle.tally_range.proofs.working.work.Goals as goal
+
+pub count_block-requires-clause-home : goal.count_block-requires-clause-home
+count_block-requires-clause-home g c =
+    let start = c.in_ok-home.ensures.start in
+    record { stands = subst (λ (s : Held). StandsAfter [] s c.in_ok-home.home) (sym start) c.in_ok-home.ensures.rest; same = c.loop-block.invariant.4 ∙ sym start }
 
 pub loop-block-smaller : goal.loop-block-smaller
 loop-block-smaller g c = let s = c.in-Some.ensures.some in let i = c.loop-block.invariant in let old : List ℕ = dealt_to (pass_of c.loop-block.share) in let le = top_above c.in-Some.block old s.1 in
