@@ -1,14 +1,18 @@
 -- Runs through the bits of a word.
 use Rattle.std.specs.Prelude.{◌≡◌, ℕ, ◌<◌, ◌≤◌, List, length}
+use Rattle.gcl_core.specs.declared.answers.Limit.TheVariants.{Attempts}
 use Rattle.gcl_core.specs.declared.answers.Limits.{Limits}
+use Rattle.gcl_core.specs.declared.answers.Outcome.TheVariants as outcome
 use Rattle.zar_io.specs.FileBits.{low_bits}
 use Rattle.sampler_code.specs.Instruction.{Instruction}
 use Rattle.sampler_code.specs.Depths.{greatest_depth}
 use Rattle.sampler_code.specs.Machine.{step, ends}
 use Rattle.sampler_code.specs.inner.Bounded.{rest_of, Answered}
 use Rattle.sampler_code.specs.Sound.{Sound}
+use Rattle.sampler_run.specs.declared.drawing.Drawn.{Drawn}
+use Rattle.sampler_run.specs.declared.drawing.Drawn.TheVariants.{Stored, NeedBit, TriedOut}
 use Rattle.sampler_run.specs.declared.machine.Progress.{Progress}
-use Rattle.sampler_run.specs.declared.machine.Progress.TheVariants.{NeedBit}
+use Rattle.sampler_run.specs.declared.machine.Progress.TheVariants as progress
 use Rattle.sampler_run.specs.declared.machine.Registers.{Registers}
 use Rattle.sampler_run.specs.declared.machine.Pace.{Pace}
 use Rattle.sampler_run.specs.declared.machine.Pace.TheVariants as pace
@@ -24,6 +28,12 @@ pub record CanRun (code : List Instruction) (l : Limits) (m : Registers) (count 
   pub sound : Sound code (length m.turns.items) (length m.vars.items)
   pub answered : Answered code l (machine_of m)
   pub bits : count ≤ 64
+
+-- how a run goes on after a draw
+abbrev pub pace_of : Drawn → Pace
+pace_of Stored = pace.On
+pace_of NeedBit = pace.NeedBit
+pace_of TriedOut = pace.Ended (outcome.Limit Attempts)
 
 -- where it went: on, with less to go; or to rest
 abbrev pub MovedTo : List Instruction → Limits → Registers → Registers → ℕ → ℕ → Pace → Type 0
@@ -42,5 +52,5 @@ pub record HasRun (code : List Instruction) (l : Limits) (old new : Registers) (
   pub takes : Takes (rest_of code l (machine_of old)) (rest_of code l (machine_of new)) (low_bits before word) (low_bits after word)
   pub rests : Rests (step code l (machine_of new)) p
   pub left : after ≤ before
-  pub used_up : p ≡ NeedBit → after ≡ 0
+  pub used_up : p ≡ progress.NeedBit → after ≡ 0
   pub shape : SameShape old new

@@ -8,6 +8,8 @@ use Rattle.gcl_core.specs.meaning.Syntax.{Expression}
 use Rattle.sampler_code.specs.Instruction.{Instruction, Range}
 use Rattle.sampler_code.specs.Machine.{Machine, below, stored, step, ends}
 use Rattle.sampler_code.specs.inner.Bounded.{rest_of, Answered}
+use Rattle.sampler_run.specs.declared.drawing.Attempt.{Attempt}
+use Rattle.sampler_run.specs.declared.machine.Registers.{Registers}
 use Rattle.sampler_run.specs.declared.trials.Trial.{Trial}
 use Rattle.sampler_run.specs.declared.trials.Came.{Came}
 use Rattle.sampler_run.specs.declared.trials.Came.TheVariants.{Number, NeedBit, TriedOut}
@@ -18,6 +20,10 @@ use Rattle.sampler_run.specs.inner.Taken.{Takes}
 -- a machine at an attempt below b
 abbrev pub at_trial : Machine → ℕ → Trial → Machine
 at_trial m b t = record m { tries = t.tries; used = t.used; drawing = below b t.need t.low }
+
+-- an attempt that is under way, as a plain value
+abbrev pub trial_of : Registers → Attempt → ℕ → Trial
+trial_of m a left = record { need = a.need; low = a.low; tries = m.tries; used = m.used; left = left }
 
 -- it took some of the lowest bits of a word, and no more is to go than before
 pub record Went (code : List Instruction) (l : Limits) (old new : Machine) (word before after : ℕ) : Type 0 where

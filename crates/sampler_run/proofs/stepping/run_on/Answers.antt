@@ -12,12 +12,26 @@ use Rattle.sampler_run.proofs.stepping.run_on.Goals as goal
 pub loop-outcome-init : goal.loop-outcome-init
 loop-outcome-init c = record {
   shape = own_shape _;
+  at = c.at-i.ensures.instruction;
+  within = c.at-i.ensures.within;
   answered = c.requires.answered;
   takes = takes_none _ _ _ (λ v. refl);
 }
 
-pub at-requires : goal.at-requires
-at-requires c = within c.args.code.now.instrs c.args.limits.now (machine_of c.loop-outcome.m) c.loop-outcome.invariant.answered
+pub at-i-requires : goal.at-i-requires
+at-i-requires c = within c.args.code.now.instrs c.args.limits.now (machine_of c.args.m.now) c.requires.answered
+
+pub at-i-requires-in-loop-outcome : goal.at-i-requires-in-loop-outcome
+at-i-requires-in-loop-outcome c =
+    let code = c.args.code.now.instrs in
+    let n = machine_of c.move_on.new.m in
+    within code c.args.limits.now n (taken_answered code c.args.limits.now (machine_of c.loop-outcome.m) n _ _ c.loop-outcome.invariant.answered c.in-On.ensures.takes)
+
+pub move_on-requires-clause-at : goal.move_on-requires-clause-at
+move_on-requires-clause-at c = c.loop-outcome.invariant.at
+
+pub move_on-requires-clause-within : goal.move_on-requires-clause-within
+move_on-requires-clause-within c = c.loop-outcome.invariant.within
 
 pub move_on-requires-clause-can : goal.move_on-requires-clause-can
 move_on-requires-clause-can c =
@@ -42,6 +56,8 @@ loop-outcome-preserved c =
     let e = c.in-On.ensures in
     record {
       shape = shape_join _ _ _ i.shape e.shape;
+      at = c.at-i-in-loop-outcome.ensures.instruction;
+      within = c.at-i-in-loop-outcome.ensures.within;
       answered = taken_answered c.args.code.now.instrs c.args.limits.now (machine_of c.loop-outcome.m) (machine_of c.move_on.new.m) _ _ i.answered e.takes;
       takes = takes_join _ _ _ _ _ _ i.takes e.takes;
     }

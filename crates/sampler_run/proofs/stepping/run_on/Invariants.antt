@@ -1,3 +1,5 @@
+use Rattle.std.specs.Prelude.{◌≡◌, ◌+◌, ◌^◌, ◌<◌, Some, slice_get}
+use Rattle.sampler_code.specs.Views.{instruction_of}
 use Rattle.zar_io.specs.FileBits.{low_bits}
 use Rattle.sampler_code.specs.inner.Bounded.{rest_of}
 use Rattle.sampler_code.specs.inner.Bounded.{Answered}
@@ -10,6 +12,8 @@ use Rattle.sampler_run.proofs.stepping.run_on.Given as goal
 abbrev pub invariant-loop-outcome : goal.invariant-loop-outcome
 invariant-loop-outcome l = record {
   shape : SameShape l.initial.m l.m;
+  at : slice_get l.code.instrs l.m.index ≡ Some (instruction_of l.i);
+  within : l.m.index + 1 < 2 ^ 64;
   answered : Answered l.code.instrs l.limits (machine_of l.m);
   takes : Takes (rest_of l.code.instrs l.limits (machine_of l.initial.m)) (rest_of l.code.instrs l.limits (machine_of l.m)) (low_bits l.initial.left l.word) (low_bits l.left l.word);
 }

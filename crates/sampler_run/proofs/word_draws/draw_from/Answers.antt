@@ -9,8 +9,8 @@ use Rattle.sampler_run.specs.Views.{machine_of}
 use Rattle.sampler_run.specs.inner.Resting.{Asks}
 use Rattle.sampler_run.specs.inner.Taken.{Takes}
 use Rattle.sampler_run.specs.inner.Tried.{HasTried}
-use Rattle.sampler_run.proofs.Draws.{number_takes, number_less, need_takes, out_takes, begun_answered, stands_at}
-use Rattle.sampler_run.proofs.stepping.draw_by_bits.Goals as goal
+use Rattle.sampler_run.proofs.Draws.{drawn, need_takes, out_takes, begun_answered, stands_at}
+use Rattle.sampler_run.proofs.word_draws.draw_from.Goals as goal
 
 pub store_number-requires-clause-place : goal.store_number-requires-clause-place
 store_number-requires-clause-place c = (c.requires.can.sound.each c.args.m.now.index _ c.requires.at).0.0
@@ -22,19 +22,14 @@ returns-in-Number c =
     let x = c.args.x in
     let b = c.args.bound in
     let w = c.args.word in
-    let m = machine_of c.args.m.now in
-    let n = machine_of c.store_number.new.m in
+    let m = c.args.m.now in
     let t = c.args.trial in
     let u = c.by_bits-came.result.0 in
     let h = c.requires.begun in
-    let tried = c.by_bits-came.ensures.tried code l x (expression_in c.args.e.now) m c.requires.at (begun_answered code l x b m w c.args.left.now t u h c.requires.can.answered) in
-    let hand = subst (λ o. HasTried code l x b m w t u o) c.in-Number.is tried in
+    let tried = c.by_bits-came.ensures.tried code l x (expression_in c.args.e.now) (machine_of m) c.requires.at (begun_answered code l x b (machine_of m) w c.args.left.now t u h c.requires.can.answered) in
+    let hand = subst (λ o. HasTried code l x b (machine_of m) w t u o) c.in-Number.is tried in
     let e = c.store_number.ensures in
-    record {
-      takes = number_takes code l x b m w c.args.left.now t u h n c.in-Number.number e.stored hand;
-      moved = number_less code l x b m w c.args.left.now t u h n c.in-Number.number e.stored hand;
-      shape = record { turns = e.shape.turns; vars = e.shape.vars; stack = e.shape.stack };
-    }
+    drawn code l x b m c.store_number.new.m w c.args.left.now t u c.in-Number.number h e.stored hand (record { turns = e.shape.turns; vars = e.shape.vars; stack = e.shape.stack })
 
 pub returns-in-NeedBit : goal.returns-in-NeedBit
 returns-in-NeedBit c =
