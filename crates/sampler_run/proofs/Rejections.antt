@@ -4,15 +4,13 @@ use Rattle.std.specs.Prelude.{slice_get, if◌then◌else◌}
 use Rattle.std.proofs.lemmas.Nat.{mul-le, pow_pos, div-mul-add}
 use Rattle.std.proofs.Math.Arith.{mod-mul}
 use Rattle.std.proofs.Math.Nat.{div-div-eq-div-mul}
-use Rattle.gcl_core.specs.declared.answers.Limit.TheVariants.{Attempts}
 use Rattle.gcl_core.specs.declared.answers.Limits.{Limits}
-use Rattle.gcl_core.specs.declared.answers.Outcome.TheVariants as outcome
 use Rattle.gcl_core.specs.meaning.Syntax.{Expression}
 use Rattle.gcl_core.specs.meaning.Draw.{bit, bits_for}
 use Rattle.gcl_core.specs.meaning.Runs.{capped}
 use Rattle.zar_io.specs.FileBits.{low_bits}
 use Rattle.sampler_code.specs.Instruction.{Instruction, Range}
-use Rattle.sampler_code.specs.Machine.{Machine, below, goes, asks, ends, step, stored, narrowed, retry, draws_on}
+use Rattle.sampler_code.specs.Machine.{Machine, below, goes, asks, step, stored, narrowed, retry, draws_on}
 use Rattle.sampler_code.specs.inner.Bounded.{rest_of, Answered}
 use Rattle.sampler_run.specs.declared.machine.Pace.TheVariants as pace
 use Rattle.sampler_run.specs.declared.trials.Trial.{Trial}
@@ -151,11 +149,6 @@ module _ (code : List Instruction) (l : Limits) (x : ℕ) (e : Expression) (b : 
       )
 
   -- ---- single steps
-
-  retry_ends : (m : Machine) (t : ℕ) → t ≤ 1 → retry m b t ≡ ends (outcome.Limit Attempts)
-  retry_ends m zero le = refl
-  retry_ends m (suc zero) le = refl
-  retry_ends m (suc (suc t)) le = absurd (omega arith)
 
   -- one that has failed, and the next
   pub trial_retries : (m : Machine) (t u : Trial) (word : ℕ) → slice_get code m.index ≡ Some (Range x e) → Answered code l (at_trial m b t) → b ≤ t.low * 2 ^ t.need → 1 < t.tries → t.used < 2 ^ 64 →

@@ -1,7 +1,8 @@
 -- Runs on the bits of a word.
-use Rattle.std.proofs.Common.{◌≡◌, ℕ, zero, suc, ◌+◌, ◌*◌, ◌^◌, ◌/◌, ◌%◌, ◌-◌, ◌≢◌, ◌<◌, ◌≤◌, ◌==◌, Bool, List, [], ◌∷◌, ◌++◌, length, Option, refl, sym, ap, ◌∙◌, subst, arith, length-append, inl, inr}
+use Rattle.std.proofs.Common.{◌≡◌, ℕ, zero, suc, ◌+◌, ◌*◌, ◌^◌, ◌/◌, ◌%◌, ◌-◌, ◌≢◌, ◌<◌, ◌≤◌, ◌==◌, Bool, true, false, List, [], ◌∷◌, ◌++◌, length, Option, refl, sym, ap, ◌∙◌, subst, arith, length-append, inl, inr}
 use Rattle.gcl_core.specs.declared.answers.Limits.{Limits}
 use Rattle.gcl_core.specs.declared.answers.Outcome.{Outcome}
+use Rattle.gcl_core.specs.meaning.Draw.{bit}
 use Rattle.zar_io.specs.FileBits.{low_bits}
 use Rattle.sampler_code.specs.Instruction.{Instruction}
 use Rattle.sampler_code.specs.Machine.{Machine, Next, goes, asks, ends, stuck, step}
@@ -13,10 +14,10 @@ use Rattle.sampler_run.specs.declared.machine.Pace.{Pace}
 use Rattle.sampler_run.specs.declared.machine.Pace.TheVariants as pace
 use Rattle.sampler_run.specs.Views.{machine_of}
 use Rattle.sampler_run.specs.inner.Ran.{MovedTo}
-use Rattle.sampler_run.specs.inner.Resting.{Asks, LedSilently, Rests}
+use Rattle.sampler_run.specs.inner.Resting.{Asks, Led, Rests}
 use Rattle.sampler_run.specs.inner.Taken.{NeedsMore, Takes, LedBy}
 use Rattle.sampler_run.specs.inner.Going.{silent_after, silent, steps_left, to_go}
-use Rattle.sampler_run.proofs.Settle.{falls, step_same, bit_same, answered_as, answered_bit}
+use Rattle.sampler_run.proofs.Settle.{falls, step_same, bit_same}
 use Rattle.sampler_run.proofs.Standing.{at_rest}
 use Rattle.sampler_run.specs.declared.machine.Progress.{Progress}
 use Rattle.sampler_run.specs.inner.Coming.{deepest}
@@ -67,10 +68,6 @@ module _ (code : List Instruction) (l : Limits) where
   on_takes run m n old before after h (inr e) t =
       takes_more run (rest_of code l m) (rest_of code l n) e.0 old before after t e.3 (needs_rest code l m h e.1) (bit_same code l m n e.0 h e.1 e.2)
 
-  pub on_answered : (m n : Machine) (before after : List Bool) → Answered code l m → LedBy (step code l m) m n pace.On before after → Answered code l n
-  on_answered m n before after h (inl e) = answered_as code l m n h (step_same code l m n h e.0)
-  on_answered m n before after h (inr e) = answered_bit code l m n e.0 h (bit_same code l m n e.0 h e.1 e.2)
-
   pub on_less : (m n : Machine) (w j k : ℕ) → Answered code l m → LedBy (step code l m) m n pace.On (low_bits j w) (low_bits k w) →
       to_go code l k n < to_go code l j m
   unfolding steps_left
@@ -110,7 +107,7 @@ taken_answered code l m n old new h t v = ((h (t.taken ++ v)).0, t.same v ∙ (h
 
 -- ---- what one instruction came to
 
-pub silently : (x : Next) (old new : Machine) (p : Pace) (bits : List Bool) → LedSilently x old new p → LedBy x old new p bits bits
+pub silently : (x : Next) (old new : Machine) (p : Pace) (bits : List Bool) → Led x old new p → LedBy x old new p bits bits
 silently x old new pace.On bits e = inl (e, refl)
 silently x old new pace.NeedBit bits e = absurd e
 silently x old new (pace.Ended o) bits e = (e.0, e.1, refl)
@@ -131,6 +128,18 @@ module _ (code : List Instruction) (l : Limits) (old new : Registers) (w j k : �
   moved_to pace.NeedBit h e = (rests_need code l (machine_of old) (machine_of new) e.1 e.0, no_bits j k w e.2 e.3)
   moved_to (pace.Ended o) h e = rests_end code l (machine_of old) (machine_of new) o e.1 e.0
 
+-- the lowest bit of a number that is a bit
+pub bit_of_word : (b : Bool) → low_bits 1 (bit b) ≡ b ∷ []
+unfolding low_bits
+bit_of_word true = refl
+bit_of_word false = refl
+
+-- ---- of no bit none is taken
+
+pub none_of_none : (u r : List Bool) → [] ≡ u ++ r → u ≡ []
+none_of_none [] r e = refl
+none_of_none (c ∷ u) r e = absurd (cc)
+
 -- ---- at least one bit is taken of some bits, where the run needs one
 
 module _ (code : List Instruction) (l : Limits) (m n : Machine) (p : Progress) (left : ℕ) where
@@ -142,7 +151,7 @@ module _ (code : List Instruction) (l : Limits) (m n : Machine) (p : Progress) (
       let told = at_rest code l (most_steps code l) p n a.0 rests (same [] ∙ a.1) in
       used_up (told.stands ∙ sym there.stands)
 
-  some_taken : (count word : ℕ) → 0 < count → Answered code l m → Asks (step code l m) → Rests (step code l n) p → (p ≡ progress.NeedBit → left ≡ 0) →
+  pub some_taken : (count word : ℕ) → 0 < count → Answered code l m → Asks (step code l m) → Rests (step code l n) p → (p ≡ progress.NeedBit → left ≡ 0) →
       (t : Takes (rest_of code l m) (rest_of code l n) (low_bits count word) (low_bits left word)) → (u : List Bool) → t.taken ≡ u → 0 < length u
   some_taken count word some h need rests used_up t [] e =
       let none = none_taken h need rests used_up (λ v. t.same v ∙ ap (λ u. rest_of code l m (u ++ v)) e) in
@@ -155,3 +164,9 @@ module _ (code : List Instruction) (l : Limits) (m n : Machine) (p : Progress) (
       deepest (most_steps code l) (rest_of code l n) < deepest (most_steps code l) (rest_of code l m)
   fewer_word count word some h need rests used_up t =
       fewer_taken code l m n t.taken (some_taken count word some h need rests used_up t t.taken refl) t.needed t.same
+
+-- and of one bit that one
+pub one_of_one : (u r : List Bool) (b : Bool) → b ∷ [] ≡ u ++ r → 0 < length u → u ≡ b ∷ []
+one_of_one [] r b e some = absurd (omega arith)
+one_of_one (c ∷ []) r b e some = cc
+one_of_one (c ∷ (d ∷ u)) r b e some = absurd (cc)
