@@ -1,5 +1,5 @@
 -- What the forms of a formula stand for.
-use Rattle.std.proofs.Common.{◌≡◌, ℕ, ◌+◌, max, List, [], ◌∷◌, ◌++◌, Option, None, Some, ℤ, w64, to_z, of_z, refl, sym, ap, ◌∙◌, subst}
+use Rattle.std.proofs.Common.{arith, ◌<◌, ◌≡◌, ℕ, ◌+◌, max, List, [], ◌∷◌, ◌++◌, Option, None, Some, ℤ, w64, to_z, of_z, refl, sym, ap, ◌∙◌, subst}
 use Rattle.std.proofs.lemmas.Option.{same_Some}
 use Rattle.gcl_core.specs.declared.syntax.BinOp.{BinOp}
 use Rattle.gcl_core.specs.declared.syntax.BinOp.TheVariants.{And, Or}
@@ -96,6 +96,15 @@ term_in (form.Var x) = Some (One (Var x))
 term_in (On op x a) = Some (on op x a)
 term_in (Joined op t u) = None
 term_in (Long steps n) = None
+
+-- some value is on the stack at some time
+pub deep : (e : Expression) → 0 < depth e
+deep (source.Num z) = omega arith
+deep (source.Truth b) = omega arith
+deep (source.Var x) = omega arith
+deep (source.Neg a) = deep a
+deep (source.Not a) = deep a
+deep (source.Bin op a b) = let some = deep a in omega (arith, some)
 
 abbrev form_depth : Form → ℕ
 form_depth (form.Num n) = 1

@@ -1,5 +1,6 @@
 -- Short forms as steps, and values in slots as a stack.
-use Rattle.std.specs.Prelude.{◌≡◌, ℕ, zero, suc, ◌<◌, ℤ, pos, List, [], ◌∷◌, ◌++◌, Ok, IsTrue, slice_index_or}
+use Rattle.std.specs.Prelude.{◌≡◌, ℕ, zero, suc, ◌<◌, ℤ, pos, List, [], ◌∷◌, ◌++◌, Result, Ok, Err, IsTrue, slice_index_or}
+use Rattle.gcl_core.specs.declared.answers.Fault.{Fault}
 use Rattle.gcl_core.specs.declared.syntax.BinOp.{BinOp}
 use Rattle.gcl_core.specs.declared.syntax.Expr.{Expr}
 use Rattle.gcl_core.specs.meaning.Views.{expression_of}
@@ -109,3 +110,8 @@ stacked items = stack_on expression_of items []
 
 abbrev pub waiting : List BinOp → List BinOp
 waiting items = stack_on (λ op. op) items []
+
+-- a value that is left in the first slot, or its fault
+abbrev pub Leaves : Result (Unit {0}) Fault → List ℤ → Value → Type 0
+Leaves (Ok u) slots v = Ok (slice_index_or slots 0 (pos 0)) ≡ v
+Leaves (Err fault) slots v = Err fault ≡ v

@@ -5,7 +5,7 @@ ghost use Rattle.gcl_core.specs.meaning.Value.{fits_64, value_of, ExpressionBelo
 ghost use Rattle.formula.specs.Steps.{steps_of, depth};
 ghost use Rattle.formula.specs.ReadBack.{expression_in};
 ghost use Rattle.formula.specs.inner.OnStack.{move, CameTo, Goes};
-ghost use Rattle.formula.specs.Forms.{atom_value, AtomReads, values};
+ghost use Rattle.formula.specs.Forms.{atom_value, AtomReads, values, Leaves};
 ghost use Rattle.gcl_core.specs.meaning.Syntax.{Expression};
 
 use crate::op::{Atom, Op};
@@ -128,9 +128,11 @@ fn take(
 }
 
 // The value of the expression that the steps stand for.
-pub(crate) fn value(steps: &[Op], vars: &[i64], slots: &mut [i64]) -> Result<i64, Fault>
+#[inline(always)]
+fn run(steps: &[Op], vars: &[i64], slots: &mut [i64]) -> Result<i64, Fault>
     requires stands { (e : Expression) × (steps.now ≡ steps_of e) × ExpressionBelow e (length vars.now) × (depth e ≤ length slots.old) }
     ensures value { result ≡ value_of (expression_in steps.now) vars.now }
+    ensures small { IfOk result (λ v. IsTrue (fits_64 v)) }
     ensures room { length slots.new ≡ length slots.old }
 {
     let mut at = 0;
@@ -144,4 +146,30 @@ pub(crate) fn value(steps: &[Op], vars: &[i64], slots: &mut [i64]) -> Result<i64
         held = p.held;
     }
     Ok(top)
+}
+
+// The same, left in the first slot, so that the answer of the call needs no memory.
+#[inline(never)]
+fn leave_value(steps: &[Op], vars: &[i64], slots: &mut [i64]) -> Result<(), Fault>
+    requires stands { (e : Expression) × (steps.now ≡ steps_of e) × ExpressionBelow e (length vars.now) × (depth e ≤ length slots.old) }
+    requires room { 0 < length slots.old }
+    ensures value { Leaves result slots.new (value_of (expression_in steps.now) vars.now) }
+    ensures room { length slots.new ≡ length slots.old }
+{
+    slots[0] = run(steps, vars, slots)?;
+    Ok(())
+}
+
+// The same.
+#[inline(always)]
+pub(crate) fn value(steps: &[Op], vars: &[i64], slots: &mut [i64]) -> Result<i64, Fault>
+    requires stands { (e : Expression) × (steps.now ≡ steps_of e) × ExpressionBelow e (length vars.now) × (depth e ≤ length slots.old) }
+    requires room { 0 < length slots.old }
+    ensures value { result ≡ value_of (expression_in steps.now) vars.now }
+    ensures room { length slots.new ≡ length slots.old }
+{
+    match leave_value(steps, vars, slots) {
+        Ok(()) => Ok(slots[0]),
+        Err(fault) => Err(fault),
+    }
 }

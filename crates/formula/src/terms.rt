@@ -3,7 +3,7 @@
 ghost use Rattle.std.specs.Prelude.{◌≡◌, ◌<◌, length, Some, slice_get, IfOk, IsTrue};
 ghost use Rattle.gcl_core.specs.meaning.Value.{fits_64};
 ghost use Rattle.gcl_core.specs.meaning.Views.{expression_of};
-ghost use Rattle.formula.specs.Forms.{term_steps, term_expression, term_depth, term_value, TermReads, joined_steps, joined_value, on};
+ghost use Rattle.formula.specs.Forms.{term_steps, term_expression, term_depth, term_value, TermReads, joined_steps, joined_value, on, Leaves};
 
 use crate::op::{Atom, Op, Term};
 use crate::reading::{atom, step_of};
@@ -96,14 +96,38 @@ pub(crate) fn value_of_term(t: &Term, vars: &[i64]) -> Result<i64, Fault>
     }
 }
 
-// The value of one operator on two terms, or the first fault.
+// The value of one operator on two terms, left in the first slot; or the first fault. So the answer of the call needs no memory.
 #[inline(never)]
-pub(crate) fn value_of_joined(op: BinOp, t: &Term, u: &Term, vars: &[i64]) -> Result<i64, Fault>
+fn leave_joined(op: BinOp, t: &Term, u: &Term, vars: &[i64], slots: &mut [i64]) -> Result<(), Fault>
     requires left { TermReads t.now (length vars.now) }
     requires right { TermReads u.now (length vars.now) }
-    ensures { result ≡ joined_value op t.now u.now vars.now }
+    requires room { 0 < length slots.old }
+    ensures value { Leaves result slots.new (joined_value op t.now u.now vars.now) }
+    ensures room { length slots.new ≡ length slots.old }
 {
     let x = value_of_term(t, vars)?;
     let y = value_of_term(u, vars)?;
-    op.apply(x, y)
+    slots[0] = op.apply(x, y)?;
+    Ok(())
+}
+
+// The value of one operator on two terms, or the first fault.
+#[inline(always)]
+pub(crate) fn value_of_joined(
+    op: BinOp,
+    t: &Term,
+    u: &Term,
+    vars: &[i64],
+    slots: &mut [i64],
+) -> Result<i64, Fault>
+    requires left { TermReads t.now (length vars.now) }
+    requires right { TermReads u.now (length vars.now) }
+    requires room { 0 < length slots.old }
+    ensures value { result ≡ joined_value op t.now u.now vars.now }
+    ensures room { length slots.new ≡ length slots.old }
+{
+    match leave_joined(op, t, u, vars, slots) {
+        Ok(()) => Ok(slots[0]),
+        Err(fault) => Err(fault),
+    }
 }

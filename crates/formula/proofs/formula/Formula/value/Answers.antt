@@ -1,11 +1,11 @@
-use Rattle.std.proofs.Common.{◌≤◌, ◌∙◌, Ok, length, ap, sym, subst}
+use Rattle.std.proofs.Common.{◌≤◌, ◌∙◌, Ok, length, ap, sym, subst, arith}
 use Rattle.gcl_core.specs.meaning.Value.{ExpressionBelow}
 use Rattle.formula.specs.Steps.{depth}
 use Rattle.formula.specs.ReadBack.{expression_in}
 use Rattle.formula.specs.declared.op.Atom.TheVariants.{Num, Var}
 use Rattle.formula.specs.declared.op.Term.TheVariants.{One}
 use Rattle.formula.specs.Forms.{on, term_value, TermReads, FormOf}
-use Rattle.formula.proofs.Shapes.{term_in, num_back, short_reads, short_value, joined_reads, joined_value_in, stands}
+use Rattle.formula.proofs.Shapes.{deep, term_in, num_back, short_reads, short_value, joined_reads, joined_value_in, stands}
 use Rattle.formula.proofs.Slots.{small_back}
 use Rattle.formula.proofs.formula.Formula.value.Goals as goal
 
@@ -22,20 +22,29 @@ value_of_joined-requires-clause-left c = (joined_reads c.self.inside.form c.self
 pub value_of_joined-requires-clause-right : goal.value_of_joined-requires-clause-right
 value_of_joined-requires-clause-right c = (joined_reads c.self.inside.form c.self.invariant.tree c.self.invariant.form c.args.self.now c.self.view_is c.in-Joined.op c.in-Joined.t c.in-Joined.u (length c.args.vars.now) c.in-Joined.is c.requires.reads).1
 
+pub value_of_joined-requires-clause-room : goal.value_of_joined-requires-clause-room
+value_of_joined-requires-clause-room c =
+    let some = deep (expression_in c.args.self.now) in
+    let room = subst (λ n. depth (expression_in c.args.self.now) ≤ n) (sym c.stack.view_is ∙ ap length (sym c.deref_mut.ensures.value)) c.requires.room in
+    omega (arith, some, room)
+
 pub value-requires : goal.value-requires
 value-requires c =
+    let some = deep (expression_in c.args.self.now) in
     let s = stands c.self.inside.form c.self.invariant.tree c.self.invariant.form c.args.self.now c.self.view_is in
     let h = subst (λ f. FormOf f c.self.invariant.tree) c.in-Long.is c.self.invariant.form in
     let d = c.deref.ensures in
-    let m = c.deref_mut.ensures in
+    let m = c.deref_mut-in-Long.ensures in
     let r = c.requires.room in
     let v = c.stack.view_is in
+    let room = subst (λ n. depth (expression_in c.args.self.now) ≤ n) (sym v ∙ ap length (sym m.value)) r in
     record {
+      room = omega (arith, some, room);
       stands = (
         c.self.invariant.tree,
         d.value ∙ h.0,
         subst (λ e. ExpressionBelow e (length c.args.vars.now)) s c.requires.reads,
-        subst (λ e. depth e ≤ length c.deref_mut.result.now) s (subst (λ n. depth (expression_in c.args.self.now) ≤ n) (sym v ∙ ap length (sym m.value)) r),
+        subst (λ e. depth e ≤ length c.deref_mut-in-Long.result.now) s (subst (λ n. depth (expression_in c.args.self.now) ≤ n) (sym v ∙ ap length (sym m.value)) r),
       );
     }
 
@@ -52,4 +61,4 @@ returns-in-On-clause-value c =
 
 pub returns-in-Joined-clause-value : goal.returns-in-Joined-clause-value
 returns-in-Joined-clause-value c =
-    c.value_of_joined.ensures ∙ joined_value_in c.self.inside.form c.self.invariant.tree c.self.invariant.form c.args.self.now c.self.view_is c.in-Joined.op c.in-Joined.t c.in-Joined.u c.args.vars.now c.in-Joined.is
+    c.value_of_joined.ensures.value ∙ joined_value_in c.self.inside.form c.self.invariant.tree c.self.invariant.form c.args.self.now c.self.view_is c.in-Joined.op c.in-Joined.t c.in-Joined.u c.args.vars.now c.in-Joined.is

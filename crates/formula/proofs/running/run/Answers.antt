@@ -7,7 +7,7 @@ use Rattle.formula.proofs.OneStep.{run_goes, run_next, run_fails, run_ends}
 use Rattle.formula.proofs.Runs.{runs_whole}
 use Rattle.formula.proofs.Slots.{small_back}
 use Rattle.formula.proofs.ReadingBack.{stands_as}
-use Rattle.formula.proofs.running.value.Goals as goal
+use Rattle.formula.proofs.running.run.Goals as goal
 
 pub loop-at-init : goal.loop-at-init
 loop-at-init c =
