@@ -160,7 +160,7 @@ fn leave_value(steps: &[Op], vars: &[i64], slots: &mut [i64]) -> Result<(), Faul
     Ok(())
 }
 
-// The same.
+// The same, read back from there.
 #[inline(always)]
 pub(crate) fn value(steps: &[Op], vars: &[i64], slots: &mut [i64]) -> Result<i64, Fault>
     requires stands { (e : Expression) × (steps.now ≡ steps_of e) × ExpressionBelow e (length vars.now) × (depth e ≤ length slots.old) }

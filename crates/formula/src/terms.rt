@@ -111,7 +111,7 @@ fn leave_joined(op: BinOp, t: &Term, u: &Term, vars: &[i64], slots: &mut [i64]) 
     Ok(())
 }
 
-// The value of one operator on two terms, or the first fault.
+// The same, read back from there.
 #[inline(always)]
 pub(crate) fn value_of_joined(
     op: BinOp,

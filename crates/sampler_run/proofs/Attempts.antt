@@ -1,5 +1,5 @@
--- An attempt below a bound that succeeds, on all the bits that it still needs at once.
-use Rattle.std.proofs.Common.{◌≡◌, ℕ, zero, suc, ◌+◌, ◌*◌, ◌^◌, ◌/◌, ◌%◌, ◌-◌, ◌<◌, ◌≤◌, ◌==◌, pos, Bool, true, false, List, ◌∷◌, ◌++◌, Some, refl, sym, ap, ◌∙◌, subst, arith, lt-ltb, pow-add}
+-- The steps of an attempt below a bound, and the bits that it reads.
+use Rattle.std.proofs.Common.{◌≡◌, ℕ, zero, suc, ◌+◌, ◌*◌, ◌^◌, ◌/◌, ◌%◌, ◌-◌, ◌<◌, ◌≤◌, ◌==◌, pos, Bool, true, false, List, ◌∷◌, ◌++◌, Some, refl, sym, ap, ◌∙◌, arith, lt-ltb, pow-add}
 use Rattle.std.specs.Prelude.{slice_get, if◌then◌else◌}
 use Rattle.std.proofs.lemmas.Nat.{mul-le, pow_pos}
 use Rattle.std.proofs.Math.Arith.{mod-mul}
@@ -11,13 +11,10 @@ use Rattle.gcl_core.specs.meaning.Runs.{capped}
 use Rattle.zar_io.specs.FileBits.{low_bits}
 use Rattle.sampler_code.specs.Instruction.{Instruction, Range}
 use Rattle.sampler_code.specs.Machine.{Machine, below, goes, asks, act, step, stored, narrowed, retry, draws_on, ranges}
-use Rattle.sampler_code.specs.inner.Bounded.{most_steps, rest_of, Answered}
-use Rattle.sampler_run.specs.inner.Resting.{Asks, side}
+use Rattle.sampler_code.specs.inner.Bounded.{most_steps}
+use Rattle.sampler_run.specs.inner.Resting.{side}
 use Rattle.sampler_run.specs.inner.Going.{steps_left, to_go}
-use Rattle.sampler_run.specs.inner.Taken.{Takes}
-use Rattle.sampler_run.proofs.Settle.{step_same, bit_same, answered_bit}
-use Rattle.sampler_run.proofs.Takes.{takes_none, takes_more, takes_join}
-use Rattle.sampler_run.proofs.Words.{needs_rest, silent_most}
+use Rattle.sampler_run.proofs.Words.{silent_most}
 
 -- ---- numbers and their bits
 
@@ -65,10 +62,6 @@ used_capped (suc k) used lt = used_capped k (capped (used + 1)) (omega arith) �
 -- ---- the attempt
 
 module _ (code : List Instruction) (l : Limits) (x : ℕ) (e : Expression) (b : ℕ) where
-  -- what the variable is set to, behind the bits
-  abbrev pub drawn : Machine → ℕ → ℕ → Machine
-  drawn m k v = stored (record m { used = used_after k m.used }) x (pos v)
-
   pub step_draws : (m : Machine) (k low : ℕ) → slice_get code m.index ≡ Some (Range x e) → m.drawing ≡ below b k low → step code l m ≡ draws_on m x b k low
   step_draws m k low at is = ap (λ o. act l o m) at ∙ ap (λ d. ranges l x e m d) is
 
@@ -82,43 +75,6 @@ module _ (code : List Instruction) (l : Limits) (x : ℕ) (e : Expression) (b : 
   pub side_narrowed : (m : Machine) (k low : ℕ) (c : Bool) → side (asks (narrowed m b k (2 * low)) (narrowed m b k (2 * low + 1))) c m ≡ narrowed m b k (2 * low + bit c)
   side_narrowed m k low false = let e : 2 * low ≡ 2 * low + 0 = omega arith in ap (λ n. narrowed m b k n) e
   side_narrowed m k low true = refl
-
-  pub attempt_takes : (k n low : ℕ) (m : Machine) (w : List Bool) → slice_get code m.index ≡ Some (Range x e) → m.drawing ≡ below b k low → Answered code l m →
-      low * 2 ^ k + n % 2 ^ k < b → Takes (rest_of code l m) (rest_of code l (drawn m k (low * 2 ^ k + n % 2 ^ k))) (low_bits k n ++ w) w
-  unfolding low_bits
-  attempt_takes zero n low m w at is h lt =
-      let v : low * 2 ^ zero + n % 2 ^ zero ≡ low = omega arith in
-      let goes_on = step_draws m zero low at is ∙ stores m low (omega arith) in
-      subst (λ v. Takes (rest_of code l m) (rest_of code l (drawn m zero v)) w w) (sym v)
-      (takes_none (rest_of code l m) (rest_of code l (stored m x (pos low))) w (step_same code l m (stored m x (pos low)) h goes_on))
-  attempt_takes (suc k) n low m w at is h lt =
-      let c = n / 2 ^ k % 2 == 1 in
-      let more = step_draws m (suc k) low at is ∙ asks_more m k low (omega (arith, lt)) in
-      let need : Asks (step code l m) = subst Asks (sym more) tt in
-      let next = narrowed m b k (2 * low + bit c) in
-      let leads : next ≡ side (step code l m) c m = sym (side_narrowed m k low c) ∙ ap (λ s. side s c m) (sym more) in
-      let fed = bit_same code l m next c h need leads in
-      let v = spelled_more low k n in
-      let one = takes_more (rest_of code l m) (rest_of code l m) (rest_of code l next) c (c ∷ (low_bits k n ++ w)) (c ∷ (low_bits k n ++ w)) (low_bits k n ++ w)
-      (takes_none _ _ _ (λ v. refl)) refl (needs_rest code l m h need) fed in
-      let others = attempt_takes k n (2 * low + bit c) next w at refl (answered_bit code l m next c h fed) (subst (λ v. v < b) (sym v) lt) in
-      takes_join _ _ _ _ _ _ one (subst (λ v. Takes (rest_of code l next) (rest_of code l (drawn next k v)) (low_bits k n ++ w) w) v others)
-
-  -- on the first of the lowest `left` bits of a word
-  pub at_hand_takes : (k low word left : ℕ) (m n : Machine) (v : ℕ) → slice_get code m.index ≡ Some (Range x e) → m.drawing ≡ below b k low → Answered code l m →
-      (1 ≤ k) × (k ≤ left) × (v ≡ low * 2 ^ k + word / 2 ^ (left - k) % 2 ^ k) × (v < b) → m.used < 2 ^ 64 →
-      n ≡ stored (record m { used = capped (m.used + k) }) x (pos v) →
-      Takes (rest_of code l m) (rest_of code l n) (low_bits left word) (low_bits (left - k) word)
-  at_hand_takes k low word left m n v at is h hand used stores =
-      let rest = left - k in
-      let high = word / 2 ^ rest in
-      let all : left ≡ k + rest = omega (arith, hand.1) in
-      let bits : low_bits left word ≡ low_bits k high ++ low_bits rest word = ap (λ i. low_bits i word) all ∙ low_bits_split k rest word in
-      let there : drawn m k (low * 2 ^ k + high % 2 ^ k) ≡ n =
-      ap (λ v. drawn m k v) (sym hand.2) ∙ ap (λ (u : ℕ). stored (record m { used = u }) x (pos v)) (used_capped k m.used used) ∙ sym stores in
-      subst (λ n. Takes (rest_of code l m) (rest_of code l n) (low_bits left word) (low_bits rest word)) there
-      (subst (λ w. Takes (rest_of code l m) (rest_of code l (drawn m k (low * 2 ^ k + high % 2 ^ k))) w (low_bits rest word)) (sym bits)
-      (attempt_takes k high low m (low_bits rest word) at is h (subst (λ v. v < b) hand.2 hand.3)))
 
 module _ (code : List Instruction) (l : Limits) where
   pub at_hand_less : (m n : Machine) (left k : ℕ) → 1 ≤ k → k ≤ left → to_go code l (left - k) n < to_go code l left m

@@ -4,7 +4,7 @@ use Rattle.std.specs.Prelude.{bit_xor}
 use Rattle.std.specs.Int.Bits.{xor_self, xor_add_and}
 use Rattle.std.specs.Int.Count.{count_leading_zeros}
 use Rattle.std.proofs.lemmas.Bool.{cases_lt}
-use Rattle.std.proofs.lemmas.Nat.{leading_top, le-div, mul-le, pow_pos, xor_lt, xor_shr, and_le_l, and_le_r}
+use Rattle.std.proofs.lemmas.Nat.{leading_top, le-div, mul-le, pow_pos, xor_shr, and_le_l, and_le_r}
 use Rattle.std.proofs.Math.Nat.{div-eq_of_lt, div-mul-le_self, lt-div-mul-add, pow-le-pow_right}
 
 -- the place of that bit
@@ -22,7 +22,7 @@ some_differs a b lt =
     (λ (none : bit_xor a b ≤ 0). let e = alike a b (omega (arith, none)) in absurd (omega (arith, e)))
     (cases_lt 0 (bit_xor a b))
 
-power_le : (j k : ℕ) → j ≤ k → 2 ^ j ≤ 2 ^ k
+pub power_le : (j k : ℕ) → j ≤ k → 2 ^ j ≤ 2 ^ k
 power_le j k le = let two : 0 < 2 = omega arith in pow-le-pow_right {n = 2} two le
 
 place_below : (x j need : ℕ) → 2 ^ j ≤ x → x < 2 ^ need → j < need
@@ -74,12 +74,24 @@ at_place bound number need zeros j some place few differ =
     let e : j ≡ 63 - zeros = omega (arith, place) in
     subst (IsFirstAbove bound number need) e (record { left = few; above = above_there bound number j some differ.there; below = below_before bound number j some differ.before })
 
+-- the bits before the last `need` are those of the bound less one
+before_alike : (bound number need : ℕ) → 0 < bound → bound ≤ number → number / 2 ^ need * 2 ^ need < bound → number / 2 ^ need ≡ (bound - 1) / 2 ^ need
+before_alike bound number need some over before =
+    let order = in_order number (bound - 1) need (omega (arith, some, over)) in
+    let part = le-div (number / 2 ^ need) (bound - 1) (2 ^ need) (pow_pos need) (omega (arith, before)) in
+    omega (arith, order, part)
+
 -- found by the leading zeros of where they differ
-pub by_zeros : (bound number need : ℕ) → 0 < bound → bound ≤ number → number < 2 ^ need → need < 64
+pub by_zeros : (bound number need : ℕ) → bound ≤ number → number / 2 ^ need * 2 ^ need < bound → need < 64
     → (count_leading_zeros 64 (bit_xor number (bound - 1)) ≤ 63) × IsFirstAbove bound number need (63 - count_leading_zeros 64 (bit_xor number (bound - 1)))
-by_zeros bound number need some over small few =
+by_zeros bound number need over before few =
     let x = bit_xor number (bound - 1) in
-    let fits : x < 2 ^ need = xor_lt need number (bound - 1) small (omega arith) in
+    let some : 0 < bound = omega (arith, before) in
+    let alike_before = before_alike bound number need some over before in
+    let none : x / 2 ^ need ≡ 0 = xor_shr number (bound - 1) need ∙ ap (λ n. bit_xor n ((bound - 1) / 2 ^ need)) alike_before ∙ xor_self ((bound - 1) / 2 ^ need) in
+    let next = lt-div-mul-add {a = x} (pow_pos need) in
+    let zero_part : x / 2 ^ need * 2 ^ need ≡ 0 = ap (λ q. q * 2 ^ need) none ∙ (omega arith) in
+    let fits : x < 2 ^ need = omega (arith, next, zero_part) in
     let width = power_le need 64 (omega arith) in
     let top = leading_top 64 x (some_differs number (bound - 1) (omega arith)) (omega (arith, fits, width)) in
     (omega (arith, top.1), at_place bound number need _ top.0 some top.1 (place_below x top.0 need top.2 fits) (differ_at number (bound - 1) top.0 (omega arith) top.2 top.3))

@@ -1,6 +1,6 @@
 -- A draw below a bound, from registers to registers.
 use Rattle.std.proofs.Common.{◌≡◌, ℕ, ◌<◌, ◌≤◌, pos, List, length, refl, sym, ap, ◌∙◌, subst, arith}
-use Rattle.std.specs.Prelude.{◌^◌, slice_get, Option, Some, None, MatchOption}
+use Rattle.std.specs.Prelude.{◌^◌, slice_get, Some}
 use Rattle.gcl_core.specs.declared.answers.Fault.TheVariants.{BadBound}
 use Rattle.gcl_core.specs.declared.answers.Limits.{Limits}
 use Rattle.gcl_core.specs.declared.answers.Outcome.{Outcome}
@@ -21,15 +21,14 @@ use Rattle.sampler_run.specs.declared.machine.Registers.{Registers}
 use Rattle.sampler_run.specs.declared.trials.Came.TheVariants as came
 use Rattle.sampler_run.specs.declared.trials.Trial.{Trial}
 use Rattle.sampler_run.specs.Views.{drawing_of, machine_of}
-use Rattle.sampler_run.specs.inner.Going.{to_go}
 use Rattle.sampler_run.specs.declared.machine.Pace.{Pace}
 use Rattle.sampler_run.specs.declared.machine.Pace.TheVariants as pace
 use Rattle.sampler_run.specs.inner.Ran.{CanRun, HasMoved, MovedTo}
 use Rattle.sampler_run.specs.inner.Shape.{SameShape}
 use Rattle.sampler_run.specs.inner.Taken.{Takes}
-use Rattle.sampler_run.specs.inner.Tried.{at_trial, trial_of, HasTried, HasTriedAtOnce, HasBegun, Went}
-use Rattle.sampler_run.proofs.Rejections.{step_went, went_answered, went_join}
-use Rattle.sampler_run.proofs.Shapes.{shape_join}
+use Rattle.sampler_run.specs.inner.Tried.{at_trial, trial_of, CameTo, HasTried, HasBegun, Went}
+use Rattle.sampler_run.proofs.Settle.{falls, step_same}
+use Rattle.sampler_run.proofs.Trying.{step_went, trial_stores, went_answered, went_join}
 use Rattle.sampler_run.proofs.Takes.{takes_none, takes_join}
 
 -- ---- registers that stand for the same machine
@@ -79,64 +78,33 @@ begun_pending code l m a word left is =
 
 -- ---- from there on
 
-module _ (code : List Instruction) (l : Limits) (x b : ℕ) (m : Machine) (word left : ℕ) (t u : Trial) (h : HasBegun code l m word left b t) where
-  join_takes : (n : Machine) → Takes (rest_of code l (at_trial m b t)) (rest_of code l n) (low_bits t.left word) (low_bits u.left word) →
-      Takes (rest_of code l m) (rest_of code l n) (low_bits left word) (low_bits u.left word)
-  join_takes n tried = takes_join _ _ _ _ _ _ h.went.takes tried
+module _ (code : List Instruction) (l : Limits) (x : ℕ) (e : Expression) (b : ℕ) (old new : Registers) (word left : ℕ) (t u : Trial) (at : slice_get code (machine_of old).index ≡ Some (Range x e))
+    (a : Answered code l (machine_of old)) (h : HasBegun code l (machine_of old) word left b t) (tried : HasTried b word t u) (shape : SameShape old new) where
+  begun_went : Went code l (machine_of old) (at_trial (machine_of old) b u) word left u.left
+  begun_went =
+      let m = machine_of old in
+      let there = went_answered code l m (at_trial m b t) word left t.left a h.went in
+      went_join code l m (at_trial m b t) (at_trial m b u) word left t.left u.left h.went (tried code l x e m at there)
 
-  number_takes : (n : Machine) (v : ℕ) → n ≡ stored (at_trial m b u) x (pos v) → HasTried code l x b m word t u (came.Number v) →
-      Takes (rest_of code l m) (rest_of code l n) (low_bits left word) (low_bits u.left word)
-  number_takes n v is tried = join_takes n (subst (λ n. Takes (rest_of code l (at_trial m b t)) (rest_of code l n) (low_bits t.left word) (low_bits u.left word)) (sym is) tried.0)
+  -- to a number that is drawn and stored
+  pub drawn : (v : ℕ) → CameTo b u (came.Number v) → machine_of new ≡ stored (at_trial (machine_of old) b u) x (pos v) → HasMoved code l old new word left u.left pace.On
+  drawn v came is =
+      let m = machine_of old in
+      let n = at_trial m b u in
+      let w = begun_went in
+      let there = went_answered code l m n word left u.left a w in
+      let goes_on : step code l n ≡ goes (machine_of new) =
+      trial_stores code l x e b m u at came.0 (subst (λ v. v < b) (sym came.1) came.2) ∙ ap (λ v. goes (stored n x (pos v))) came.1 ∙ ap goes (sym is) in
+      record {
+        takes = takes_join _ _ _ _ _ _ w.takes (takes_none _ _ _ (step_same code l n (machine_of new) there goes_on));
+        moved = let less = w.less in let f = falls code l n (machine_of new) there goes_on in omega (arith, less, f);
+        shape = shape;
+      }
 
-  number_less : (n : Machine) (v : ℕ) → n ≡ stored (at_trial m b u) x (pos v) → HasTried code l x b m word t u (came.Number v) → to_go code l u.left n < to_go code l left m
-  number_less n v is tried =
-      let less = h.went.less in
-      let fewer = subst (λ n. to_go code l u.left n < to_go code l t.left (at_trial m b t)) (sym is) tried.1 in
-      omega (arith, less, fewer)
-
-  pub need_takes : HasTried code l x b m word t u came.NeedBit → Takes (rest_of code l m) (rest_of code l (at_trial m b u)) (low_bits left word) (low_bits u.left word)
-  need_takes tried = join_takes (at_trial m b u) tried.0
-
-  pub out_takes : HasTried code l x b m word t u came.TriedOut → Takes (rest_of code l m) (rest_of code l (at_trial m b u)) (low_bits left word) (low_bits u.left word)
-  out_takes tried = join_takes (at_trial m b u) tried.0
-
-  pub begun_answered : Answered code l m → Answered code l (at_trial m b t)
-  begun_answered a = went_answered code l m (at_trial m b t) word left t.left a h.went
-
-  -- it goes on at a later attempt
-  pub begun_later : (number : Option ℕ) → number ≡ None → HasTriedAtOnce code l x b m word t u number → MatchOption number (u.need < 64) (λ n. n < b) → u.left ≤ t.left →
-      HasBegun code l m word left b u
-  begun_later number none tried small fewer = record {
-    went = went_join code l m (at_trial m b t) (at_trial m b u) word left t.left u.left h.went (subst (λ o. HasTriedAtOnce code l x b m word t u o) none tried);
-    bound = h.bound;
-    need = subst (λ o. MatchOption o (u.need < 64) (λ n. n < b)) none small;
-    within = let within = h.within in omega (arith, within, fewer);
-  }
-
--- a number that is drawn and stored
-pub drawn : (code : List Instruction) (l : Limits) (x b : ℕ) (old new : Registers) (word left : ℕ) (t u : Trial) (v : ℕ) → HasBegun code l (machine_of old) word left b t →
-    machine_of new ≡ stored (at_trial (machine_of old) b u) x (pos v) → HasTried code l x b (machine_of old) word t u (came.Number v) → SameShape old new →
-    HasMoved code l old new word left u.left pace.On
-drawn code l x b old new word left t u v h is tried shape = record {
-  takes = number_takes code l x b (machine_of old) word left t u h (machine_of new) v is tried;
-  moved = number_less code l x b (machine_of old) word left t u h (machine_of new) v is tried;
-  shape = shape;
-}
-
--- a draw that goes on from its first attempt
-module _ (code : List Instruction) (l : Limits) (old mid new : Registers) (word left b after : ℕ) (t : Trial) (h : HasBegun code l (machine_of old) word left b t)
-    (here : machine_of mid ≡ at_trial (machine_of old) b t) where
-  moved_on : (p : Pace) → MovedTo code l mid new t.left after p → MovedTo code l old new left after p
-  moved_on pace.On moved =
-      let less = h.went.less in
-      let fewer = subst (λ n. to_go code l after (machine_of new) < to_go code l t.left n) here moved in
-      omega (arith, less, fewer)
-  moved_on pace.NeedBit moved = moved
-  moved_on (pace.Ended o) moved = moved
-
-  pub begun_moved : (p : Pace) → SameShape old mid → HasMoved code l mid new word t.left after p → HasMoved code l old new word left after p
-  begun_moved p shape moved = record {
-    takes = takes_join _ _ _ _ _ _ h.went.takes (subst (λ n. Takes (rest_of code l n) (rest_of code l (machine_of new)) (low_bits t.left word) (low_bits after word)) here moved.takes);
-    moved = moved_on p moved.moved;
-    shape = shape_join _ _ _ shape moved.shape;
+  -- to rest
+  pub rests : (p : Pace) → machine_of new ≡ at_trial (machine_of old) b u → MovedTo code l old new left u.left p → HasMoved code l old new word left u.left p
+  rests p is moved = record {
+    takes = subst (λ n. Takes (rest_of code l (machine_of old)) (rest_of code l n) (low_bits left word) (low_bits u.left word)) (sym is) begun_went.takes;
+    moved = moved;
+    shape = shape;
   }

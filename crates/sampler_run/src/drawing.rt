@@ -19,13 +19,3 @@ pub enum Drawing {
     Idle,
     Below(Attempt),
 }
-
-// What a draw that is under way came to.
-#[derive(Clone, Copy)]
-pub enum Drawn {
-    // A number is drawn, and stored.
-    Stored,
-    NeedBit,
-    // No attempt is left.
-    TriedOut,
-}

@@ -1,17 +1,13 @@
 // Attempts of a draw below a bound, on the bits at hand and over plain values.
 
-ghost use Rattle.std.specs.Prelude.{◌≡◌, ℕ, ◌+◌, ◌-◌, ◌*◌, ◌/◌, ◌%◌, ◌^◌, ◌<◌, ◌≤◌, List, slice_get, Some, IfSome, MatchOption};
-ghost use Rattle.gcl_core.specs.meaning.Draw.{bits_for, bit as bit_of};
+ghost use Rattle.std.specs.Prelude.{◌≡◌, ◌+◌, ◌-◌, ◌*◌, ◌/◌, ◌%◌, ◌^◌, ◌<◌, ◌≤◌};
+ghost use Rattle.gcl_core.specs.meaning.Draw.{bits_for};
 ghost use Rattle.gcl_core.specs.meaning.Runs.{capped};
-ghost use Rattle.gcl_core.specs.meaning.Syntax.{Expression};
-ghost use Rattle.sampler_code.specs.Instruction.{Instruction, Range};
-ghost use Rattle.sampler_code.specs.Machine.{Machine};
-ghost use Rattle.sampler_code.specs.inner.Bounded.{Answered};
-ghost use Rattle.sampler_run.specs.inner.Tried.{at_trial, Draws, HasTried, HasTriedAtOnce, IsSmallTrial};
+ghost use Rattle.sampler_run.specs.declared.trials.Came.TheVariants.{Failed};
+ghost use Rattle.sampler_run.specs.inner.Tried.{low_at, CameTo, HasTried};
 
 use crate::machine::is_below;
 use draw_tree::bits_for;
-use gcl_core::Limits;
 
 // An attempt: how many more bits it needs, and the number that those read so far spell. With it the attempts that are left, the bits
 // that were read, and how many bits of a word are left.
@@ -24,35 +20,65 @@ pub struct Trial {
     pub left: u32,
 }
 
-// What attempts came to.
+// What an attempt came to.
 #[derive(Clone, Copy, PartialEq, Eq, Debug)]
 pub enum Came {
     Number(u64),
     NeedBit,
-    // No attempt is left.
-    TriedOut,
+    // The attempt is not below the bound, whatever bits follow.
+    Failed,
 }
 
-// The number that the first of the lowest `left` bits of a word spell.
+// The number that the first of the lowest `left` bits of a word spell. Where none is needed, the word may be shifted by all its bits.
 #[inline(always)]
 fn first_bits(need: u32, word: u64, left: u32) -> u64
     requires need { need < 64 }
     requires enough { need ≤ left }
-    requires some { 0 < need }
     requires left { left ≤ 64 }
     ensures value { result ≡ word / 2 ^ (left - need) % 2 ^ need }
     ensures small { result < 2 ^ need }
 {
-    (word >> (left - need)) % (1 << need)
+    word.wrapping_shr(left - need) % (1 << need)
 }
 
-// How many bits of a number are left where those before show that it is not below the bound.
+// The number that bits spell behind others, with 0 for each that is missing.
+#[inline(always)]
+fn behind(low: u64, bits: u64, ready: u32, missing: u32) -> u64
+    requires bits { bits < 2 ^ ready }
+    requires need { ready + missing < 64 }
+    requires low { low * 2 ^ (ready + missing) < 2 ^ 63 }
+    ensures { result ≡ (low * 2 ^ ready + bits) * 2 ^ missing }
+{
+    ((low << ready) + bits) << missing
+}
+
+// The number that an attempt spells with the bits at hand, and with 0 for each that is missing; and how many are.
+#[inline(always)]
+fn spelled(word: u64, trial: Trial) -> (u64, u32)
+    requires need { trial.need < 64 }
+    requires left { trial.left ≤ 64 }
+    requires low { trial.low * 2 ^ trial.need < 2 ^ 63 }
+    ensures missing { result.1 ≤ trial.need }
+    ensures enough { trial.need - result.1 ≤ trial.left }
+    ensures used_up { 0 < result.1 → trial.left ≡ trial.need - result.1 }
+    ensures number { result.0 ≡ low_at word trial result.1 * 2 ^ result.1 }
+{
+    if trial.need <= trial.left {
+        let bits = first_bits(trial.need, word, trial.left);
+        (behind(trial.low, bits, trial.need, 0), 0)
+    } else {
+        let bits = first_bits(trial.left, word, trial.left);
+        let missing = trial.need - trial.left;
+        (behind(trial.low, bits, trial.left, missing), missing)
+    }
+}
+
+// How many bits of a number are left where those before show that it is not below the bound, as those before the last `need` do not.
 #[inline(always)]
 fn first_above(bound: u64, number: u64, need: u32) -> u32
-    requires some { 0 < bound }
     requires above { bound ≤ number }
-    requires small { number < 2 ^ need }
-    requires need { (0 < need) × (need < 64) }
+    requires before { number / 2 ^ need * 2 ^ need < bound }
+    requires need { need < 64 }
     ensures left { result < need }
     ensures above { bound ≤ number / 2 ^ result * 2 ^ result }
     ensures below { number / 2 ^ (result + 1) * 2 ^ (result + 1) < bound }
@@ -60,144 +86,98 @@ fn first_above(bound: u64, number: u64, need: u32) -> u32
     63 - (number ^ (bound - 1)).leading_zeros()
 }
 
-// Some bits of an attempt were read, and another attempt begins.
+// The attempt once so many of its bits are left, of the number that it spells.
 #[inline(always)]
-fn again(bound: u64, trial: Trial, bits: u32) -> Trial
-    requires bound { bound < 2 ^ 63 }
-    requires tries { 1 < trial.tries }
-    requires left { bits ≤ trial.left }
-    ensures need { result.need ≡ bits_for bound }
-    ensures few { result.need < 64 }
-    ensures low { result.low ≡ 0 }
-    ensures tries { result.tries ≡ trial.tries - 1 }
-    ensures used { result.used ≡ capped (trial.used + bits) }
+fn read_to(trial: Trial, number: u64, need: u32) -> Trial
+    requires need { (need ≤ trial.need) × (need < 64) }
+    requires enough { trial.need - need ≤ trial.left }
+    ensures need { result.need ≡ need }
+    ensures low { result.low ≡ number / 2 ^ need }
+    ensures tries { result.tries ≡ trial.tries }
+    ensures used { result.used ≡ capped (trial.used + (trial.need - need)) }
     ensures known { trial.used < 2 ^ 64 }
-    ensures left { result.left ≡ trial.left - bits }
+    ensures left { result.left ≡ trial.left - (trial.need - need) }
 {
+    let bits = trial.need - need;
     Trial {
-        need: bits_for(bound),
-        low: 0,
-        tries: trial.tries - 1,
+        need,
+        low: number >> need,
+        tries: trial.tries,
         used: trial.used.saturating_add(u64::from(bits)),
         left: trial.left - bits,
     }
 }
 
-// All bits of an attempt were read.
+// An attempt below a bound, on the lowest bits of a word: it takes those that it needs, and no more once they show that it has failed.
 #[inline(always)]
-fn read_all(trial: Trial) -> Trial
-    requires enough { trial.need ≤ trial.left }
-    ensures need { result.need ≡ trial.need }
-    ensures low { result.low ≡ trial.low }
-    ensures tries { result.tries ≡ trial.tries }
-    ensures used { result.used ≡ capped (trial.used + trial.need) }
-    ensures known { trial.used < 2 ^ 64 }
-    ensures left { result.left ≡ trial.left - trial.need }
+fn attempt(bound: u64, word: u64, trial: Trial) -> (Trial, Came)
+    requires bound { (bound < 2 ^ 63) × (0 < bound) }
+    requires need { trial.need < 64 }
+    requires left { trial.left ≤ 64 }
+    ensures tried { HasTried bound word trial result.0 }
+    ensures came { CameTo bound result.0 result.1 }
+    ensures need { result.0.need ≤ trial.need }
+    ensures tries { result.0.tries ≡ trial.tries }
+    ensures left { result.0.left ≤ trial.left }
+{
+    if !is_below(bound, trial.need, trial.low) {
+        return (trial, Came::Failed);
+    }
+    let (number, missing) = spelled(word, trial);
+    if number >= bound {
+        let need = first_above(bound, number, trial.need);
+        return (read_to(trial, number, need), Came::Failed);
+    }
+    let after = read_to(trial, number, missing);
+    if missing == 0 {
+        (after, Came::Number(number))
+    } else {
+        (after, Came::NeedBit)
+    }
+}
+
+// Another attempt begins.
+#[inline(always)]
+fn again(bound: u64, trial: Trial) -> Trial
+    requires bound { bound < 2 ^ 63 }
+    requires tries { 1 < trial.tries }
+    ensures need { result.need ≡ bits_for bound }
+    ensures few { result.need < 64 }
+    ensures low { result.low ≡ 0 }
+    ensures tries { result.tries ≡ trial.tries - 1 }
+    ensures used { result.used ≡ trial.used }
+    ensures left { result.left ≡ trial.left }
 {
     Trial {
-        used: trial.used.saturating_add(u64::from(trial.need)),
-        left: trial.left - trial.need,
+        need: bits_for(bound),
+        low: 0,
+        tries: trial.tries - 1,
         ..trial
     }
 }
 
-// A bit of an attempt was read.
+// Attempts below a bound, on the lowest bits of a word, to one that does not fail, or to the last.
 #[inline(always)]
-fn read_one(trial: Trial, bit: bool) -> Trial
-    requires need { 0 < trial.need }
-    requires some { 0 < trial.left }
-    requires small { trial.low < 2 ^ 62 }
-    ensures need { result.need ≡ trial.need - 1 }
-    ensures low { result.low ≡ 2 * trial.low + bit_of bit }
-    ensures tries { result.tries ≡ trial.tries }
-    ensures used { result.used ≡ capped (trial.used + 1) }
-    ensures left { result.left ≡ trial.left - 1 }
-{
-    Trial {
-        need: trial.need - 1,
-        low: 2 * trial.low + u64::from(bit),
-        tries: trial.tries,
-        used: trial.used.saturating_add(1),
-        left: trial.left - 1,
-    }
-}
-
-// Attempts below a bound, by single bits of the lowest ones of a word.
-#[inline(always)]
-pub(crate) fn by_bits(bound: u64, word: u64, trial: Trial) -> (Trial, Came)
+pub(crate) fn attempts(bound: u64, word: u64, trial: Trial) -> (Trial, Came)
     requires bound { (bound < 2 ^ 63) × (0 < bound) }
     requires need { trial.need < 64 }
     requires left { trial.left ≤ 64 }
-    ensures tried { (code : List Instruction) (l : Limits) (x : ℕ) (e : Expression) (m : Machine) → slice_get code m.index ≡ Some (Range x e)
-        → Answered code l (at_trial m bound trial) → HasTried code l x bound m word trial result.0 result.1 }
-    ensures small { IsSmallTrial bound result.0 result.1 }
+    ensures tried { HasTried bound word trial result.0 }
+    ensures came { CameTo bound result.0 result.1 }
+    ensures last { result.1 ≡ Failed → result.0.tries ≤ 1 }
+    ensures need { result.0.need < 64 }
 {
     let mut trial = trial;
     loop {
-        if !is_below(bound, trial.need, trial.low) {
-            if trial.tries <= 1 {
-                return (trial, Came::TriedOut);
+        let (after, came) = attempt(bound, word, trial);
+        match came {
+            Came::Failed => {
+                if after.tries <= 1 {
+                    return (after, came);
+                }
+                trial = again(bound, after);
             }
-            trial = again(bound, trial, 0);
-        } else if trial.need == 0 {
-            return (trial, Came::Number(trial.low));
-        } else if trial.left == 0 {
-            return (trial, Came::NeedBit);
-        } else {
-            trial = read_one(trial, (word >> (trial.left - 1)) % 2 == 1);
+            Came::Number(_) | Came::NeedBit => return (after, came),
         }
-    }
-}
-
-// An attempt on all its bits at once, where none of them was read so far and all lie ready: the number that is drawn, and what is left
-// then; or `None` where it is none below the bound.
-#[inline(always)]
-pub(crate) fn first_number(bound: u64, word: u64, trial: Trial) -> Option<(Trial, u64)>
-    requires bound { 0 < bound }
-    requires need { trial.need < 64 }
-    requires left { trial.left ≤ 64 }
-    ensures tried { IfSome result (Draws bound word trial) }
-    ensures small { IfSome result (λ r. r.1 < bound) }
-{
-    if trial.low != 0 || trial.need == 0 || trial.need > trial.left {
-        return None;
-    }
-    let number = first_bits(trial.need, word, trial.left);
-    if number < bound {
-        Some((read_all(trial), number))
-    } else {
-        None
-    }
-}
-
-// Attempts below a bound, on all bits of an attempt at once where those read so far are 0 and the others are the first of the lowest
-// bits of a word: the number that is drawn, or `None` at an attempt that goes on by single bits.
-#[inline(always)]
-pub(crate) fn at_once(bound: u64, word: u64, trial: Trial) -> (Trial, Option<u64>)
-    requires bound { (bound < 2 ^ 63) × (0 < bound) }
-    requires need { trial.need < 64 }
-    requires left { trial.left ≤ 64 }
-    ensures tried { (code : List Instruction) (l : Limits) (x : ℕ) (e : Expression) (m : Machine) → slice_get code m.index ≡ Some (Range x e)
-        → Answered code l (at_trial m bound trial) → HasTriedAtOnce code l x bound m word trial result.0 result.1 }
-    ensures small { MatchOption result.1 (result.0.need < 64) (λ number. number < bound) }
-    ensures left { result.0.left ≤ trial.left }
-{
-    let mut trial = trial;
-    loop {
-        if trial.low != 0 || trial.need == 0 || trial.need > trial.left {
-            return (trial, None);
-        }
-        let number = first_bits(trial.need, word, trial.left);
-        if number < bound {
-            return (read_all(trial), Some(number));
-        }
-        if trial.tries <= 1 {
-            return (trial, None);
-        }
-        trial = again(
-            bound,
-            trial,
-            trial.need - first_above(bound, number, trial.need),
-        );
     }
 }

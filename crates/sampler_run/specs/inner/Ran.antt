@@ -1,16 +1,12 @@
 -- Runs through the bits of a word.
 use Rattle.std.specs.Prelude.{◌≡◌, ℕ, ◌<◌, ◌≤◌, List, length}
-use Rattle.gcl_core.specs.declared.answers.Limit.TheVariants.{Attempts}
 use Rattle.gcl_core.specs.declared.answers.Limits.{Limits}
-use Rattle.gcl_core.specs.declared.answers.Outcome.TheVariants as outcome
 use Rattle.zar_io.specs.FileBits.{low_bits}
 use Rattle.sampler_code.specs.Instruction.{Instruction}
 use Rattle.sampler_code.specs.Depths.{greatest_depth}
 use Rattle.sampler_code.specs.Machine.{step, ends}
 use Rattle.sampler_code.specs.inner.Bounded.{rest_of, Answered}
 use Rattle.sampler_code.specs.Sound.{Sound}
-use Rattle.sampler_run.specs.declared.drawing.Drawn.{Drawn}
-use Rattle.sampler_run.specs.declared.drawing.Drawn.TheVariants.{Stored, NeedBit, TriedOut}
 use Rattle.sampler_run.specs.declared.machine.Progress.{Progress}
 use Rattle.sampler_run.specs.declared.machine.Progress.TheVariants as progress
 use Rattle.sampler_run.specs.declared.machine.Registers.{Registers}
@@ -28,12 +24,6 @@ pub record CanRun (code : List Instruction) (l : Limits) (m : Registers) (count 
   pub sound : Sound code (length m.turns.items) (length m.vars.items)
   pub answered : Answered code l (machine_of m)
   pub bits : count ≤ 64
-
--- how a run goes on after a draw
-abbrev pub pace_of : Drawn → Pace
-pace_of Stored = pace.On
-pace_of NeedBit = pace.NeedBit
-pace_of TriedOut = pace.Ended (outcome.Limit Attempts)
 
 -- where it went: on, with less to go; or to rest
 abbrev pub MovedTo : List Instruction → Limits → Registers → Registers → ℕ → ℕ → Pace → Type 0

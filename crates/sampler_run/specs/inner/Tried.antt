@@ -1,20 +1,17 @@
 -- Attempts of a draw below a bound, as plain values.
-use Rattle.std.specs.Prelude.{◌≡◌, ℕ, ◌<◌, ◌≤◌, ◌^◌, pos, List, slice_get, Option, Some, None}
-use Rattle.gcl_core.specs.declared.answers.Limit.TheVariants.{Attempts}
+use Rattle.std.specs.Prelude.{◌≡◌, ℕ, ◌%◌, ◌/◌, ◌-◌, ◌+◌, ◌<◌, ◌≤◌, ◌*◌, ◌^◌, List, slice_get, Some}
 use Rattle.gcl_core.specs.declared.answers.Limits.{Limits}
-use Rattle.gcl_core.specs.declared.answers.Outcome.TheVariants as outcome
 use Rattle.zar_io.specs.FileBits.{low_bits}
 use Rattle.gcl_core.specs.meaning.Syntax.{Expression}
 use Rattle.sampler_code.specs.Instruction.{Instruction, Range}
-use Rattle.sampler_code.specs.Machine.{Machine, below, stored, step, ends}
+use Rattle.sampler_code.specs.Machine.{Machine, below}
 use Rattle.sampler_code.specs.inner.Bounded.{rest_of, Answered}
 use Rattle.sampler_run.specs.declared.drawing.Attempt.{Attempt}
 use Rattle.sampler_run.specs.declared.machine.Registers.{Registers}
 use Rattle.sampler_run.specs.declared.trials.Trial.{Trial}
 use Rattle.sampler_run.specs.declared.trials.Came.{Came}
-use Rattle.sampler_run.specs.declared.trials.Came.TheVariants.{Number, NeedBit, TriedOut}
+use Rattle.sampler_run.specs.declared.trials.Came.TheVariants.{Number, NeedBit, Failed}
 use Rattle.sampler_run.specs.inner.Going.{to_go}
-use Rattle.sampler_run.specs.inner.Resting.{Asks}
 use Rattle.sampler_run.specs.inner.Taken.{Takes}
 
 -- a machine at an attempt below b
@@ -24,6 +21,10 @@ at_trial m b t = record m { tries = t.tries; used = t.used; drawing = below b t.
 -- an attempt that is under way, as a plain value
 abbrev pub trial_of : Registers → Attempt → ℕ → Trial
 trial_of m a left = record { need = a.need; low = a.low; tries = m.tries; used = m.used; left = left }
+
+-- what its bits spell with the next ones of a word, where it then needs so many
+abbrev pub low_at : ℕ → Trial → ℕ → ℕ
+low_at word t rest = t.low * 2 ^ (t.need - rest) + word / 2 ^ (t.left - (t.need - rest)) % 2 ^ (t.need - rest)
 
 -- it took some of the lowest bits of a word, and no more is to go than before
 pub record Went (code : List Instruction) (l : Limits) (old new : Machine) (word before after : ℕ) : Type 0 where
@@ -37,30 +38,13 @@ pub record HasBegun (code : List Instruction) (l : Limits) (m : Machine) (word l
   pub need : t.need < 64
   pub within : t.left ≤ left
 
--- to a number that is drawn and stored, with less to go; or to rest at an attempt
-abbrev pub HasTried : List Instruction → Limits → ℕ → ℕ → Machine → ℕ → Trial → Trial → Came → Type 0
-HasTried code l x b m word old new (Number v) =
-    Takes (rest_of code l (at_trial m b old)) (rest_of code l (stored (at_trial m b new) x (pos v))) (low_bits old.left word) (low_bits new.left word)
-    × (to_go code l new.left (stored (at_trial m b new) x (pos v)) < to_go code l old.left (at_trial m b old))
-HasTried code l x b m word old new NeedBit =
-    Takes (rest_of code l (at_trial m b old)) (rest_of code l (at_trial m b new)) (low_bits old.left word) (low_bits new.left word)
-    × Asks (step code l (at_trial m b new)) × (new.left ≡ 0)
-HasTried code l x b m word old new TriedOut =
-    Takes (rest_of code l (at_trial m b old)) (rest_of code l (at_trial m b new)) (low_bits old.left word) (low_bits new.left word)
-    × (step code l (at_trial m b new) ≡ ends (outcome.Limit Attempts))
+-- any draw below b goes from the one attempt to the other on the bits of a word
+abbrev pub HasTried : ℕ → ℕ → Trial → Trial → Type 0
+HasTried b word t u = (code : List Instruction) (l : Limits) (x : ℕ) (e : Expression) (m : Machine) → slice_get code m.index ≡ Some (Range x e) →
+    Answered code l (at_trial m b t) → Went code l (at_trial m b t) (at_trial m b u) word t.left u.left
 
--- the number that is drawn, and what is left then, of any draw below b from an attempt on
-abbrev pub Draws : ℕ → ℕ → Trial → Trial × ℕ → Type 0
-Draws b word t drawn = (code : List Instruction) (l : Limits) (x : ℕ) (e : Expression) (m : Machine) → slice_get code m.index ≡ Some (Range x e) →
-    Answered code l (at_trial m b t) → HasTried code l x b m word t drawn.0 (Number drawn.1)
-
--- to a number that is drawn and stored, with less to go; or to an attempt, with no more to go
-abbrev pub HasTriedAtOnce : List Instruction → Limits → ℕ → ℕ → Machine → ℕ → Trial → Trial → Option ℕ → Type 0
-HasTriedAtOnce code l x b m word old new (Some v) = HasTried code l x b m word old new (Number v)
-HasTriedAtOnce code l x b m word old new None = Went code l (at_trial m b old) (at_trial m b new) word old.left new.left
-
--- a number below the bound, or an attempt that has 63 bits at most
-abbrev pub IsSmallTrial : ℕ → Trial → Came → Type 0
-IsSmallTrial b t (Number v) = v < b
-IsSmallTrial b t NeedBit = t.need < 64
-IsSmallTrial b t TriedOut = t.need < 64
+-- to a number below b; to where a bit is needed and none is left; or to where it is not below b, whatever bits follow
+abbrev pub CameTo : ℕ → Trial → Came → Type 0
+CameTo b t (Number v) = (t.need ≡ 0) × (t.low ≡ v) × (v < b)
+CameTo b t NeedBit = (0 < t.need) × (t.low * 2 ^ t.need < b) × (t.left ≡ 0)
+CameTo b t Failed = b ≤ t.low * 2 ^ t.need

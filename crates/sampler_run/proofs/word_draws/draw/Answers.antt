@@ -7,7 +7,7 @@ use Rattle.sampler_code.specs.inner.Bounded.{rest_of}
 use Rattle.sampler_run.specs.Views.{drawing_of, machine_of}
 use Rattle.sampler_run.specs.inner.Taken.{Takes}
 use Rattle.sampler_run.specs.inner.Tried.{HasBegun}
-use Rattle.sampler_run.proofs.Draws.{can_same, idle_ends, idle_begins}
+use Rattle.sampler_run.proofs.Draws.{can_same, idle_ends, idle_begins, begun_pending}
 use Rattle.sampler_run.proofs.Takes.{takes_none}
 use Rattle.sampler_run.proofs.word_draws.draw.Goals as goal
 
@@ -20,12 +20,12 @@ bound_for-requires-clause-room c =
     let r = c.requires.can.room in
     omega (arith, w, r)
 
-pub draw_anew-requires-clause-can : goal.draw_anew-requires-clause-can
-draw_anew-requires-clause-can c =
+pub draw_from-requires-clause-can : goal.draw_from-requires-clause-can
+draw_from-requires-clause-can c =
     can_same c.args.code.now.instrs c.args.limits.now c.args.m.now c.bound_for.new.m c.args.left.now c.bound_for.ensures.same c.bound_for.ensures.stack c.requires.can
 
-pub draw_anew-requires-clause-begun : goal.draw_anew-requires-clause-begun
-draw_anew-requires-clause-begun c =
+pub draw_from-requires-clause-begun : goal.draw_from-requires-clause-begun
+draw_from-requires-clause-begun c =
     let code = c.args.code.now.instrs in
     let l = c.args.limits.now in
     let m = machine_of c.args.m.now in
@@ -36,6 +36,9 @@ draw_anew-requires-clause-begun c =
     let within = c.bits_for.ensures.within in
     subst (λ (n : Machine). HasBegun code l n c.args.word k b (record { need = need; low = 0; tries = l.attempts; used = n.used; left = k })) (sym c.bound_for.ensures.same)
     (idle_begins code l c.args.x (expression_in c.args.e.now) m c.requires.at (ap drawing_of c.in-Idle.is) c.args.word k b need c.requires.can.answered (c.in-Ok.ensures.bound (λ b. goes (first_attempt l m b))) (small.1, small.0) (omega (arith, within)) c.bits_for.ensures.value)
+
+pub draw_from-requires-in-Below-clause-begun : goal.draw_from-requires-in-Below-clause-begun
+draw_from-requires-in-Below-clause-begun c = begun_pending c.args.code.now.instrs c.args.limits.now c.args.m.now c.in-Below.attempt c.args.word c.args.left.now c.in-Below.is
 
 pub returns-in-Err : goal.returns-in-Err
 returns-in-Err c =
