@@ -134,7 +134,7 @@ zar mass FILE
 zar cost FILE --attempts N --rounds N
     print how many bits a run reads on average
 zar posterior FILE
-    print each outcome with bounds that hold for every greater limit of turns
+    print each value and fault with bounds that hold for every greater limit of turns
 zar audit FILE --depth N
     print how all strings of N bits end
 zar tally FILE --seed N --from N --to N
@@ -186,7 +186,7 @@ pub const COST: Page = (
 
 pub const POSTERIOR: Page = (
     "zar posterior FILE
-    print each outcome with bounds that hold for every greater limit of turns
+    print each value and fault with bounds that hold for every greater limit of turns
 
 ",
     &[MASS_TURNS],
