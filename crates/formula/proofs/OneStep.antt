@@ -6,8 +6,7 @@ use Rattle.gcl_core.specs.declared.answers.Fault.{Fault}
 use Rattle.gcl_core.specs.meaning.Value.{State, Value}
 use Rattle.formula.specs.declared.op.Op.{Op}
 use Rattle.formula.specs.declared.running.Point.{Point}
-use Rattle.formula.specs.inner.OnStack.{Moved, on, fails, stuck, pushed, move, after_move, the_one_value, run, CameTo, Goes}
-use Rattle.formula.specs.Forms.{values}
+use Rattle.formula.specs.inner.OnStack.{Moved, on, fails, stuck, pushed, move, after_move, the_one_value, run, CameTo, Goes, values}
 use Rattle.formula.proofs.Runs.{run_drop}
 use Rattle.formula.proofs.Slots.{values_length}
 

@@ -4,7 +4,7 @@ use Rattle.std.proofs.lemmas.List.{get_or-set_other, get_or-set_same}
 use Rattle.std.specs.Prelude.{slice_set, slice_index_or}
 use Rattle.std.proofs.lemmas.Int.{to_z-of_z, ints}
 use Rattle.gcl_core.specs.meaning.Value.{fits_64}
-use Rattle.formula.specs.Forms.{under, values}
+use Rattle.formula.specs.inner.OnStack.{under, values}
 
 under_length : (slots : List ℤ) (n : ℕ) → length (under slots n) ≡ n
 under_length slots zero = refl

@@ -6,9 +6,8 @@ use Rattle.gcl_core.specs.meaning.Syntax.{Expression}
 use Rattle.gcl_core.specs.meaning.Views.{expression_of}
 use Rattle.formula.specs.declared.op.Op.{Op}
 use Rattle.formula.specs.declared.op.Op.TheVariants.{Push, Truth, Load, Neg, Not, Bin, AndSkip, OrSkip, Settle}
-use Rattle.formula.specs.Forms.{stack_on, stacked, waiting}
+use Rattle.formula.specs.inner.OneRead.{stack_on, stacked, waiting, OnTwo, Readable, HasRead}
 use Rattle.formula.specs.ReadBack.{read}
-use Rattle.formula.specs.inner.OneRead.{OnTwo, Readable, HasRead}
 
 stack_push : {X Y : Type 0} (f : X → Y) (xs : List X) (x : X) (s : List Y) → stack_on f (xs ++ x ∷ []) s ≡ f x ∷ stack_on f xs s
 stack_push f [] x s = refl

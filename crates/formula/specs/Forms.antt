@@ -1,9 +1,6 @@
--- Short forms as steps, and values in slots as a stack.
-use Rattle.std.specs.Prelude.{◌≡◌, ℕ, zero, suc, ◌<◌, ℤ, pos, List, [], ◌∷◌, ◌++◌, Result, Ok, Err, IsTrue, slice_index_or}
-use Rattle.gcl_core.specs.declared.answers.Fault.{Fault}
+-- Short forms as steps.
+use Rattle.std.specs.Prelude.{◌≡◌, ℕ, ◌<◌, ℤ, pos, List, [], ◌∷◌, ◌++◌, Ok, IsTrue, slice_index_or}
 use Rattle.gcl_core.specs.declared.syntax.BinOp.{BinOp}
-use Rattle.gcl_core.specs.declared.syntax.Expr.{Expr}
-use Rattle.gcl_core.specs.meaning.Views.{expression_of}
 use Rattle.gcl_core.specs.meaning.Syntax.{Expression}
 use Rattle.gcl_core.specs.meaning.Syntax as source
 use Rattle.gcl_core.specs.meaning.Value.{State, Value, ◌>>=◌, applied, fits_64}
@@ -89,29 +86,3 @@ FormOf (form.Var x) e = TermOf (One (Var x)) e
 FormOf (On op x a) e = TermOf (on op x a) e
 FormOf (Joined op t u) e = (settling op 0 ≡ []) × IsTerm t × IsTerm u × (e ≡ source.Bin op (term_expression t) (term_expression u))
 FormOf (Long steps n) e = (steps.items ≡ steps_of e) × (n ≡ depth e)
-
--- the values below the top, from the n-th slot down to the first
-abbrev pub under : List ℤ → ℕ → List ℤ
-under slots zero = []
-under slots (suc n) = slice_index_or slots (suc n) (pos 0) ∷ under slots n
-
--- a stack of so many values
-abbrev pub values : ℤ → ℕ → List ℤ → List ℤ
-values top zero slots = []
-values top (suc n) slots = top ∷ under slots n
-
--- the last first, before a further stack
-abbrev pub stack_on : {X Y : Type 0} → (X → Y) → List X → List Y → List Y
-stack_on f [] s = s
-stack_on f (x ∷ xs) s = stack_on f xs (f x ∷ s)
-
-abbrev pub stacked : List Expr → List Expression
-stacked items = stack_on expression_of items []
-
-abbrev pub waiting : List BinOp → List BinOp
-waiting items = stack_on (λ op. op) items []
-
--- a value that is left in the first slot, or its fault
-abbrev pub Leaves : Result (Unit {0}) Fault → List ℤ → Value → Type 0
-Leaves (Ok u) slots v = Ok (slice_index_or slots 0 (pos 0)) ≡ v
-Leaves (Err fault) slots v = Err fault ≡ v

@@ -1,12 +1,10 @@
 // Steps on a stack. Nothing is called back, and no box is followed.
 
 ghost use Rattle.std.specs.Prelude.{◌≡◌, ℤ, ◌+◌, ◌^◌, ◌<◌, ◌≤◌, ◌∷◌, length, IfOk, IsTrue};
-ghost use Rattle.gcl_core.specs.meaning.Value.{fits_64, value_of, ExpressionBelow};
-ghost use Rattle.formula.specs.Steps.{steps_of, depth};
+ghost use Rattle.gcl_core.specs.meaning.Value.{fits_64, value_of};
 ghost use Rattle.formula.specs.ReadBack.{expression_in};
-ghost use Rattle.formula.specs.inner.OnStack.{move, CameTo, Goes};
-ghost use Rattle.formula.specs.Forms.{atom_value, AtomReads, values, Leaves};
-ghost use Rattle.gcl_core.specs.meaning.Syntax.{Expression};
+ghost use Rattle.formula.specs.inner.OnStack.{move, values, CameTo, Goes, Leaves, StandFor};
+ghost use Rattle.formula.specs.Forms.{atom_value, AtomReads};
 
 use crate::op::{Atom, Op};
 use gcl_core::Fault;
@@ -130,7 +128,7 @@ fn take(
 // The value of the expression that the steps stand for.
 #[inline(always)]
 fn run(steps: &[Op], vars: &[i64], slots: &mut [i64]) -> Result<i64, Fault>
-    requires stands { (e : Expression) × (steps.now ≡ steps_of e) × ExpressionBelow e (length vars.now) × (depth e ≤ length slots.old) }
+    requires stands { StandFor steps.now (length vars.now) (length slots.old) }
     ensures value { result ≡ value_of (expression_in steps.now) vars.now }
     ensures small { IfOk result (λ v. IsTrue (fits_64 v)) }
     ensures room { length slots.new ≡ length slots.old }
@@ -151,7 +149,7 @@ fn run(steps: &[Op], vars: &[i64], slots: &mut [i64]) -> Result<i64, Fault>
 // The same, left in the first slot, so that the answer of the call needs no memory.
 #[inline(never)]
 fn leave_value(steps: &[Op], vars: &[i64], slots: &mut [i64]) -> Result<(), Fault>
-    requires stands { (e : Expression) × (steps.now ≡ steps_of e) × ExpressionBelow e (length vars.now) × (depth e ≤ length slots.old) }
+    requires stands { StandFor steps.now (length vars.now) (length slots.old) }
     requires room { 0 < length slots.old }
     ensures value { Leaves result slots.new (value_of (expression_in steps.now) vars.now) }
     ensures room { length slots.new ≡ length slots.old }
@@ -163,7 +161,7 @@ fn leave_value(steps: &[Op], vars: &[i64], slots: &mut [i64]) -> Result<(), Faul
 // The same, read back from there.
 #[inline(always)]
 pub(crate) fn value(steps: &[Op], vars: &[i64], slots: &mut [i64]) -> Result<i64, Fault>
-    requires stands { (e : Expression) × (steps.now ≡ steps_of e) × ExpressionBelow e (length vars.now) × (depth e ≤ length slots.old) }
+    requires stands { StandFor steps.now (length vars.now) (length slots.old) }
     requires room { 0 < length slots.old }
     ensures value { result ≡ value_of (expression_in steps.now) vars.now }
     ensures room { length slots.new ≡ length slots.old }

@@ -106,7 +106,7 @@ const PRODUCT: [Op; 5] = [
     Op::Bin(BinOp::Sub),
 ];
 
-// One operator on a variable and one operator on two needs no stack, and the first fault is the result.
+// One operator on a variable and one operator on two is a form of its own, and the first fault is the result.
 #[test]
 fn a_joined_form(rt: HostRuntime) -> Result<(), Fail> {
     let alloc = rt.alloc();

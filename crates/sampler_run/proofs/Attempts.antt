@@ -1,7 +1,7 @@
 -- The steps of an attempt below a bound, and the bits that it reads.
-use Rattle.std.proofs.Common.{◌≡◌, ℕ, zero, suc, ◌+◌, ◌*◌, ◌^◌, ◌/◌, ◌%◌, ◌-◌, ◌<◌, ◌≤◌, ◌==◌, pos, Bool, true, false, List, ◌∷◌, ◌++◌, Some, refl, sym, ap, ◌∙◌, arith, lt-ltb, pow-add}
+use Rattle.std.proofs.Common.{◌≡◌, ℕ, zero, suc, ◌+◌, ◌*◌, ◌^◌, ◌/◌, ◌%◌, ◌<◌, ◌==◌, pos, Bool, true, false, List, ◌∷◌, ◌++◌, Some, refl, sym, ap, ◌∙◌, arith, lt-ltb, pow-add}
 use Rattle.std.specs.Prelude.{slice_get, if◌then◌else◌}
-use Rattle.std.proofs.lemmas.Nat.{mul-le, pow_pos}
+use Rattle.std.proofs.lemmas.Nat.{pow_pos}
 use Rattle.std.proofs.Math.Arith.{mod-mul}
 use Rattle.std.proofs.Math.Nat.{div-div-eq-div-mul}
 use Rattle.gcl_core.specs.declared.answers.Limits.{Limits}
@@ -11,10 +11,7 @@ use Rattle.gcl_core.specs.meaning.Runs.{capped}
 use Rattle.zar_io.specs.FileBits.{low_bits}
 use Rattle.sampler_code.specs.Instruction.{Instruction, Range}
 use Rattle.sampler_code.specs.Machine.{Machine, below, goes, asks, act, step, stored, narrowed, retry, draws_on, ranges}
-use Rattle.sampler_code.specs.inner.Bounded.{most_steps}
 use Rattle.sampler_run.specs.inner.Resting.{side}
-use Rattle.sampler_run.specs.inner.Going.{steps_left, to_go}
-use Rattle.sampler_run.proofs.Words.{silent_most}
 
 -- ---- numbers and their bits
 
@@ -75,13 +72,3 @@ module _ (code : List Instruction) (l : Limits) (x : ℕ) (e : Expression) (b : 
   pub side_narrowed : (m : Machine) (k low : ℕ) (c : Bool) → side (asks (narrowed m b k (2 * low)) (narrowed m b k (2 * low + 1))) c m ≡ narrowed m b k (2 * low + bit c)
   side_narrowed m k low false = let e : 2 * low ≡ 2 * low + 0 = omega arith in ap (λ n. narrowed m b k n) e
   side_narrowed m k low true = refl
-
-module _ (code : List Instruction) (l : Limits) where
-  pub at_hand_less : (m n : Machine) (left k : ℕ) → 1 ≤ k → k ≤ left → to_go code l (left - k) n < to_go code l left m
-  unfolding steps_left
-  at_hand_less m n left k some enough =
-      let M = most_steps code l in
-      let s = silent_most code l M n in
-      let all : left ≡ (left - k) + k = omega (arith, enough) in
-      let fewer = mul-le (suc (left - k)) (suc M) left (suc M) (omega (arith, some, enough)) (omega arith) in
-      omega (arith, s, fewer)

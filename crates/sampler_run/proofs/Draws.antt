@@ -26,9 +26,9 @@ use Rattle.sampler_run.specs.declared.machine.Pace.TheVariants as pace
 use Rattle.sampler_run.specs.inner.Ran.{CanRun, HasMoved, MovedTo}
 use Rattle.sampler_run.specs.inner.Shape.{SameShape}
 use Rattle.sampler_run.specs.inner.Taken.{Takes}
-use Rattle.sampler_run.specs.inner.Tried.{at_trial, trial_of, CameTo, HasTried, HasBegun, Went}
+use Rattle.sampler_run.specs.inner.Tried.{at_trial, CameTo, HasTried, HasBegun, Went}
 use Rattle.sampler_run.proofs.Settle.{falls, step_same}
-use Rattle.sampler_run.proofs.Trying.{step_went, trial_stores, went_answered, went_join}
+use Rattle.sampler_run.proofs.Trying.{step_went, trial_stores, went_answered, both_went}
 use Rattle.sampler_run.proofs.Takes.{takes_none, takes_join}
 
 -- ---- registers that stand for the same machine
@@ -65,6 +65,10 @@ module _ (code : List Instruction) (l : Limits) (x : ℕ) (e : Expression) (m : 
 
 -- ---- or the one that is under way
 
+-- an attempt as a plain value
+abbrev trial_of : Registers → Attempt → ℕ → Trial
+trial_of m a left = record { need = a.need; low = a.low; tries = m.tries; used = m.used; left = left }
+
 pub begun_pending : (code : List Instruction) (l : Limits) (m : Registers) (a : Attempt) (word left : ℕ) → m.drawing ≡ Below a → HasBegun code l (machine_of m) word left a.bound (trial_of m a left)
 begun_pending code l m a word left is =
     let n : Machine = machine_of m in
@@ -84,7 +88,7 @@ module _ (code : List Instruction) (l : Limits) (x : ℕ) (e : Expression) (b : 
   begun_went =
       let m = machine_of old in
       let there = went_answered code l m (at_trial m b t) word left t.left a h.went in
-      went_join code l m (at_trial m b t) (at_trial m b u) word left t.left u.left h.went (tried code l x e m at there)
+      both_went code l m (at_trial m b t) (at_trial m b u) word left t.left u.left h.went (tried code l x e m at there)
 
   -- to a number that is drawn and stored
   pub drawn : (v : ℕ) → CameTo b u (came.Number v) → machine_of new ≡ stored (at_trial (machine_of old) b u) x (pos v) → HasMoved code l old new word left u.left pace.On

@@ -1,5 +1,5 @@
 -- Attempts of a draw below a bound as plain values, one after the other.
-use Rattle.std.proofs.Common.{◌≡◌, ℕ, zero, suc, ◌+◌, ◌*◌, ◌^◌, ◌/◌, ◌%◌, ◌-◌, ◌<◌, ◌≤◌, ◌==◌, pos, Bool, List, ◌∷◌, ◌++◌, Some, refl, sym, ap, ◌∙◌, subst, arith, le-ltb, ⊎_elim}
+use Rattle.std.proofs.Common.{◌≡◌, ℕ, zero, suc, ◌+◌, ◌*◌, ◌^◌, ◌/◌, ◌%◌, ◌-◌, ◌<◌, ◌≤◌, ◌==◌, pos, Bool, List, ◌∷◌, ◌++◌, Some, refl, sym, ap, ◌∙◌, subst, arith, le-ltb, pow-add, ⊎_elim}
 use Rattle.std.specs.Prelude.{slice_get, if◌then◌else◌}
 use Rattle.std.proofs.lemmas.Bool.{cases_lt}
 use Rattle.std.proofs.lemmas.Nat.{mul-le}
@@ -17,11 +17,11 @@ use Rattle.sampler_run.specs.declared.trials.Trial.{Trial}
 use Rattle.sampler_run.specs.inner.Resting.{Asks, side}
 use Rattle.sampler_run.specs.inner.Going.{to_go}
 use Rattle.sampler_run.specs.inner.Taken.{Takes}
-use Rattle.sampler_run.specs.inner.Tried.{at_trial, low_at, HasTried, Went}
+use Rattle.sampler_run.specs.inner.Tried.{at_trial, low_at, HasTried, SpellsOut, Went}
 use Rattle.sampler_run.proofs.Settle.{falls, step_same, bit_same, answered_bit}
 use Rattle.sampler_run.proofs.Takes.{takes_none, takes_more, takes_join}
-use Rattle.sampler_run.proofs.Words.{needs_rest, taken_answered}
-use Rattle.sampler_run.proofs.Attempts.{pow_sum, low_bits_split, spelled_more, used_after, used_capped, step_draws, asks_more, side_narrowed, stores, at_hand_less}
+use Rattle.sampler_run.proofs.Words.{fewer_to_go, needs_rest, taken_answered}
+use Rattle.sampler_run.proofs.Attempts.{low_bits_split, spelled_more, used_after, used_capped, step_draws, asks_more, side_narrowed, stores}
 use Rattle.sampler_run.proofs.Reading.{half, part_below, spelled_to}
 
 -- ---- steps that take no bit
@@ -69,7 +69,7 @@ module _ (code : List Instruction) (l : Limits) (x : ℕ) (e : Expression) (b : 
       let twice : 2 ^ suc j ≡ 2 * 2 ^ j = omega arith in
       let two : low * 2 ^ suc j ≡ 2 * (low * 2 ^ j) = ap (λ p. low * p) twice ∙ (omega arith) in
       let half : low * 2 ^ j ≤ q / 2 = omega (arith, two, spells) in
-      let power : 2 ^ suc (j + r) ≡ 2 ^ j * 2 ^ suc r = sym (pow_sum (suc r) j ∙ ap (λ i. 2 ^ i) (let f : suc r + j ≡ suc (j + r) = omega arith in f)) in
+      let power : 2 ^ suc (j + r) ≡ 2 ^ j * 2 ^ suc r = ap (λ i. 2 ^ i) (let f : suc (j + r) ≡ j + suc r = omega arith in f) ∙ pow-add 2 j (suc r) in
       let first : low * 2 ^ suc (j + r) ≡ low * 2 ^ j * 2 ^ suc r = ap (λ p. low * p) power ∙ (omega arith) in
       let most = mul-le (low * 2 ^ j) (2 ^ suc r) (q / 2) (2 ^ suc r) half (omega arith) in
       let under_one = under (omega arith) in
@@ -110,7 +110,7 @@ module _ (code : List Instruction) (l : Limits) (x : ℕ) (e : Expression) (b : 
       subst Asks (sym more) tt
 
   -- one with some bits more
-  pub trial_reads : (m : Machine) (t u : Trial) (word rest : ℕ) → slice_get code m.index ≡ Some (Range x e) → Answered code l (at_trial m b t) → t.used < 2 ^ 64 → rest ≤ t.need → t.need - rest ≤ t.left →
+  trial_reads : (m : Machine) (t u : Trial) (word rest : ℕ) → slice_get code m.index ≡ Some (Range x e) → Answered code l (at_trial m b t) → t.used < 2 ^ 64 → rest ≤ t.need → t.need - rest ≤ t.left →
       u.low ≡ low_at word t rest → u.low / 2 * 2 ^ (rest + 1) < b →
       u.need ≡ rest → u.tries ≡ t.tries → u.used ≡ capped (t.used + (t.need - rest)) → u.left ≡ t.left - (t.need - rest) → Went code l (at_trial m b t) (at_trial m b u) word t.left u.left
   trial_reads m t u word rest at h used fewer enough low before n r s left =
@@ -129,7 +129,7 @@ module _ (code : List Instruction) (l : Limits) (x : ℕ) (e : Expression) (b : 
             (subst (λ w. Takes (rest_of code l (at_trial m b t)) (rest_of code l (read (at_trial m b t) j rest u.low)) w (low_bits after word)) (sym bits) took));
         less = subst (λ i. to_go code l i (at_trial m b u) ≤ to_go code l t.left (at_trial m b t)) (sym left)
             (⊎_elim
-            (λ (some : 0 < j). let less = at_hand_less code l (at_trial m b t) (at_trial m b u) t.left j some enough in omega (arith, less))
+            (λ (some : 0 < j). let less = fewer_to_go code l (at_trial m b t) (at_trial m b u) t.left after (omega (arith, some, enough)) in omega (arith, less))
             (λ (none : j ≤ 0).
             let zero_bits : j ≡ 0 = omega (arith, none) in
             let same : u.low ≡ t.low = subst (λ j. u.low ≡ t.low * 2 ^ j + word / 2 ^ (t.left - j) % 2 ^ j) zero_bits low ∙ (omega arith) in
@@ -155,28 +155,29 @@ module _ (code : List Instruction) (l : Limits) where
   pub went_answered : (old new : Machine) (word before after : ℕ) → Answered code l old → Went code l old new word before after → Answered code l new
   went_answered old new word before after h w = taken_answered code l old new _ _ h w.takes
 
-  pub went_join : (old mid new : Machine) (word before between after : ℕ) → Went code l old mid word before between → Went code l mid new word between after → Went code l old new word before after
-  went_join old mid new word before between after v w = record {
+  pub both_went : (old mid new : Machine) (word before between after : ℕ) → Went code l old mid word before between → Went code l mid new word between after → Went code l old new word before after
+  both_went old mid new word before between after v w = record {
     takes = takes_join _ _ _ _ _ _ v.takes w.takes;
     less = let a = v.less in let b = w.less in omega (arith, a, b);
   }
 
 -- an attempt that spells a number with the bits that are not missing, and 0 for each that is
-module _ (b word : ℕ) (t u : Trial) (n missing : ℕ) (enough : t.need - missing ≤ t.left) (few : missing ≤ t.need) (is : n ≡ low_at word t missing * 2 ^ missing) (used : t.used < 2 ^ 64) where
+module _ (b word : ℕ) (t u : Trial) (n missing : ℕ) (spells : SpellsOut word t n missing) (used : t.used < 2 ^ 64) where
   -- where it needs so many more
   pub read_tried : (rest : ℕ) → missing ≤ rest → rest ≤ t.need → n / 2 ^ (rest + 1) * 2 ^ (rest + 1) < b →
       u.need ≡ rest → u.low ≡ n / 2 ^ rest → u.tries ≡ t.tries → u.used ≡ capped (t.used + (t.need - rest)) → u.left ≡ t.left - (t.need - rest) → HasTried b word t u
   read_tried rest more fewer before k z r s left = λ code l x e m at h.
-      let low = z ∙ spelled_to n word t missing enough few is rest more fewer in
+      let enough = spells.enough in
+      let low = z ∙ spelled_to n word t missing spells rest more fewer in
       let under = subst (λ q. q * 2 ^ (rest + 1) < b) (sym (half n rest) ∙ ap (λ q. q / 2) (sym z)) before in
       trial_reads code l x e b m t u word rest at h used fewer (omega (arith, enough, more)) low under k r s left
 
   -- where it needs those that are missing
   pub short_tried : n < b → u.need ≡ missing → u.low ≡ n / 2 ^ missing → u.tries ≡ t.tries → u.used ≡ capped (t.used + (t.need - missing)) → u.left ≡ t.left - (t.need - missing) → HasTried b word t u
-  short_tried lt = read_tried missing (omega arith) few (part_below b n (missing + 1) lt)
+  short_tried lt = read_tried missing (omega arith) spells.few (part_below b n (missing + 1) lt)
 
 -- attempts after others
 pub tried_join : (b word : ℕ) (t u v : Trial) → HasTried b word t u → HasTried b word u v → HasTried b word t v
 tried_join b word t u v before after = λ code l x e m at h.
     let w = before code l x e m at h in
-    went_join code l (at_trial m b t) (at_trial m b u) (at_trial m b v) word t.left u.left v.left w (after code l x e m at (went_answered code l (at_trial m b t) (at_trial m b u) word t.left u.left h w))
+    both_went code l (at_trial m b t) (at_trial m b u) (at_trial m b v) word t.left u.left v.left w (after code l x e m at (went_answered code l (at_trial m b t) (at_trial m b u) word t.left u.left h w))

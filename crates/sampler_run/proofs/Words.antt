@@ -1,5 +1,6 @@
 -- Runs on the bits of a word.
-use Rattle.std.proofs.Common.{◌≡◌, ℕ, zero, suc, ◌+◌, ◌*◌, ◌^◌, ◌/◌, ◌%◌, ◌-◌, ◌≢◌, ◌<◌, ◌≤◌, ◌==◌, Bool, true, false, List, [], ◌∷◌, ◌++◌, length, Option, refl, sym, ap, ◌∙◌, subst, arith, length-append, inl, inr}
+use Rattle.std.proofs.Common.{◌≡◌, ℕ, zero, suc, ◌*◌, ◌^◌, ◌/◌, ◌%◌, ◌-◌, ◌≢◌, ◌<◌, ◌≤◌, ◌==◌, Bool, true, false, List, [], ◌∷◌, ◌++◌, length, Option, refl, sym, ap, ◌∙◌, subst, arith, length-append, inl, inr}
+use Rattle.std.proofs.lemmas.Nat.{mul-le}
 use Rattle.gcl_core.specs.declared.answers.Limits.{Limits}
 use Rattle.gcl_core.specs.declared.answers.Outcome.{Outcome}
 use Rattle.gcl_core.specs.meaning.Draw.{bit}
@@ -52,23 +53,29 @@ most_silent (ends x) more k h = omega arith
 most_silent stuck more k h = omega arith
 
 module _ (code : List Instruction) (l : Limits) where
-  pub silent_most : (k : ℕ) (m : Machine) → silent code l k m ≤ k
+  silent_most : (k : ℕ) (m : Machine) → silent code l k m ≤ k
   unfolding silent
   silent_most zero m = omega arith
   silent_most (suc k) m = most_silent (step code l m) (silent code l k) k (silent_most k)
 
-  fewer_bits : (M s t a b : ℕ) → b ≡ suc a → s ≤ M → a * suc M + s < b * suc M + t
-  fewer_bits M s t a b e le = let f : b * suc M ≡ a * suc M + suc M = ap (λ b. b * suc M) e ∙ (omega arith) in omega (arith, f)
+  -- on fewer bits less is to go, wherever the machine stands
+  pub fewer_to_go : (m n : Machine) (j k : ℕ) → k < j → to_go code l k n < to_go code l j m
+  unfolding steps_left
+  fewer_to_go m n j k lt =
+      let M = most_steps code l in
+      let s = silent_most M n in
+      let fewer = mul-le (suc k) (suc M) j (suc M) (omega (arith, lt)) (omega arith) in
+      omega (arith, s, fewer)
 
   -- one instruction on
-  pub on_takes : (run : List Bool → Option Reached) (m n : Machine) (old before after : List Bool) → Answered code l m →
+  on_takes : (run : List Bool → Option Reached) (m n : Machine) (old before after : List Bool) → Answered code l m →
       LedBy (step code l m) m n pace.On before after → Takes run (rest_of code l m) old before → Takes run (rest_of code l n) old after
   on_takes run m n old before after h (inl e) t =
       subst (λ b. Takes run (rest_of code l n) old b) (sym e.1) (takes_on run (rest_of code l m) (rest_of code l n) old before t (step_same code l m n h e.0))
   on_takes run m n old before after h (inr e) t =
       takes_more run (rest_of code l m) (rest_of code l n) e.0 old before after t e.3 (needs_rest code l m h e.1) (bit_same code l m n e.0 h e.1 e.2)
 
-  pub on_less : (m n : Machine) (w j k : ℕ) → Answered code l m → LedBy (step code l m) m n pace.On (low_bits j w) (low_bits k w) →
+  on_less : (m n : Machine) (w j k : ℕ) → Answered code l m → LedBy (step code l m) m n pace.On (low_bits j w) (low_bits k w) →
       to_go code l k n < to_go code l j m
   unfolding steps_left
   on_less m n w j k h (inl e) =
@@ -78,27 +85,27 @@ module _ (code : List Instruction) (l : Limits) where
       omega (arith, f, g)
   on_less m n w j k h (inr e) =
       let one : j ≡ suc k = sym (low_bits_length j w) ∙ ap length e.3 ∙ ap suc (low_bits_length k w) in
-      fewer_bits (most_steps code l) (steps_left code l n) (steps_left code l m) k j one (silent_most (most_steps code l) n)
+      fewer_to_go m n j k (omega (arith, one))
 
-  pub stop_takes : (run : List Bool → Option Reached) (m n : Machine) (old before after : List Bool) → n ≡ m → after ≡ before →
+  stop_takes : (run : List Bool → Option Reached) (m n : Machine) (old before after : List Bool) → n ≡ m → after ≡ before →
       Takes run (rest_of code l m) old before → Takes run (rest_of code l n) old after
   stop_takes run m n old before after e f t =
       subst (λ n. Takes run (rest_of code l n) old after) (sym e) (subst (λ b. Takes run (rest_of code l m) old b) (sym f) t)
 
-pub fewer : (run rest : List Bool → Option Reached) (j k w : ℕ) → Takes run rest (low_bits j w) (low_bits k w) → k ≤ j
-fewer run rest j k w t =
+pub fewer_left : (run rest : List Bool → Option Reached) (j k w : ℕ) → Takes run rest (low_bits j w) (low_bits k w) → k ≤ j
+fewer_left run rest j k w t =
     let e = ap length t.split ∙ length-append t.taken (low_bits k w) in
     omega (arith, e, low_bits_length j w, low_bits_length k w)
 
 module _ (code : List Instruction) (l : Limits) where
   -- it rests where it stopped
-  pub rests_need : (m n : Machine) → n ≡ m → Asks (step code l m) → Rests (step code l n) progress.NeedBit
+  rests_need : (m n : Machine) → n ≡ m → Asks (step code l m) → Rests (step code l n) progress.NeedBit
   rests_need m n e h = subst (λ n. Asks (step code l n)) (sym e) h
 
-  pub rests_end : (m n : Machine) (o : Outcome) → n ≡ m → step code l m ≡ ends o → Rests (step code l n) (progress.Ended o)
+  rests_end : (m n : Machine) (o : Outcome) → n ≡ m → step code l m ≡ ends o → Rests (step code l n) (progress.Ended o)
   rests_end m n o e h = ap (λ n. step code l n) e ∙ h
 
-pub no_bits : (j k w : ℕ) → low_bits j w ≡ [] → low_bits k w ≡ low_bits j w → k ≡ 0
+no_bits : (j k w : ℕ) → low_bits j w ≡ [] → low_bits k w ≡ low_bits j w → k ≡ 0
 no_bits j k w e f = sym (low_bits_length k w) ∙ ap length (f ∙ e)
 
 pub taken_answered : (code : List Instruction) (l : Limits) (m n : Machine) (old new : List Bool) → Answered code l m →

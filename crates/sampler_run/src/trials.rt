@@ -1,16 +1,15 @@
 // Attempts of a draw below a bound, on the bits at hand and over plain values.
 
-ghost use Rattle.std.specs.Prelude.{◌≡◌, ◌+◌, ◌-◌, ◌*◌, ◌/◌, ◌%◌, ◌^◌, ◌<◌, ◌≤◌};
+ghost use Rattle.std.specs.Prelude.{◌≡◌, ◌+◌, ◌-◌, ◌*◌, ◌/◌, ◌%◌, ◌^◌, ◌<◌, ◌≤◌, nat_lt};
 ghost use Rattle.gcl_core.specs.meaning.Draw.{bits_for};
 ghost use Rattle.gcl_core.specs.meaning.Runs.{capped};
 ghost use Rattle.sampler_run.specs.declared.trials.Came.TheVariants.{Failed};
-ghost use Rattle.sampler_run.specs.inner.Tried.{low_at, CameTo, HasTried};
+ghost use Rattle.sampler_run.specs.inner.Tried.{CameTo, HasTried, SpellsOut};
 
-use crate::machine::is_below;
 use draw_tree::bits_for;
 
-// An attempt: how many more bits it needs, and the number that those read so far spell. With it the attempts that are left, the bits
-// that were read, and how many bits of a word are left.
+// An attempt: how many more bits it needs, and the number that those read so far spell. With it the attempts that are left, this one among
+// them, the bits that the run has read, and how many bits of the word are left.
 #[derive(Clone, Copy, PartialEq, Eq, Debug)]
 pub struct Trial {
     pub need: u32,
@@ -25,11 +24,22 @@ pub struct Trial {
 pub enum Came {
     Number(u64),
     NeedBit,
-    // The attempt is not below the bound, whatever bits follow.
+    // Its number is not below the bound, whatever bits follow.
     Failed,
 }
 
-// The number that the first of the lowest `left` bits of a word spell. Where none is needed, the word may be shifted by all its bits.
+// Some number below the bound begins with the bits that spell `low`, where `need` more follow.
+#[inline(always)]
+fn is_below(bound: u64, need: u32, low: u64) -> bool
+    requires some { 0 < bound }
+    requires need { need < 64 }
+    ensures { result ≡ nat_lt (low * 2 ^ need) bound }
+{
+    low <= (bound - 1) >> need
+}
+
+// The number that the first `need` of the lowest `left` bits of a word spell. Where `need` is 0 and `left` is 64 the shift is by 0, and the
+// answer 0 all the same.
 #[inline(always)]
 fn first_bits(need: u32, word: u64, left: u32) -> u64
     requires need { need < 64 }
@@ -45,7 +55,7 @@ fn first_bits(need: u32, word: u64, left: u32) -> u64
 #[inline(always)]
 fn behind(low: u64, bits: u64, ready: u32, missing: u32) -> u64
     requires bits { bits < 2 ^ ready }
-    requires need { ready + missing < 64 }
+    requires few { ready + missing < 64 }
     requires low { low * 2 ^ (ready + missing) < 2 ^ 63 }
     ensures { result ≡ (low * 2 ^ ready + bits) * 2 ^ missing }
 {
@@ -58,10 +68,7 @@ fn spelled(word: u64, trial: Trial) -> (u64, u32)
     requires need { trial.need < 64 }
     requires left { trial.left ≤ 64 }
     requires low { trial.low * 2 ^ trial.need < 2 ^ 63 }
-    ensures missing { result.1 ≤ trial.need }
-    ensures enough { trial.need - result.1 ≤ trial.left }
-    ensures used_up { 0 < result.1 → trial.left ≡ trial.need - result.1 }
-    ensures number { result.0 ≡ low_at word trial result.1 * 2 ^ result.1 }
+    ensures { SpellsOut word trial result.0 result.1 }
 {
     if trial.need <= trial.left {
         let bits = first_bits(trial.need, word, trial.left);
@@ -86,7 +93,7 @@ fn first_above(bound: u64, number: u64, need: u32) -> u32
     63 - (number ^ (bound - 1)).leading_zeros()
 }
 
-// The attempt once so many of its bits are left, of the number that it spells.
+// The attempt once it needs only so many bits more, of the number that it spells.
 #[inline(always)]
 fn read_to(trial: Trial, number: u64, need: u32) -> Trial
     requires need { (need ≤ trial.need) × (need < 64) }

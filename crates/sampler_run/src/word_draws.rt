@@ -3,7 +3,7 @@
 ghost use Rattle.std.specs.Prelude.{◌≡◌, ◌+◌, ◌^◌, ◌<◌, pos, length, slice_get, Some};
 ghost use Rattle.formula.specs.ReadBack.{expression_in};
 ghost use Rattle.sampler_code.specs.Instruction.{Range};
-ghost use Rattle.sampler_code.specs.Machine.{idle, below, stored};
+ghost use Rattle.sampler_code.specs.Machine.{below, stored};
 ghost use Rattle.sampler_run.specs.inner.Ran.{CanRun, HasMoved};
 ghost use Rattle.sampler_run.specs.inner.Shape.{SameShape};
 ghost use Rattle.sampler_run.specs.inner.Tried.{HasBegun};
@@ -17,18 +17,18 @@ use formula::Formula;
 use gcl_core::{Limit, Limits, Outcome};
 use sampler_code::Code;
 
-// A number is drawn, and stored.
+// A number is drawn and stored, and the next instruction follows.
 #[inline(always)]
 fn store_number(m: &mut Registers, x: u32, number: u64)
     requires place { x < length m.old.vars.items }
     requires within { m.old.index + 1 < 2 ^ 64 }
     requires small { number < 2 ^ 63 }
-    requires idle { drawing_of m.old.drawing ≡ idle }
     ensures stored { machine_of m.new ≡ stored (machine_of m.old) x (pos number) }
     ensures shape { SameShape m.old m.new }
 {
     m.vars[x as usize] = number as i64;
     m.index += 1;
+    m.drawing = Drawing::Idle;
 }
 
 // A draw that is at an attempt.
@@ -45,7 +45,7 @@ fn under_way(bound: u64, trial: Trial) -> Drawing
     })
 }
 
-// A draw below a bound from an attempt on, as far.
+// A draw below a bound from an attempt on, to where it is done, or the bits are used up and it needs one more, or no attempt is left.
 #[inline(always)]
 fn draw_from(
     code: &Code,
@@ -70,7 +70,6 @@ fn draw_from(
     *left = trial.left;
     match came {
         Came::Number(number) => {
-            m.drawing = Drawing::Idle;
             store_number(m, x, number);
             Pace::On
         }
@@ -85,7 +84,7 @@ fn draw_from(
     }
 }
 
-// A draw below a bound, as far.
+// A draw below a bound, begun or under way, as far as that.
 #[inline(always)]
 pub(crate) fn draw(
     code: &Code,

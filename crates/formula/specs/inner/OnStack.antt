@@ -1,12 +1,37 @@
 -- How steps run on a stack of values, the top first. They are stuck where a value or a variable is missing, the stack is full, or a
 -- target does not lie further on.
-use Rattle.std.specs.Prelude.{◌≡◌, ℕ, zero, suc, ◌+◌, ◌-◌, ℤ, pos, neg_ℤ, not, List, [], ◌∷◌, length, Option, Some, None, Result, Ok, Err, nat_lt, slice_index_or, if◌then◌else◌}
+use Rattle.std.specs.Prelude.{◌≡◌, ◌≤◌, ℕ, zero, suc, ◌+◌, ◌-◌, ℤ, pos, neg_ℤ, not, List, [], ◌∷◌, length, Option, Some, None, Result, Ok, Err, nat_lt, slice_index_or, if◌then◌else◌}
 use Rattle.gcl_core.specs.declared.answers.Fault.{Fault}
 use Rattle.gcl_core.specs.meaning.Value.{State, Value, truth_number, is_zero, within_64, applied}
 use Rattle.formula.specs.declared.running.Point.{Point}
-use Rattle.formula.specs.Forms.{values}
+use Rattle.gcl_core.specs.meaning.Value.{ExpressionBelow}
+use Rattle.gcl_core.specs.meaning.Syntax.{Expression}
+use Rattle.formula.specs.Steps.{steps_of, depth}
 use Rattle.formula.specs.declared.op.Op.{Op}
 use Rattle.formula.specs.declared.op.Op.TheVariants.{Push, Truth, Load, Neg, Not, Bin, AndSkip, OrSkip, Settle}
+
+-- ---- values in slots as a stack
+
+-- the values below the top, from the n-th slot down to the first
+abbrev pub under : List ℤ → ℕ → List ℤ
+under slots zero = []
+under slots (suc n) = slice_index_or slots (suc n) (pos 0) ∷ under slots n
+
+-- a stack of so many values
+abbrev pub values : ℤ → ℕ → List ℤ → List ℤ
+values top zero slots = []
+values top (suc n) slots = top ∷ under slots n
+
+-- a value that is left in the first slot, or its fault
+abbrev pub Leaves : Result (Unit {0}) Fault → List ℤ → Value → Type 0
+Leaves (Ok u) slots v = Ok (slice_index_or slots 0 (pos 0)) ≡ v
+Leaves (Err fault) slots v = Err fault ≡ v
+
+-- the steps of some expression whose variables are there, and whose values have room
+abbrev pub StandFor : List Op → ℕ → ℕ → Type 0
+StandFor steps vars room = (e : Expression) × (steps ≡ steps_of e) × ExpressionBelow e vars × (depth e ≤ room)
+
+-- ---- one step
 
 -- What one step leads to: past the next so many steps, with these values; or to a fault.
 pub data Moved : Type 0 where

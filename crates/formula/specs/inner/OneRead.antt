@@ -1,11 +1,24 @@
 -- One step of reading back.
 use Rattle.std.specs.Prelude.{◌≡◌, ◌<◌, List, [], ◌∷◌, length}
 use Rattle.gcl_core.specs.declared.syntax.BinOp.{BinOp}
+use Rattle.gcl_core.specs.declared.syntax.Expr.{Expr}
+use Rattle.gcl_core.specs.meaning.Views.{expression_of}
 use Rattle.gcl_core.specs.declared.syntax.BinOp.TheVariants.{And, Or}
 use Rattle.gcl_core.specs.meaning.Syntax.{Expression}
 use Rattle.gcl_core.specs.meaning.Syntax as source
 use Rattle.formula.specs.declared.op.Op.{Op}
 use Rattle.formula.specs.declared.op.Op.TheVariants.{Push, Truth, Load, Neg, Not, Bin, AndSkip, OrSkip, Settle}
+
+-- the last first, before a further stack
+abbrev pub stack_on : {X Y : Type 0} → (X → Y) → List X → List Y → List Y
+stack_on f [] s = s
+stack_on f (x ∷ xs) s = stack_on f xs (f x ∷ s)
+
+abbrev pub stacked : List Expr → List Expression
+stacked items = stack_on expression_of items []
+
+abbrev pub waiting : List BinOp → List BinOp
+waiting items = stack_on (λ op. op) items []
 
 abbrev pub OnTop : (Expression → Expression) → List Expression → List Expression → Type 0
 OnTop f [] new = ⊥

@@ -1,6 +1,6 @@
 use Rattle.std.proofs.Common.{suc, Some, [], ◌∙◌, sym, ap, add-one, length, drop, drop-cons, arith}
 use Rattle.std.proofs.lemmas.List.{drop_all}
-use Rattle.formula.specs.Forms.{stacked, waiting}
+use Rattle.formula.specs.inner.OneRead.{stacked, waiting}
 use Rattle.formula.specs.ReadBack.{read, expression_in}
 use Rattle.formula.specs.Steps.{steps_of}
 use Rattle.formula.proofs.ReadingBack.{stands_as, reads_whole}

@@ -1,5 +1,5 @@
 use Rattle.std.proofs.Common.{◌≡◌, Some, drop}
-use Rattle.formula.specs.Forms.{stacked, waiting}
+use Rattle.formula.specs.inner.OneRead.{stacked, waiting}
 use Rattle.formula.specs.ReadBack.{read, expression_in}
 use Rattle.formula.proofs.reading.read_back.Given as goal
 

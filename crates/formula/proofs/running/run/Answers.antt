@@ -1,8 +1,7 @@
 use Rattle.std.proofs.Common.{Some, [], ap, ◌∙◌, refl, sym, length, drop, drop-cons, arith, rules, w64, to_z}
 use Rattle.std.proofs.lemmas.List.{drop_all}
 use Rattle.gcl_core.specs.meaning.Value.{value_of}
-use Rattle.formula.specs.inner.OnStack.{run}
-use Rattle.formula.specs.Forms.{values}
+use Rattle.formula.specs.inner.OnStack.{run, values}
 use Rattle.formula.proofs.OneStep.{run_goes, run_next, run_fails, run_ends}
 use Rattle.formula.proofs.Runs.{runs_whole}
 use Rattle.formula.proofs.Slots.{small_back}

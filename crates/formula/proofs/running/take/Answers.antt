@@ -1,7 +1,6 @@
 use Rattle.std.proofs.Common.{subst, length}
 use Rattle.std.specs.Prelude.{nat_lt, length}
-use Rattle.formula.specs.inner.OnStack.{move, Goes}
-use Rattle.formula.specs.Forms.{values}
+use Rattle.formula.specs.inner.OnStack.{move, Goes, values}
 use Rattle.formula.proofs.OneStep.{put_room, load_room}
 use Rattle.formula.proofs.running.take.Goals as goal
 

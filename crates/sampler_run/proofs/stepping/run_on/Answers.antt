@@ -6,7 +6,7 @@ use Rattle.sampler_run.specs.Views.{machine_of}
 use Rattle.sampler_run.proofs.Settle.{within}
 use Rattle.sampler_run.proofs.Shapes.{own_shape, shape_join}
 use Rattle.sampler_run.proofs.Takes.{takes_none, takes_join}
-use Rattle.sampler_run.proofs.Words.{fewer, taken_answered}
+use Rattle.sampler_run.proofs.Words.{fewer_left, taken_answered}
 use Rattle.sampler_run.proofs.stepping.run_on.Goals as goal
 
 pub loop-outcome-init : goal.loop-outcome-init
@@ -38,7 +38,7 @@ move_on-requires-clause-can c =
     let code = c.args.code.now.instrs in
     let m = c.loop-outcome.m in
     let i = c.loop-outcome.invariant in
-    let f = fewer _ _ c.args.left.now c.loop-outcome.left c.args.word i.takes in
+    let f = fewer_left _ _ c.args.left.now c.loop-outcome.left c.args.word i.takes in
     let b = c.requires.bits in
     record {
       room = subst (λ n. greatest_depth code ≤ n) (sym i.shape.stack) c.requires.room;
@@ -70,7 +70,7 @@ returns-in-NeedBit c =
     record {
       takes = t;
       rests = e.moved.0;
-      left = fewer _ _ c.args.left.now c.move_on.new.left c.args.word t;
+      left = fewer_left _ _ c.args.left.now c.move_on.new.left c.args.word t;
       used_up = λ h. e.moved.1;
       shape = shape_join _ _ _ i.shape e.shape;
     }
@@ -83,7 +83,7 @@ returns-in-Ended c =
     record {
       takes = t;
       rests = e.moved;
-      left = fewer _ _ c.args.left.now c.move_on.new.left c.args.word t;
+      left = fewer_left _ _ c.args.left.now c.move_on.new.left c.args.word t;
       used_up = λ h. absurd (cc);
       shape = shape_join _ _ _ i.shape e.shape;
     }
