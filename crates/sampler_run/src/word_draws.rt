@@ -57,12 +57,13 @@ fn draw_from(
     left: &mut u32,
     bound: u64,
     trial: Trial,
-) -> Pace
+) -> (Pace, usize)
     requires at { slice_get code.now.instrs m.old.index ≡ Some (Range x (expression_in e.now)) }
     requires within { m.old.index + 1 < 2 ^ 64 }
     requires can { CanRun code.now.instrs limits.now m.old left.old }
     requires begun { HasBegun code.now.instrs limits.now (machine_of m.old) word left.old bound trial }
-    ensures { HasMoved code.now.instrs limits.now m.old m.new word left.old left.new result }
+    ensures moved { HasMoved code.now.instrs limits.now m.old m.new word left.old left.new result.0 }
+    ensures next { result.1 ≡ m.new.index }
 {
     let (trial, came) = attempts(bound, word, trial);
     m.tries = trial.tries;
@@ -71,15 +72,15 @@ fn draw_from(
     match came {
         Came::Number(number) => {
             store_number(m, x, number);
-            Pace::On
+            (Pace::On, m.index)
         }
         Came::NeedBit => {
             m.drawing = under_way(bound, trial);
-            Pace::NeedBit
+            (Pace::NeedBit, m.index)
         }
         Came::Failed => {
             m.drawing = under_way(bound, trial);
-            Pace::Ended(Outcome::Limit(Limit::Attempts))
+            (Pace::Ended(Outcome::Limit(Limit::Attempts)), m.index)
         }
     }
 }
@@ -94,11 +95,12 @@ pub(crate) fn draw(
     m: &mut Registers,
     word: u64,
     left: &mut u32,
-) -> Pace
+) -> (Pace, usize)
     requires at { slice_get code.now.instrs m.old.index ≡ Some (Range x (expression_in e.now)) }
     requires within { m.old.index + 1 < 2 ^ 64 }
     requires can { CanRun code.now.instrs limits.now m.old left.old }
-    ensures { HasMoved code.now.instrs limits.now m.old m.new word left.old left.new result }
+    ensures moved { HasMoved code.now.instrs limits.now m.old m.new word left.old left.new result.0 }
+    ensures next { result.1 ≡ m.new.index }
 {
     match m.drawing {
         Drawing::Idle => match bound_for(m, e) {
@@ -112,7 +114,7 @@ pub(crate) fn draw(
                 };
                 draw_from(code, x, e, limits, m, word, left, bound, trial)
             }
-            Err(outcome) => Pace::Ended(outcome),
+            Err(outcome) => (Pace::Ended(outcome), m.index),
         },
         Drawing::Below(attempt) => {
             let trial = Trial {

@@ -8,8 +8,8 @@ use Rattle.sampler_run.specs.inner.Taken.{LedBy}
 use Rattle.sampler_run.proofs.Words.{moved_takes, moved_to}
 use Rattle.sampler_run.proofs.stepping.move_by_flip.Goals as goal
 
-pub returns-in-None : goal.returns-in-None
-returns-in-None c =
+pub returns-in-None-clause-moved : goal.returns-in-None-clause-moved
+returns-in-None-clause-moved c =
     let code = c.args.code.now.instrs in
     let l = c.args.limits.now in
     let m = machine_of c.args.m.now in
@@ -23,8 +23,8 @@ returns-in-None c =
       shape = record { turns = refl; vars = refl; stack = refl };
     }
 
-pub returns-in-Some : goal.returns-in-Some
-returns-in-Some c =
+pub returns-in-Some-clause-moved : goal.returns-in-Some-clause-moved
+returns-in-Some-clause-moved c =
     let code = c.args.code.now.instrs in
     let l = c.args.limits.now in
     let m = machine_of c.args.m.now in

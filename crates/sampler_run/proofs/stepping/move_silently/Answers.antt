@@ -16,14 +16,14 @@ perform-requires-clause-room c =
 pub perform-requires-clause-knows : goal.perform-requires-clause-knows
 perform-requires-clause-knows c = (c.requires.can.sound.each c.args.m.now.index _ c.requires.at).0
 
-pub returns : goal.returns
-returns c =
+pub returns-clause-moved : goal.returns-clause-moved
+returns-clause-moved c =
     let code = c.args.code.now.instrs in
     let l = c.args.limits.now in
     let e = c.perform.ensures in
     let m = machine_of c.args.m.now in
     let n = c.perform.new.m in
-    let p = c.perform.result in
+    let p = c.perform.result.0 in
     let k = c.args.left in
     let led = silently _ m (machine_of n) p (low_bits k c.args.word) (subst (λ o. Led (act l o m) m (machine_of n) p) (sym c.requires.at) e.led) in
     record {

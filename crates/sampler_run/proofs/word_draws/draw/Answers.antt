@@ -40,8 +40,8 @@ draw_from-requires-clause-begun c =
 pub draw_from-requires-in-Below-clause-begun : goal.draw_from-requires-in-Below-clause-begun
 draw_from-requires-in-Below-clause-begun c = begun_pending c.args.code.now.instrs c.args.limits.now c.args.m.now c.in-Below.attempt c.args.word c.args.left.now c.in-Below.is
 
-pub returns-in-Err : goal.returns-in-Err
-returns-in-Err c =
+pub returns-in-Err-clause-moved : goal.returns-in-Err-clause-moved
+returns-in-Err-clause-moved c =
     let code = c.args.code.now.instrs in
     let l = c.args.limits.now in
     let m = machine_of c.args.m.now in

@@ -14,8 +14,8 @@ use Rattle.sampler_run.proofs.word_draws.draw_from.Goals as goal
 pub store_number-requires-clause-place : goal.store_number-requires-clause-place
 store_number-requires-clause-place c = (c.requires.can.sound.each c.args.m.now.index _ c.requires.at).0.0
 
-pub returns-in-Number : goal.returns-in-Number
-returns-in-Number c =
+pub returns-in-Number-clause-moved : goal.returns-in-Number-clause-moved
+returns-in-Number-clause-moved c =
     let b = c.args.bound in
     let u = c.attempts-came.result.0 in
     let n = c.attempts-came.ensures in
@@ -23,8 +23,8 @@ returns-in-Number c =
     drawn c.args.code.now.instrs c.args.limits.now c.args.x (expression_in c.args.e.now) b c.args.m.now c.store_number.new.m c.args.word c.args.left.now c.args.trial u c.requires.at c.requires.can.answered c.requires.begun
     n.tried (record { turns = e.shape.turns; vars = e.shape.vars; stack = e.shape.stack }) c.in-Number.number (subst (λ o. CameTo b u o) c.in-Number.is n.came) e.stored
 
-pub returns-in-NeedBit : goal.returns-in-NeedBit
-returns-in-NeedBit c =
+pub returns-in-NeedBit-clause-moved : goal.returns-in-NeedBit-clause-moved
+returns-in-NeedBit-clause-moved c =
     let code = c.args.code.now.instrs in
     let l = c.args.limits.now in
     let b = c.args.bound in
@@ -36,8 +36,8 @@ returns-in-NeedBit c =
     rests code l c.args.x (expression_in c.args.e.now) b c.args.m.now _ c.args.word c.args.left.now c.args.trial u c.requires.at c.requires.can.answered c.requires.begun
     n.tried (record { turns = refl; vars = refl; stack = refl }) pace.NeedBit here (subst (λ n. Asks (step code l n)) (sym here) (trial_asks code l c.args.x (expression_in c.args.e.now) b m u c.requires.at came.0 came.1), came.2)
 
-pub returns-in-Failed : goal.returns-in-Failed
-returns-in-Failed c =
+pub returns-in-Failed-clause-moved : goal.returns-in-Failed-clause-moved
+returns-in-Failed-clause-moved c =
     let code = c.args.code.now.instrs in
     let l = c.args.limits.now in
     let b = c.args.bound in
