@@ -16,7 +16,7 @@ use Rattle.formula.specs.declared.op.Form.TheVariants.{On, Joined, Long}
 use Rattle.formula.specs.declared.op.Form.TheVariants as form
 use Rattle.formula.specs.Steps.{settling, steps_between, joining, step_count, steps_at, steps_of, depth}
 use Rattle.formula.specs.ReadBack.{expression_in}
-use Rattle.formula.specs.Forms.{term_steps, term_expression, IsTerm, term_depth, TermReads, term_value, joined_steps, joined_value, on, form_steps, TermOf, FormOf}
+use Rattle.formula.specs.Forms.{term_steps, term_expression, IsTerm, term_depth, TermReads, term_value, joined_steps, joined_value, on, form_steps, form_depth, TermOf, FormOf}
 use Rattle.formula.proofs.ReadingBack.{stands_for}
 use Rattle.formula.proofs.Slots.{small_back}
 use Rattle.formula.proofs.Written.{Plain, plain_by}
@@ -106,13 +106,6 @@ deep (source.Neg a) = deep a
 deep (source.Not a) = deep a
 deep (source.Bin op a b) = let some = deep a in omega (arith, some)
 
-abbrev form_depth : Form → ℕ
-form_depth (form.Num n) = 1
-form_depth (form.Var x) = 1
-form_depth (On op x a) = 2
-form_depth (Joined op t u) = max (term_depth t) (term_depth u + 1)
-form_depth (Long steps n) = n
-
 short_writes : (t : Term) (e : Expression) → TermOf t e → term_steps t ≡ steps_of e
 short_writes t e h = sym (term_writes t 0 h.0) ∙ ap steps_of (sym h.1)
 
@@ -159,8 +152,8 @@ module _ (f : Form) (e : Expression) (h : FormOf f e) (s : List Op) (view : form
   pub written : s ≡ steps_of (expression_in s)
   written = sym view ∙ form_writes f e h ∙ ap steps_of (sym stands)
 
-  pub depth_in : (g : Form) → f ≡ g → form_depth g ≡ depth (expression_in s)
-  depth_in g is = ap form_depth (sym is) ∙ form_deep f e h ∙ ap depth (sym stands)
+  pub depth_in : form_depth f ≡ depth (expression_in s)
+  depth_in = form_deep f e h ∙ ap depth (sym stands)
 
   -- its number is written and read back
   pub num_back : (n : ℤ) → f ≡ form.Num n → to_z w64 (of_z w64 n) ≡ n

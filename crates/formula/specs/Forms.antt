@@ -1,5 +1,5 @@
 -- Short forms as steps.
-use Rattle.std.specs.Prelude.{◌≡◌, ℕ, ◌<◌, ℤ, pos, List, [], ◌∷◌, ◌++◌, Ok, IsTrue, slice_index_or}
+use Rattle.std.specs.Prelude.{◌≡◌, ℕ, ◌<◌, ℤ, pos, List, [], ◌∷◌, ◌++◌, Ok, IsTrue, slice_index_or, ◌+◌, max}
 use Rattle.gcl_core.specs.declared.syntax.BinOp.{BinOp}
 use Rattle.gcl_core.specs.meaning.Syntax.{Expression}
 use Rattle.gcl_core.specs.meaning.Syntax as source
@@ -74,6 +74,14 @@ form_steps (form.Var x) = term_steps (One (Var x))
 form_steps (On op x a) = term_steps (on op x a)
 form_steps (Joined op t u) = joined_steps op t u
 form_steps (Long steps n) = steps.items
+
+-- the greatest number of values on the stack while they run
+abbrev pub form_depth : Form → ℕ
+form_depth (form.Num n) = 1
+form_depth (form.Var x) = 1
+form_depth (On op x a) = 2
+form_depth (Joined op t u) = max (term_depth t) (term_depth u + 1)
+form_depth (Long steps n) = n
 
 -- a term and the expression that it is
 abbrev pub TermOf : Term → Expression → Type 0
