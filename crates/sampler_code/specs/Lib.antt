@@ -1,5 +1,6 @@
 pub mod Instruction
 pub mod Depths
+pub mod Targets
 pub mod Views
 pub mod Code
 pub mod Machine

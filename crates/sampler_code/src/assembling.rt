@@ -201,5 +201,5 @@ pub fn assemble(alloc: Global, t: &Tied) -> Result<Code, AllocError>
     emit(&mut instrs, &t.body, &mut loops, alloc)?;
     let result = Formula::of(alloc, &t.result)?;
     instrs.put(Instr::Return(result))?;
-    Ok(Code::of(instrs, loops, t.vars))
+    Code::of(alloc, instrs, loops, t.vars)
 }

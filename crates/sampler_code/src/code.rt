@@ -5,6 +5,7 @@ ghost use Rattle.sampler_code.specs.Follows.{IsCode};
 
 use crate::instructions::{Instr, Instructions};
 use gcl_core::Limits;
+use std::alloc::{AllocError, Global};
 use std::marker::Model;
 
 /// Flat code of a tree, which does what the tree does. Every target is the index of an instruction, the last instruction is a
@@ -12,6 +13,8 @@ use std::marker::Model;
 #[derive(Drop)]
 pub struct Code {
     instrs: Instructions,
+    // The index that each instruction names, or 0. A run reads it here: an index leads to the next with one load.
+    targets: Vec<usize>,
     loops: usize,
     vars: u32,
 }
@@ -20,8 +23,7 @@ impl Model for Code {
     ghost use Rattle.std.specs.Coded.{codes};
     ghost use Rattle.sampler_code.specs.inner.Stored.{expression_code};
     ghost use Rattle.sampler_code.specs.Assembled.{Assembled};
-    ghost use Rattle.sampler_code.specs.Follows.{IsCode};
-    ghost use Rattle.sampler_code.specs.Models.{assembled_of};
+    ghost use Rattle.sampler_code.specs.Models.{IsKept, assembled_of};
 
     ghost Value = { Assembled };
 
@@ -29,11 +31,11 @@ impl Model for Code {
 
     ghost view = { assembled_of };
 
-    ghost invariant = { λ c. IsCode (assembled_of c) };
+    ghost invariant = { IsKept };
 }
 
 impl Code {
-    ghost use Rattle.std.specs.Prelude.{◌≡◌, ◌<◌, ◌+◌, ◌^◌, Bool, List, Some, length, slice_get};
+    ghost use Rattle.std.specs.Prelude.{◌≡◌, ◌<◌, ◌+◌, ◌^◌, Bool, IfOk, List, MatchOption, Some, length, slice_get};
     ghost use Rattle.gcl_core.specs.meaning.LimitRange.{InRange};
     ghost use Rattle.sampler_code.specs.Running.{Reached};
     ghost use Rattle.sampler_code.specs.Sound.{Sound};
@@ -41,17 +43,25 @@ impl Code {
     ghost use Rattle.sampler_code.specs.Follows.{Follows, IsCode};
     ghost use Rattle.sampler_code.specs.Views.{instruction_of};
     ghost use Rattle.sampler_code.specs.Depths.{greatest_depth};
+    ghost use Rattle.sampler_code.specs.Targets.{target_of};
 
-    // What is the code of a tree.
-    pub(crate) fn of(instrs: Instructions, loops: usize, vars: u32) -> Code
+    // What is the code of a tree. An error comes only where memory runs out.
+    pub(crate) fn of(
+        alloc: Global,
+        instrs: Instructions,
+        loops: usize,
+        vars: u32,
+    ) -> Result<Code, AllocError>
         requires { IsCode (record { instrs = instrs; loops = loops; vars = vars }) }
-        ensures { result ≡ record { instrs = instrs; loops = loops; vars = vars } }
+        ensures { IfOk result (λ c. c ≡ record { instrs = instrs; loops = loops; vars = vars }) }
     {
-        Code {
+        let targets = instrs.targets(alloc)?;
+        Ok(Code {
             instrs,
+            targets,
             loops,
             vars,
-        }
+        })
     }
 
     /// How many instructions there are. What code keeps is told here.
@@ -72,6 +82,14 @@ impl Code {
         ensures within { i + 1 < 2 ^ 64 }
     {
         self.instrs.get(i)
+    }
+
+    /// The index that the instruction at an index names, which is below the count; 0 where it names none.
+    pub fn target(&self, i: usize) -> usize
+        requires { i < length self.now.instrs }
+        ensures { MatchOption (slice_get self.now.instrs i) ⊥ (λ instruction. result ≡ target_of instruction) }
+    {
+        self.targets[i]
     }
 
     /// The greatest number of values on the stack of an expression.

@@ -1,7 +1,8 @@
 // Instructions.
 
-ghost use Rattle.std.specs.Prelude.{◌≡◌, ◌<◌, ◌+◌, ◌^◌, ◌++◌, ◌∷◌, [], length, Some, slice_get, slice_set, OnOk};
+ghost use Rattle.std.specs.Prelude.{◌≡◌, ◌<◌, ◌+◌, ◌^◌, ◌++◌, ◌∷◌, [], length, map, Some, slice_get, slice_set, IfOk, OnOk};
 ghost use Rattle.sampler_code.specs.Depths.{depth_of, greatest_depth};
+ghost use Rattle.sampler_code.specs.Targets.{target_of};
 ghost use Rattle.sampler_code.specs.Views.{instruction_of, instructions_of};
 
 use formula::Formula;
@@ -54,6 +55,25 @@ impl Instr {
             | Instr::Fail => 0,
         }
     }
+
+    // The index that it names, or 0 where it names none.
+    fn target(&self) -> usize
+        ensures { result ≡ target_of (instruction_of self.now) }
+    {
+        match self {
+            Instr::Unless(_, target)
+            | Instr::Goto(target)
+            | Instr::Loop(_, target, _)
+            | Instr::Flip(target)
+            | Instr::Again(target) => *target,
+            Instr::Set(_, _)
+            | Instr::Range(_, _)
+            | Instr::Arm(_)
+            | Instr::Tries
+            | Instr::Fail
+            | Instr::Return(_) => 0,
+        }
+    }
 }
 
 fn greatest_depth(instrs: &[Instr]) -> usize
@@ -64,6 +84,16 @@ fn greatest_depth(instrs: &[Instr]) -> usize
         depth = instr.depth().max(depth);
     }
     depth
+}
+
+fn targets(alloc: Global, instrs: &[Instr]) -> Result<Vec<usize>, AllocError>
+    ensures { IfOk result (λ targets. targets.items ≡ map target_of (instructions_of instrs.now)) }
+{
+    let mut targets = Vec::with_capacity(alloc, instrs.len())?;
+    for instr in instrs {
+        targets.push(instr.target())?;
+    }
+    Ok(targets)
 }
 
 /// Instructions in order, by their indices from 0.
@@ -117,6 +147,13 @@ impl Instructions {
         ensures { result ≡ greatest_depth self.now }
     {
         greatest_depth(&self.instrs)
+    }
+
+    // The index that each one names. An error comes only where memory runs out.
+    pub(crate) fn targets(&self, alloc: Global) -> Result<Vec<usize>, AllocError>
+        ensures { IfOk result (λ targets. targets.items ≡ map target_of self.now) }
+    {
+        targets(alloc, &self.instrs)
     }
 
     /// The index after that of an instruction.

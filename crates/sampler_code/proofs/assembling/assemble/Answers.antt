@@ -1,4 +1,5 @@
-use Rattle.std.proofs.Common.{sym, subst, ◌∙◌}
+use Rattle.std.proofs.Common.{◌≡◌, sym, subst, ◌∙◌}
+use Rattle.std.proofs.lemmas.Result.{IfOk-weaker}
 use Rattle.bit_tree.specs.Views.{tied_tree_of}
 use Rattle.sampler_code.specs.Assembled.{Assembled}
 use Rattle.sampler_code.specs.Follows.{Follows}
@@ -21,5 +22,6 @@ of-requires-2 c = record {
 pub returns-clause-follows : goal.returns-clause-follows
 returns-clause-follows c =
     let t = tied_tree_of c.args.t.now in
-    let e = c.of-2.ensures ∙ written t _ _ _ _ _ c.new-instrs.ensures c.in_ok-emit.ensures.code c.in_ok-result.ensures.stands c.in_ok-put.ensures c.in_ok-emit.ensures.loops in
-    subst (λ (p : Assembled). Follows t p) (sym e) (tied_follows t c.requires.sampleable (numbers_of t _ c.in_ok-emit.ensures.fits c.in_ok-result.ensures.stands (subst ExpressionFits (sym c.in_ok-result.ensures.stands) c.in_ok-result.ensures.fits)))
+    let fits = numbers_of t _ c.in_ok-emit.ensures.fits c.in_ok-result.ensures.stands (subst ExpressionFits (sym c.in_ok-result.ensures.stands) c.in_ok-result.ensures.fits) in
+    let same = written t _ _ _ _ _ c.new-instrs.ensures c.in_ok-emit.ensures.code c.in_ok-result.ensures.stands c.in_ok-put.ensures c.in_ok-emit.ensures.loops in
+    IfOk-weaker c.of-2.result (λ p. p ≡ _) (λ p. Follows t p) (λ p e. subst (λ (p : Assembled). Follows t p) (sym (e ∙ same)) (tied_follows t c.requires.sampleable fits)) c.of-2.ensures

@@ -15,6 +15,7 @@ use Rattle.sampler_run.proofs.stepping.run_on.Goals as goal
 pub loop-outcome-init : goal.loop-outcome-init
 loop-outcome-init c = record {
   shape = own_shape _;
+  here = refl;
   at = c.at-i.ensures.instruction;
   within = c.at-i.ensures.within;
   answered = c.requires.answered;
@@ -63,6 +64,7 @@ loop-outcome-preserved c =
     let next = c.move_on-pace.ensures.next in
     record {
       shape = shape_join _ _ _ i.shape e.shape;
+      here = next;
       at = subst (λ k. slice_get c.args.code.now.instrs k ≡ Some (instruction_of c.at-i-in-loop-outcome.result.now)) next c.at-i-in-loop-outcome.ensures.instruction;
       within = subst (λ k. k + 1 < 2 ^ 64) next c.at-i-in-loop-outcome.ensures.within;
       answered = taken_answered c.args.code.now.instrs c.args.limits.now (machine_of c.loop-outcome.m) (machine_of c.move_on-pace.new.m) _ _ i.answered e.takes;

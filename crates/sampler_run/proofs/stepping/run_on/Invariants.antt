@@ -12,6 +12,7 @@ use Rattle.sampler_run.proofs.stepping.run_on.Given as goal
 abbrev pub invariant-loop-outcome : goal.invariant-loop-outcome
 invariant-loop-outcome l = record {
   shape : SameShape l.initial.m l.m;
+  here : l.here ≡ l.m.index;
   at : slice_get l.code.instrs l.m.index ≡ Some (instruction_of l.i);
   within : l.m.index + 1 < 2 ^ 64;
   answered : Answered l.code.instrs l.limits (machine_of l.m);
