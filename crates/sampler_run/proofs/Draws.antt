@@ -1,18 +1,15 @@
 -- A draw below a bound, from registers to registers.
 use Rattle.std.proofs.Common.{◌≡◌, ℕ, ◌<◌, ◌≤◌, pos, List, length, refl, sym, ap, ◌∙◌, subst, arith}
 use Rattle.std.specs.Prelude.{◌^◌, slice_get, Some}
-use Rattle.gcl_core.specs.declared.answers.Fault.TheVariants.{BadBound}
 use Rattle.gcl_core.specs.declared.answers.Limits.{Limits}
 use Rattle.gcl_core.specs.declared.answers.Outcome.{Outcome}
-use Rattle.gcl_core.specs.declared.answers.Outcome.TheVariants as outcome
-use Rattle.gcl_core.specs.meaning.Blocks.{by_bound}
 use Rattle.gcl_core.specs.meaning.Draw.{bits_for}
 use Rattle.gcl_core.specs.meaning.Syntax.{Expression}
 use Rattle.gcl_core.specs.meaning.Value.{value_of}
 use Rattle.zar_io.specs.FileBits.{low_bits}
 use Rattle.sampler_code.specs.Depths.{greatest_depth}
 use Rattle.sampler_code.specs.Instruction.{Instruction, Range}
-use Rattle.sampler_code.specs.Machine.{Drawing, idle, below, Machine, goes, ends, act, step, stored, first_attempt, ranges, on_value_next}
+use Rattle.sampler_code.specs.Machine.{Drawing, idle, below, Machine, goes, ends, act, step, stored, first_attempt, ranges, on_bound}
 use Rattle.sampler_code.specs.Sound.{Sound}
 use Rattle.sampler_code.specs.inner.Bounded.{rest_of, Answered}
 use Rattle.sampler_run.specs.declared.drawing.Attempt.{Attempt}
@@ -50,13 +47,13 @@ stands_at m b t d is = ap (λ (d : Drawing). let n : Machine = record m { tries 
 
 module _ (code : List Instruction) (l : Limits) (x : ℕ) (e : Expression) (m : Machine) (at : slice_get code m.index ≡ Some (Range x e)) (idles : m.drawing ≡ idle) where
   -- the step of a draw that is not under way
-  step_idle : step code l m ≡ on_value_next (value_of e m.vars) (λ v. by_bound v (ends (outcome.Fault BadBound)) (λ b. goes (first_attempt l m b)))
+  step_idle : step code l m ≡ on_bound (value_of e m.vars) (λ b. goes (first_attempt l m b))
   step_idle = ap (λ o. act l o m) at ∙ ap (λ d. ranges l x e m d) idles
 
-  pub idle_ends : (o : Outcome) → on_value_next (value_of e m.vars) (λ v. by_bound v (ends (outcome.Fault BadBound)) (λ b. goes (first_attempt l m b))) ≡ ends o → step code l m ≡ ends o
+  pub idle_ends : (o : Outcome) → on_bound (value_of e m.vars) (λ b. goes (first_attempt l m b)) ≡ ends o → step code l m ≡ ends o
   idle_ends o none = step_idle ∙ none
 
-  pub idle_begins : (word left b need : ℕ) → Answered code l m → on_value_next (value_of e m.vars) (λ v. by_bound v (ends (outcome.Fault BadBound)) (λ b. goes (first_attempt l m b))) ≡ goes (first_attempt l m b) →
+  pub idle_begins : (word left b need : ℕ) → Answered code l m → on_bound (value_of e m.vars) (λ b. goes (first_attempt l m b)) ≡ goes (first_attempt l m b) →
       (b < 2 ^ 63) × (0 < b) → need < 64 → need ≡ bits_for b → HasBegun code l m word left b (record { need = need; low = 0; tries = l.attempts; used = m.used; left = left })
   idle_begins word left b need h some small few is =
       let first : first_attempt l m b ≡ at_trial m b (record { need = need; low = 0; tries = l.attempts; used = m.used; left = left }) =

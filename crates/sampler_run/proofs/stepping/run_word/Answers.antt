@@ -10,7 +10,7 @@ use Rattle.sampler_run.proofs.Settle.{within}
 use Rattle.sampler_run.proofs.Shapes.{own_shape, shape_join}
 use Rattle.sampler_run.proofs.Takes.{takes_none, takes_join}
 use Rattle.sampler_run.proofs.Words.{fewer_left, taken_answered}
-use Rattle.sampler_run.proofs.stepping.run_on.Goals as goal
+use Rattle.sampler_run.proofs.stepping.run_word.Goals as goal
 
 pub loop-outcome-init : goal.loop-outcome-init
 loop-outcome-init c = record {
@@ -44,7 +44,7 @@ move_on-pace-requires-clause-can c =
     let code = c.args.code.now.instrs in
     let m = c.loop-outcome.m in
     let i = c.loop-outcome.invariant in
-    let f = fewer_left _ _ c.args.left.now c.loop-outcome.left c.args.word i.takes in
+    let f = fewer_left _ _ c.args.left c.loop-outcome.rest c.args.word i.takes in
     let b = c.requires.bits in
     record {
       room = subst (λ n. greatest_depth code ≤ n) (sym i.shape.stack) c.requires.room;
@@ -55,7 +55,7 @@ move_on-pace-requires-clause-can c =
 
 pub loop-outcome-smaller : goal.loop-outcome-smaller
 loop-outcome-smaller c =
-    subst (λ p. MovedTo c.args.code.now.instrs c.args.limits.now c.loop-outcome.m c.move_on-pace.new.m c.loop-outcome.left c.move_on-pace.new.left p) c.in-On.is c.move_on-pace.ensures.moved.moved
+    subst (λ p. MovedTo c.args.code.now.instrs c.args.limits.now c.loop-outcome.m c.move_on-pace.new.m c.loop-outcome.rest c.move_on-pace.new.left p) c.in-On.is c.move_on-pace.ensures.moved.moved
 
 pub loop-outcome-preserved : goal.loop-outcome-preserved
 loop-outcome-preserved c =
@@ -75,12 +75,12 @@ pub returns-in-NeedBit : goal.returns-in-NeedBit
 returns-in-NeedBit c =
     let i = c.loop-outcome.invariant in
     let e = c.move_on-pace.ensures.moved in
-    let moved = subst (λ p. MovedTo c.args.code.now.instrs c.args.limits.now c.loop-outcome.m c.move_on-pace.new.m c.loop-outcome.left c.move_on-pace.new.left p) c.in-NeedBit.is e.moved in
-    let t = takes_join _ _ _ (low_bits c.args.left.now c.args.word) (low_bits c.loop-outcome.left c.args.word) (low_bits c.move_on-pace.new.left c.args.word) i.takes e.takes in
+    let moved = subst (λ p. MovedTo c.args.code.now.instrs c.args.limits.now c.loop-outcome.m c.move_on-pace.new.m c.loop-outcome.rest c.move_on-pace.new.left p) c.in-NeedBit.is e.moved in
+    let t = takes_join _ _ _ (low_bits c.args.left c.args.word) (low_bits c.loop-outcome.rest c.args.word) (low_bits c.move_on-pace.new.left c.args.word) i.takes e.takes in
     record {
       takes = t;
       rests = moved.0;
-      left = fewer_left _ _ c.args.left.now c.move_on-pace.new.left c.args.word t;
+      left = fewer_left _ _ c.args.left c.move_on-pace.new.left c.args.word t;
       used_up = λ h. moved.1;
       shape = shape_join _ _ _ i.shape e.shape;
     }
@@ -89,11 +89,11 @@ pub returns-in-Ended : goal.returns-in-Ended
 returns-in-Ended c =
     let i = c.loop-outcome.invariant in
     let e = c.move_on-pace.ensures.moved in
-    let t = takes_join _ _ _ (low_bits c.args.left.now c.args.word) (low_bits c.loop-outcome.left c.args.word) (low_bits c.move_on-pace.new.left c.args.word) i.takes e.takes in
+    let t = takes_join _ _ _ (low_bits c.args.left c.args.word) (low_bits c.loop-outcome.rest c.args.word) (low_bits c.move_on-pace.new.left c.args.word) i.takes e.takes in
     record {
       takes = t;
-      rests = subst (λ p. MovedTo c.args.code.now.instrs c.args.limits.now c.loop-outcome.m c.move_on-pace.new.m c.loop-outcome.left c.move_on-pace.new.left p) c.in-Ended.is e.moved;
-      left = fewer_left _ _ c.args.left.now c.move_on-pace.new.left c.args.word t;
+      rests = subst (λ p. MovedTo c.args.code.now.instrs c.args.limits.now c.loop-outcome.m c.move_on-pace.new.m c.loop-outcome.rest c.move_on-pace.new.left p) c.in-Ended.is e.moved;
+      left = fewer_left _ _ c.args.left c.move_on-pace.new.left c.args.word t;
       used_up = λ h. absurd (cc);
       shape = shape_join _ _ _ i.shape e.shape;
     }

@@ -7,7 +7,7 @@ use Rattle.sampler_run.specs.inner.Shape.{SameShape}
 use Rattle.sampler_run.specs.inner.Taken.{Takes}
 use Rattle.sampler_run.specs.Views.{machine_of}
 use Rattle.sampler_run.specs.inner.Going.{to_go}
-use Rattle.sampler_run.proofs.stepping.run_on.Given as goal
+use Rattle.sampler_run.proofs.stepping.run_word.Given as goal
 
 abbrev pub invariant-loop-outcome : goal.invariant-loop-outcome
 invariant-loop-outcome l = record {
@@ -16,8 +16,8 @@ invariant-loop-outcome l = record {
   at : slice_get l.code.instrs l.m.index ≡ Some (instruction_of l.i);
   within : l.m.index + 1 < 2 ^ 64;
   answered : Answered l.code.instrs l.limits (machine_of l.m);
-  takes : Takes (rest_of l.code.instrs l.limits (machine_of l.initial.m)) (rest_of l.code.instrs l.limits (machine_of l.m)) (low_bits l.initial.left l.word) (low_bits l.left l.word);
+  takes : Takes (rest_of l.code.instrs l.limits (machine_of l.initial.m)) (rest_of l.code.instrs l.limits (machine_of l.m)) (low_bits l.left l.word) (low_bits l.rest l.word);
 }
 
 abbrev pub decreases-loop-outcome : goal.decreases-loop-outcome
-decreases-loop-outcome l = to_go l.code.instrs l.limits l.left (machine_of l.m)
+decreases-loop-outcome l = to_go l.code.instrs l.limits l.rest (machine_of l.m)
