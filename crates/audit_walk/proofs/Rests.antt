@@ -5,7 +5,6 @@ use Rattle.gcl_core.specs.declared.answers.Answer.{Answer}
 use Rattle.gcl_core.specs.declared.answers.Answer.TheVariants.{Ended, MoreBits}
 use Rattle.gcl_core.specs.declared.answers.Outcome.{Outcome}
 use Rattle.sampler_code.specs.Running.{Reached}
-use Rattle.sampler_run.specs.declared.machine.Progress.{Progress}
 use Rattle.sampler_run.specs.declared.machine.Progress.TheVariants as progress
 use Rattle.sampler_run.specs.Held.{Held, Ahead, IsRestOf, StandsAfter}
 use Rattle.sampler_run.specs.Telling.{Tells, progress_in}
@@ -18,9 +17,6 @@ rest_here s t run h r v = let d = r v in (d.0, (h v (record { answer = run v; pl
 pub rest_behind : (b : Bool) (s t : Held) (run : List Bool → Answer) → StandsAfter (b ∷ []) s t → IsRestOf s run →
     IsRestOf t (λ v. run (b ∷ v))
 rest_behind b s t run h r v = let d = r (b ∷ v) in (d.0, (h v (record { answer = run (b ∷ v); place = d.0 })).1 d.1)
-
-pub tells_here : (s t : Held) (p : Progress) → StandsAfter [] s t → Tells s p → Tells t p
-tells_here s t p h told a r = told a ((h [] a).0 r)
 
 -- ---- what a state tells
 

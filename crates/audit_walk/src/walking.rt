@@ -1,9 +1,9 @@
 // The walk over the bit strings of one length, by forked states.
 
-ghost use Rattle.std.specs.Prelude.{◌<◌, ◌≤◌, true, false, [], ◌∷◌, IfOk, IfSome, IfNone};
+ghost use Rattle.std.specs.Prelude.{◌≡◌, ◌<◌, ◌≤◌, [], All, IfOk, OnOk, IfSome, IfNone};
 ghost use Rattle.std.specs.Thread.{IsSync};
 ghost use Rattle.sampler_run.specs.declared.machine.Progress.TheVariants.{NeedBit};
-ghost use Rattle.sampler_run.specs.Held.{StandsAfter};
+ghost use Rattle.sampler_run.specs.Held.{StandsAfter, set_back};
 ghost use Rattle.sampler_run.specs.Telling.{Tells};
 ghost use Rattle.audit_walk.specs.declared.auditing.TheConstants.{MOST_DEPTH};
 ghost use Rattle.audit_walk.specs.inner.Counts.{IsCountFrom};
@@ -28,31 +28,49 @@ fn decided(alloc: Global, state: &State<'_>, left: u32) -> Result<Option<Audit>,
     }
 }
 
-// The run after a further 0, and after a further 1.
-fn sides<'s>(alloc: Global, state: State<'s>) -> Result<(State<'s>, State<'s>), AllocError>
-    requires needs { Tells state NeedBit }
-    ensures zero { IfOk result (λ p. StandsAfter (false ∷ []) state.entry p.0) }
-    ensures one { IfOk result (λ p. StandsAfter (true ∷ []) state.entry p.1) }
+// A run that stands where this one does, in the room of one that is spare, where there is one.
+fn forked<'s>(
+    alloc: Global,
+    state: &State<'s>,
+    spare: &mut Vec<State<'s>>,
+) -> Result<State<'s>, AllocError>
+    requires same { All (λ s. set_back s ≡ set_back state.now) spare.old.items }
+    ensures stands { IfOk result (λ s. StandsAfter [] state.now s) }
+    ensures start { IfOk result (λ s. set_back s ≡ set_back state.now) }
+    ensures same { All (λ s. set_back s ≡ set_back state.now) spare.new.items }
 {
-    let mut zero = state;
-    let mut one = zero.fork(alloc)?;
-    zero.feed(false);
-    one.feed(true);
-    Ok((zero, one))
+    match spare.pop() {
+        None => state.fork(alloc),
+        Some(mut room) => {
+            room.fork_from(state);
+            Ok(room)
+        }
+    }
 }
 
-// The audit of a run over the strings of so many further bits. Where the run needs a bit it is forked; where it has ended it is not
-// continued.
-fn walk(alloc: Global, state: State<'_>, left: u32) -> Result<Audit, AllocError>
+// The audit of a run over the strings of so many further bits. Where the run needs a bit it is forked, and the fork is spare again once
+// it was walked; where the run has ended it is not continued.
+fn walk<'s>(
+    alloc: Global,
+    state: &mut State<'s>,
+    spare: &mut Vec<State<'s>>,
+    left: u32,
+) -> Result<Audit, AllocError>
     requires left { left ≤ MOST_DEPTH }
-    ensures { IfOk result (λ a. IsCountFrom state.entry left a.rows a.undecided) }
+    requires same { All (λ s. set_back s ≡ set_back state.old) spare.old.items }
+    ensures count { IfOk result (λ a. IsCountFrom state.old left a.rows a.undecided) }
+    ensures start { OnOk result (set_back state.new ≡ set_back state.old) }
+    ensures same { OnOk result (All (λ s. set_back s ≡ set_back state.old) spare.new.items) }
 {
-    if let Some(audit) = decided(alloc, &state, left)? {
+    if let Some(audit) = decided(alloc, state, left)? {
         return Ok(audit);
     }
-    let (zero, one) = sides(alloc, state)?;
-    let first = walk(alloc, zero, left - 1)?;
-    let second = walk(alloc, one, left - 1)?;
+    let mut one = forked(alloc, state, spare)?;
+    state.feed(false);
+    one.feed(true);
+    let first = walk(alloc, state, spare, left - 1)?;
+    let second = walk(alloc, &mut one, spare, left - 1)?;
+    spare.push(one)?;
     first.add(alloc, second)
 }
 
@@ -69,14 +87,17 @@ pub(crate) fn spread<R: Threads + Sync>(
     ensures { IfOk result (λ a. IsCountFrom state.now left a.rows a.undecided) }
 {
     if forks == 0 {
-        let whole = state.fork(alloc)?;
-        return walk(alloc, whole, left);
+        let mut whole = state.fork(alloc)?;
+        let mut spare = Vec::new(alloc);
+        return walk(alloc, &mut whole, &mut spare, left);
     }
     if let Some(audit) = decided(alloc, state, left)? {
         return Ok(audit);
     }
-    let whole = state.fork(alloc)?;
-    let (zero, one) = sides(alloc, whole)?;
+    let mut zero = state.fork(alloc)?;
+    let mut one = state.fork(alloc)?;
+    zero.feed(false);
+    one.feed(true);
     let rest = left - 1;
     let fewer = forks - 1;
     let (lower, upper) = (&zero, &one);

@@ -6,7 +6,6 @@ use Rattle.sampler_run.specs.Telling.{Tells}
 use Rattle.sampler_run.proofs.Standing.{stands_then}
 use Rattle.audit_walk.specs.inner.Sums.{AddsUp}
 use Rattle.audit_walk.specs.inner.Counts.{IsCountFrom}
-use Rattle.audit_walk.proofs.Rests.{tells_here}
 use Rattle.audit_walk.proofs.Counted.{both_fit, fork_counts, sides_count}
 use Rattle.audit_walk.proofs.walking.+spreads.Goals as goal
 
@@ -15,18 +14,12 @@ returns-then-forks-eq0 g t c =
     let s = c.args.state.now in
     let whole = c.in_ok-whole.whole in
     IfOk-weaker c.walk.result (λ a. IsCountFrom whole c.args.left a.rows a.undecided) (λ a. IsCountFrom s c.args.left a.rows a.undecided)
-    (λ a p. fork_counts s whole c.args.left a.rows a.undecided c.in_ok-whole.ensures.rest p) c.walk.ensures
-
-pub sides-requires : goal.sides-requires
-sides-requires g t c =
-    let s = c.args.state.now in
-    let told = subst (λ o. IfNone o (Tells s NeedBit)) c.in_default.is c.in_ok-audit.ensures.needs in
-    record { needs = tells_here s c.in_ok-whole-2.whole NeedBit c.in_ok-whole-2.ensures.rest told }
+    (λ a p. fork_counts s whole c.args.left a.rows a.undecided c.in_ok-whole.ensures.rest p) c.walk.ensures.count
 
 pub add-requires : goal.add-requires
 add-requires g t c =
-    let zero = c.in_ok-zero.zero in
-    let one = c.in_ok-zero.one in
+    let zero = c.feed.new.self in
+    let one = c.feed-2.new.self in
     let less = c.args.left - 1 in
     record {
       fits = both_fit zero one less _ _ _ _ (omega arith) (IfOk-at_ok (λ a. IsCountFrom zero less a.rows a.undecided) c.in_ok-first.was c.join-first.ensures.first)
@@ -36,9 +29,8 @@ add-requires g t c =
 pub returns : goal.returns
 returns g t c =
     let s = c.args.state.now in
-    let whole = c.in_ok-whole-2.whole in
-    let zero = c.in_ok-zero.zero in
-    let one = c.in_ok-zero.one in
+    let zero = c.feed.new.self in
+    let one = c.feed-2.new.self in
     let less = c.args.left - 1 in
     let first = c.in_ok-first.field-0 in
     let second = c.in_ok-second.field-0 in
@@ -47,8 +39,8 @@ returns g t c =
     IfOk-weaker c.add.result (λ a. AddsUp first.rows second.rows a.rows × (a.undecided ≡ first.undecided + second.undecided))
     (λ a. IsCountFrom s c.args.left a.rows a.undecided)
     (λ a sums. sides_count s zero one c.args.left less first.rows second.rows a.rows first.undecided second.undecided a.undecided told (omega arith)
-    (stands_then [] (false ∷ []) s whole zero c.in_ok-whole-2.ensures.rest c.in_ok-zero.ensures.zero)
-    (stands_then [] (true ∷ []) s whole one c.in_ok-whole-2.ensures.rest c.in_ok-zero.ensures.one)
+    (stands_then [] (false ∷ []) s c.in_ok-zero.zero zero c.in_ok-zero.ensures.rest c.feed.ensures.fed)
+    (stands_then [] (true ∷ []) s c.in_ok-one.one one c.in_ok-one.ensures.rest c.feed-2.ensures.fed)
     (IfOk-at_ok (λ a. IsCountFrom zero less a.rows a.undecided) {r = c.join-first.result.0} c.in_ok-first.was c.join-first.ensures.first)
     (IfOk-at_ok (λ a. IsCountFrom one less a.rows a.undecided) {r = c.join-first.result.1} c.in_ok-second.was c.join-first.ensures.second) sums)
     c.add.ensures
