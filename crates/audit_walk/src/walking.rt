@@ -48,7 +48,7 @@ fn forked<'s>(
     }
 }
 
-// The audit of a run over the strings of so many further bits. Where the run needs a bit it is forked, and the fork is spare again once
+// The audit of a run over the strings of `left` further bits. Where the run needs a bit it is forked, and the fork is spare again once
 // it was walked; where the run has ended it is not continued.
 fn walk<'s>(
     alloc: Global,
@@ -74,7 +74,7 @@ fn walk<'s>(
     first.add(alloc, second)
 }
 
-// The same, where each side of the next so many bits that the run needs is walked in a thread of its own.
+// The same, where each side of the next `forks` bits that the run needs is walked in a thread of its own.
 #[cycle(spreads)]
 pub(crate) fn spread<R: Threads + Sync>(
     rt: &R,

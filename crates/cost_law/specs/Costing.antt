@@ -17,7 +17,7 @@ pub record DrawCosts (ends : List ℕ) (r : ℕ) : Type 0 where
   pub draw : (L : ℕ) → number_bits ends * r ≤ L → IsShare (draw_lengths ends r L) (2 ^ L) (draw_bits ends r)
   pub fraction : 1 ≤ (draw_bits ends r).1
 
--- What answers on bits costs so many bits: never more, and exactly so at every length that suffices. Such a length is the limit of
+-- What answers on bits reads this many bits on average: never more, and exactly that at every length that suffices. Such a length is the limit of
 -- rounds times the longest reading of the body.
 pub record CostsExactly (run : List Bool → Answer) (p : SourceProgram) (l : Limits) (bits : Fraction) : Type 0 where
   pub within : (L : ℕ) → IsWithinShare (run_lengths run L) (2 ^ L) bits

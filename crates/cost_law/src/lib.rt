@@ -18,8 +18,8 @@ pub fn draws_cost_exactly()
 {}
 
 /// It does nothing: its clause is the law of costs, for every checked program, all limits, and whatever answers on bits as the run of
-/// the program does. The lengths of the strings on which it ends, summed by their weights, are at most the bits that the statements let
-/// expect, and exactly those at every length at which no string needs more bits. Such a length is the limit of rounds times the longest
+/// the program does. The lengths of the strings on which it ends, summed by their weights, are at most the expected number of bits that
+/// the statements give, and exactly that at every length at which no string needs more bits. Such a length is the limit of rounds times the longest
 /// reading of the body.
 pub fn runs_cost_exactly()
     ensures { (p : SourceProgram) (l : Limits) (run : List Bool → Answer) → IsChecked p → ((w : List Bool) → run w ≡ run_on p l w) → CostsExactly run p l (expected_bits p l) }

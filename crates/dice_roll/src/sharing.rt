@@ -7,7 +7,7 @@ ghost use Rattle.dice_roll.specs.Shares.{shares_of};
 use crate::rules::MOST_WEIGHED_FLIPS;
 use frac128::Frac;
 
-/// The weight of each of `m` labels within so many bits, and the weight that is left to the limit, as fractions in
+/// The weight of each of `m` labels within `flips` bits, and the weight that is left to the limit, as fractions in
 /// lowest terms. `None` comes exactly where there are more bits than [`MOST_WEIGHED_FLIPS`].
 #[tactic(auto, using(crate::proofs::Fairness::fair))]
 pub fn share(m: u64, flips: u64) -> Option<(Frac, Frac)>

@@ -250,7 +250,7 @@ fn kinds_and_names(rt: HostRuntime) -> Result<(), Fail> {
     Ok(())
 }
 
-// So many names of two bytes.
+// `count` names of two bytes.
 fn many_names(alloc: Global, count: u32) -> Result<Names, AllocError>
     requires { count < 1000 }
 {

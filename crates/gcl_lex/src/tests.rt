@@ -105,7 +105,7 @@ fn tokens_have_their_kinds_and_spans(rt: HostRuntime) -> Result<(), Fail> {
     Ok(())
 }
 
-// The front, so many times the byte, and the back.
+// The front, `count` times the byte, and the back.
 fn filled(
     alloc: Global,
     front: &[u8],

@@ -170,7 +170,7 @@ impl Parser<'_> {
         Ok(Arms { arms: found })
     }
 
-    /// Another arm comes, where so many may.
+    /// Another arm comes, where `more` of them may.
     fn goes_on(&self, more: usize) -> bool
         ensures { IsTrue result ↔ ((0 < more) × (first self.now ≡ Some (Word.Sym Sym.Bar))) }
     {

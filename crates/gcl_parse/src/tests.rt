@@ -56,7 +56,7 @@ fn answers_stand_at_their_places(rt: HostRuntime) -> Result<(), Fail> {
     Ok(())
 }
 
-// A choice among so many arms, and a result.
+// A choice among `count` arms, and a result.
 fn arms(alloc: Global, count: usize) -> Result<Vec<u8>, AllocError> {
     let mut text = b"choose{".to_vec(alloc)?;
     for i in 0..count {
@@ -100,7 +100,7 @@ fn arms_are_from_two_to_sixteen(rt: HostRuntime) -> Result<(), Fail> {
     Ok(())
 }
 
-// The front, so many times the byte, the middle, so many times the other byte, and the back.
+// The front, `count` times the byte, the middle, as many times the other byte, and the back.
 fn filled(
     alloc: Global,
     front: &[u8],

@@ -1,4 +1,4 @@
-//! The generated program of a number: a large program that is accepted.
+//! The generated program of a number, which is accepted.
 #![tactic(auto)]
 
 mod generating;

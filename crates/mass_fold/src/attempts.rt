@@ -3,7 +3,7 @@
 ghost use Rattle.std.specs.Prelude.{◌≤◌, IfSome};
 ghost use Rattle.std.proofs.Props.{props};
 
-/// At most so many attempts for each draw, at least 1, or as many as it takes.
+/// The most attempts for each draw, at least 1, or no limit.
 #[derive(Clone, Copy)]
 pub struct Attempts {
     pub most: Option<u64>,

@@ -17,9 +17,8 @@ use crate::table::Table;
 use gcl_core::Checked;
 use std::alloc::Global;
 
-/// The states after the body of a program, each with its weight, and the weights of what ended, at most so many turns for each entry
-/// of a loop, and attempts for each draw or as many as it takes. The meter
-/// counts the bits of the draws that are reached.
+/// The states after the body of a program, each with its weight, and the weights of what ended, under a limit of turns for each entry
+/// of a loop, and with or without a limit of attempts for each draw. The meter counts the bits of the draws that are reached.
 pub fn fold_body(
     alloc: Global,
     p: &Checked,

@@ -38,8 +38,8 @@ pub fn power(base: &Frac, count: u64) -> Option<Frac>
     Some(product)
 }
 
-/// The weights of one number of a draw with so many numbers, and of none of them, under a limit of attempts or none; no weights where
-/// they do not fit.
+/// For a uniform draw below `bound`: the probability of each number, and that all attempts are rejected. `None` where either needs
+/// more than 128 bits.
 pub fn parts(bound: u64, attempts: Attempts) -> Option<(Frac, Frac)>
     requires least { 1 ≤ bound }
     requires most { bound ≤ 2 ^ 63 }
@@ -115,7 +115,7 @@ fn spread(
     Ok(())
 }
 
-// The draw of one state of weight f, with so many numbers.
+// The draw below `bound` of one state of weight f.
 fn draw_state(
     alloc: Global,
     x: u32,

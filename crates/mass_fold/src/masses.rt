@@ -75,7 +75,7 @@ pub fn round(
 /// The mass of each outcome of a program, by merged tables of states.
 ///
 /// `turns` and `attempts` are as for `round`. `rounds` is the limit of rounds, from 1 to 10^9; where there is none, what a round gives is
-/// taken to the whole of what does not fail.
+/// divided by the probability that a round does not fail.
 ///
 /// `TooWide` comes only where the width of the program under these limits is above 2^128 − 1, and `TooManyStates` only where some point
 /// of the program is reached with more than 65,536 states. `AllFailed` comes only where rounds have no limit and each round fails; there

@@ -26,9 +26,9 @@ use gcl_core::{Arms, Expr, MOST_ARMS, Weight, eval};
 pub enum Meter {
     /// Bits are not counted.
     Off,
-    /// So many bits.
+    /// The number of bits.
     Bits(Frac),
-    /// So many that two numbers of 128 bits are too few.
+    /// More than two numbers of 128 bits can say.
     TooWide,
 }
 
@@ -60,7 +60,7 @@ fn add(meter: Meter, bits: &Frac, f: &Frac) -> Meter
     }
 }
 
-// The bits of a draw with so many numbers on average, where an attempt reads `undecided` over 2^k; none, where they do not fit.
+// The expected bits of a draw below `bound`, where an attempt reads `undecided` over 2^k. `None` where they do not fit.
 fn price(undecided: u128, bound: u64, attempts: Attempts) -> Option<Frac>
     requires least { 1 ≤ bound }
     requires most { bound ≤ 2 ^ 63 }

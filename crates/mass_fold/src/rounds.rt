@@ -13,7 +13,7 @@ use gcl_core::{Limit, Outcome};
 use std::alloc::Global;
 use std::collections::BTreeMap;
 
-/// s + f s + .. for so many rounds; none where it does not fit. Where f is 0, one round is all.
+/// s + f s + .., a term for each round. `None` where it does not fit. Where f is 0, one round is all.
 pub fn repeated(s: &Frac, f: &Frac, rounds: u64) -> Option<Frac>
     requires { 1 ≤ rounds }
     ensures value { IfSome result (IsRepeated s.now f.now rounds) }
@@ -43,7 +43,7 @@ fn all_failed(f: &Frac, rounds: u64) -> Option<Frac>
     power(f, rounds)
 }
 
-/// The weights of an outcome in so many rounds, from those in one: each further round gives it the same weight times that of all
+/// The weights of an outcome in `rounds` rounds, from those in one: each further round gives it the same weight times that of all
 /// rounds before to fail. What fails in all of them is the limit of rounds.
 pub fn in_rounds(
     alloc: Global,
@@ -66,7 +66,7 @@ pub fn in_rounds(
     Ok(masses)
 }
 
-/// The weights of all rounds without a limit, from those in one: each taken to the whole of what does not fail.
+/// The weights of all rounds without a limit, from those in one: each divided by the probability that a round does not fail.
 pub fn over_rest(
     alloc: Global,
     table: BTreeMap<Outcome, Frac>,

@@ -15,7 +15,7 @@ use std::collections::BTreeMap;
 
 pub const MOST_STATES: usize = 65_536;
 
-/// States of so many variables, each once, with its weight.
+/// States of `vars` variables, each once, with its weight.
 #[derive(Drop)]
 pub struct Table {
     /// How many variables each state has.
@@ -43,7 +43,7 @@ fn sum_at(table: &BTreeMap<State, Frac>, s: &State, f: &Frac) -> Result<Frac, Ma
 }
 
 impl Table {
-    /// No states yet, of so many variables.
+    /// No states yet, of `vars` variables.
     pub fn new(alloc: Global, vars: u32) -> Table
         ensures vars { result.vars ≡ vars }
         ensures empty { result.states.entries ≡ [] }
@@ -54,7 +54,7 @@ impl Table {
         }
     }
 
-    /// One state, of so many variables that are 0, with the weight 1.
+    /// One state, of `vars` variables that are 0, with the weight 1.
     pub fn start(alloc: Global, vars: u32) -> Result<Table, MassError>
         ensures one { IfOk result (λ t. t.states.entries ≡ (zeros vars, (1, 1)) ∷ []) }
         ensures vars { IfOk result (λ t. t.vars ≡ vars) }

@@ -17,7 +17,7 @@ use std::alloc::Global;
 
 /// Bounds of the mass of each value and each fault that hold for every greater limit of turns, without limits of attempts and of rounds.
 ///
-/// `turns` is the limit of turns for each entry of a loop, at most 10^9. Let a round of so many turns give an outcome S, the limit of
+/// `turns` is the limit of turns for each entry of a loop, at most 10^9. Let a round of `turns` turns give an outcome S, the limit of
 /// turns u, and fail with f. The values and faults with S above 0 have a row, with the bounds S/(1 − f) and (S + u)/(1 − f). Every other
 /// has at most u/(1 − f).
 ///

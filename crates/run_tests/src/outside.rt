@@ -125,7 +125,7 @@ fn bits_come_from_the_most_significant_of_each_byte(rt: HostRuntime) -> Result<(
     Ok(())
 }
 
-// As many bits lie ready, those of this word, and so many of them are taken.
+// `count` bits lie ready, those of this word, and `taken` of them are taken.
 fn assert_ready<B: Bits>(rt: &impl Abort, bits: &mut B, word: u64, count: u32, taken: u32) {
     let ready = bits.peek();
     assert_eq!(rt; ready, Ready { word, count });

@@ -26,7 +26,7 @@ pub(crate) fn program(alloc: Global, text: &str) -> Result<Checked, Fail> {
     let bytes = text.as_bytes();
     let tokens = lex(alloc, bytes)?;
     if tokens.len() > LONGEST_TEXT {
-        return Err(Fail::from("a text of so many tokens"));
+        return Err(Fail::from("a text with too many tokens"));
     }
     let parsed = parse(alloc, bytes, tokens.as_slice())?;
     Ok(check(parsed.program)?)

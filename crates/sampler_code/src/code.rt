@@ -107,7 +107,7 @@ impl Code {
         self.loops
     }
 
-    /// The number of variables. Each variable of an instruction is below it. A run over so many reaches an answer.
+    /// The number of variables. Each variable of an instruction is below it. A run over that many variables reaches an answer.
     pub fn vars(&self) -> u32
         ensures value { result ≡ self.now.vars }
         ensures tree { IsCode self.now }

@@ -56,7 +56,7 @@ impl Tally {
         self.rows.iter()
     }
 
-    // Counts so many more for a key. An error comes only where memory runs out.
+    // Counts n more for a key. An error comes only where memory runs out.
     pub(crate) fn add(&mut self, key: TallyKey, n: u64) -> Result<(), AllocError>
         requires some { 0 < n }
         requires fits { count_in self.old key + n < 2 ^ 64 }

@@ -11,7 +11,7 @@ use zar_io::{MemSink, Open};
 // Which calls fail in turn.
 #[derive(Clone, Copy)]
 enum Failing {
-    // Those for the files, of which there are so many.
+    // Those for the files: how many there are.
     Files(u64),
     // The writes of the answer.
     Out,

@@ -29,7 +29,7 @@ pub struct Progress<'r, R: Clock + Eprint> {
 }
 
 impl<'r, R: Clock + Eprint> Progress<'r, R> {
-    /// Tells of a count of so many streams, which begins now. Without a number it tells nothing.
+    /// Shows how far a count of `streams` streams is, which begins now. Without a number it shows nothing.
     pub fn new(rt: &'r R, streams: Option<u64>) -> Progress<'r, R> {
         Progress {
             rt,

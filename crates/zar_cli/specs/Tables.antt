@@ -21,7 +21,7 @@ bound_rows_text rows = rows_text (λ row. bound_text row.0 row.1 row.2) rows
 abbrev pub bounds_text : List (Outcome × Fraction × Fraction) → Fraction → List ℕ
 bounds_text rows other = bound_rows_text rows ++ (if other.0 == 0 then [] else other_text other)
 
--- so many of the strings of a length, as a fraction in lowest terms
+-- n of the strings of `depth` bits, as a fraction in lowest terms
 abbrev pub share_of : ℕ → ℕ → Fraction
 share_of depth n = lowest (n, 2 ^ depth)
 

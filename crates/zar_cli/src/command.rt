@@ -44,7 +44,7 @@ impl FileName {
 pub enum Source {
     /// The file of this name.
     File(FileName),
-    /// The stream of this seed and this number, up to so many bits.
+    /// A stream: its seed, its number, and the most bits that are read of it.
     Stream(u64, u64, u64),
 }
 
@@ -73,7 +73,7 @@ pub enum Command {
     Code(FileName),
     /// Tallies the generated program of this number.
     Gen(u32),
-    /// Draws one of so many labels by the Fast Dice Roller with at most so many flips, on the bits of a source; without one, weighs
+    /// Draws a label by the Fast Dice Roller: how many labels, the most flips, and the source of bits; without a source, weighs
     /// the labels.
     Fast(u64, u64, Option<Source>),
     /// Tells of all commands, of the options of one, or of the version.

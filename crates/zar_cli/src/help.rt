@@ -148,7 +148,7 @@ zar show FILE
 zar code FILE
     list the code that samples it
 zar gen N
-    make a large program from a number, and print its size and a tally of it
+    generate a program from a number, and print its size and a tally of it
 zar fast N
     draw one of N labels, or print what they weigh
 zar help COMMAND
@@ -239,7 +239,7 @@ pub const CODE: Page = (
 
 pub const GEN: Page = (
     "zar gen N
-    make a large program from a number, ",
+    generate a program from a number, ",
     &[&[
         ("", Some(LEAST_GENERATED)),
         (" to ", Some(GREATEST_NUMBER as u64)),

@@ -11,8 +11,8 @@ use weighing_law::{limits_cost_what_they_weigh, runs_weigh_exactly, strings_are_
 
 /// It does nothing: its clause joins what `sample` says with what its program states, for every text that spells a program, and all
 /// limits. Over files that hold the text and some bits, `sample` says how the program's run on the bits ends. The strings of bits on
-/// which it ends in an outcome weigh exactly the fraction that the program states under these limits, and so many of the strings of a
-/// length end in it. What the limits of attempts and of rounds cost is no more than they weigh.
+/// which it ends in an outcome weigh exactly the fraction that the program states under these limits, and as many of the strings of each
+/// length end in it as these weights say. What the limits of attempts and of rounds cost is no more than they weigh.
 pub fn zar_samples_exactly()
     ensures { (text : List ℕ) (p : SourceProgram) (l : Limits) → Spells text p → SamplesExactly text p l }
 {

@@ -50,7 +50,7 @@ pub fn bounds_text(alloc: Global, bounds: &Bounds) -> Result<Text, AllocError>
     Ok(text)
 }
 
-// So many of the strings of a length.
+// `count` of the 2^depth strings of `depth` bits, as a fraction.
 fn share_of(depth: u32, count: u64) -> Frac
     requires { depth ≤ 20 }
     ensures { result ≡ share_of depth count }

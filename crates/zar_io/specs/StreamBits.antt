@@ -13,7 +13,7 @@ stream_word seed stream t = word_at 10 (key_of (to_le_bytes w64 seed ++ replicat
 abbrev pub word_bit : (ℕ → ℕ) → ℕ → Bool
 word_bit word n = word (n / 32) / 2 ^ (31 - n % 32) % 2 == 1
 
--- so many bits, from bit number n on
+-- k bits, from bit number n on
 unfoldable pub word_bits : (ℕ → ℕ) → ℕ → ℕ → List Bool
 word_bits word n zero = []
 word_bits word n (suc k) = word_bit word n ∷ word_bits word (n + 1) k

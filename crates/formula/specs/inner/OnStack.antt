@@ -17,7 +17,7 @@ abbrev pub under : List ℤ → ℕ → List ℤ
 under slots zero = []
 under slots (suc n) = slice_index_or slots (suc n) (pos 0) ∷ under slots n
 
--- a stack of so many values
+-- a stack of n values
 abbrev pub values : ℤ → ℕ → List ℤ → List ℤ
 values top zero slots = []
 values top (suc n) slots = top ∷ under slots n
@@ -33,7 +33,7 @@ StandFor steps vars room = (e : Expression) × (steps ≡ steps_of e) × Express
 
 -- ---- one step
 
--- What one step leads to: past the next so many steps, with these values; or to a fault.
+-- What one step leads to: past a number of the next steps, with these values; or to a fault.
 pub data Moved : Type 0 where
   on : ℕ → List ℤ → Moved
   fails : Fault → Moved

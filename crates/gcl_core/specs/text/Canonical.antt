@@ -138,7 +138,7 @@ abbrev pub else_lines : ℕ → Statements → List Mark → List Mark
 else_lines n done lines = []
 else_lines n (s ▸ b) lines = line n (between key.Else) ++ lines
 
--- ---- statements, with so many blocks around them
+-- ---- statements, with n blocks around them
 
 abbrev mutual
   pub statement_lines : ℕ → Statement → List Mark

@@ -7,7 +7,7 @@ use Rattle.gcl_core.specs.text.Words.{names_of, words_of}
 use Rattle.gcl_core.specs.text.Grammar.{ReadsProgram}
 use Rattle.gcl_core.specs.text.Places.{places_in_program}
 
--- the place of the token from which on so many are left
+-- the place of the token from which on `left` tokens are left
 abbrev pub place_before : List ℕ → List Token → ℕ → ℕ
 place_before text tokens left = place_of text tokens (length tokens - left)
 

@@ -117,7 +117,7 @@ mutual
         → ReadsArms (MOST_ARMS - 1) mid arms (word.Sym sym.RightBrace ∷ rest)
         → ReadsStatement (word.Key key.Choose ∷ word.Sym sym.LeftBrace ∷ word.Number n ∷ word.Sym sym.Colon ∷ ts) (Choose (arm n b arms)) rest
 
-  -- from one arm to so many
+  -- one arm or more, at most as many as the number says
   pub data ReadsArms : ℕ → List Word → ArmList → List Word → Type 0 where
     last_arm : {k n : ℕ} {ts rest : List Word} {b : Statements} → ReadsBlock ts b rest
         → ReadsArms (suc k) (word.Number n ∷ word.Sym sym.Colon ∷ ts) (arm n b no_arm) rest

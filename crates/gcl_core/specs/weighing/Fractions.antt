@@ -39,10 +39,10 @@ IsOne p = p.0 ≡ p.1
 abbrev pub AtMost : Fraction → Fraction → Type 0
 AtMost p q = p.0 * q.1 ≤ q.0 * p.1
 
--- so many of `all` are this fraction of them
+-- `many` is this fraction of `all`
 abbrev pub IsShare : ℕ → ℕ → Fraction → Type 0
 IsShare many all p = p.1 * many ≡ p.0 * all
 
--- so many of `all` are at most this fraction of them
+-- `many` is at most this fraction of `all`
 abbrev pub IsWithinShare : ℕ → ℕ → Fraction → Type 0
 IsWithinShare many all p = p.1 * many ≤ p.0 * all

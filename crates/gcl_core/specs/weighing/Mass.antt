@@ -1,5 +1,5 @@
 -- The mass of an outcome: the fraction that the statements give it, with rounds that fail an observation begun anew, as in cpGCL
--- what does not fail is taken to the whole. Under a limit of rounds what is left is the mass of that limit.
+-- normalised by the probability that a round does not fail. Under a limit of rounds what is left is the mass of that limit.
 use Rattle.std.specs.Prelude.{ℕ, Bool, true, false, [], ◌∷◌, length, Option, Some, None, if◌then◌else◌}
 use Rattle.gcl_core.specs.declared.answers.Limit.TheVariants.{Rounds}
 use Rattle.gcl_core.specs.declared.answers.Outcome.{Outcome}
@@ -42,7 +42,7 @@ module _ (p : SourceProgram) (n : ℕ) (r : Option ℕ) where
   -- ---- all rounds
 
   -- The outcomes that are meant, in one of R rounds, and the limit of rounds where it is meant and all have failed. Without a limit of
-  -- rounds, where a round fails with less than all weight, what a round gives is taken to the whole.
+  -- rounds, where a round fails with probability below 1, what a round gives is divided by the probability that it does not fail.
   abbrev pub mass_of_those : Option ℕ → (Outcome → Bool) → Fraction
   mass_of_those (Some R) meant =
       plus (times (round_mass meant) (power_sum failed_mass R)) (if meant (outcome.Limit Rounds) then power failed_mass R else zero_share)

@@ -95,7 +95,7 @@ abbrev pub arms_before : List (ℕ × Block) → ArmList → ArmList
 arms_before [] arms = arms
 arms_before (a ∷ found) arms = arm a.0 (statements_of a.1) (arms_before found arms)
 
--- an arm and at most so many behind it, up to the brace behind them; these arms were found before
+-- an arm and at most n behind it, up to the brace behind them; these arms were found before
 abbrev pub ParsesArms : ℕ → List (ℕ × Block) → List Word → Result Arms Halt → List Word → Type 0
 ParsesArms n found old (Ok a) new =
     (arms : ArmList) × (list_of_arms a ≡ arms_before found arms) × ReadsArms (suc n) old arms (w.Sym y.RightBrace ∷ new)

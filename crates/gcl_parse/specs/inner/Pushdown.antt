@@ -36,7 +36,7 @@ pub data Symbol : Type 0 where
   block : Symbol
   -- an `else` with its block, or nothing
   otherwise : Symbol
-  -- behind the block of an arm: `|` and another arm, at most so many times, and `}`
+  -- behind the block of an arm: `|` and another arm, at most as often as the number says, and `}`
   arms : ℕ → Symbol
 
 -- what is left once the word is taken, if an atom may begin with it
@@ -72,7 +72,7 @@ abbrev pub goes_on : Level → Option BinOp → Bool
 goes_on l None = false
 goes_on l (Some o) = rank (level_of o) == rank l
 
--- `NUMBER : block`, and at most so many arms behind it
+-- `NUMBER : block`, and at most n arms behind it
 abbrev pub arm_and_more : ℕ → List Symbol
 arm_and_more n = number ∷ sym y.Colon ∷ block ∷ arms n ∷ []
 

@@ -56,7 +56,7 @@ Weighed w es fs = (N : ℕ) (I : Table) → 0 < N → Wholes N I → Wholes N (s
 abbrev pub WeighBlames : Fraction → Entries → MassError → Type 0
 WeighBlames w es e = (N L : ℕ) (I : Table) → 0 < N → Whole N w → Wholes N I → Wholes N (scaled w I) → Stands N es I → weight N (scaled w I) ≤ N → states (scaled w I) ≤ L → Blames e N L
 
--- the same by so many parts of a draw, where they are as much as u
+-- the same by `count` parts of a draw, where they are as much as u
 abbrev pub WeighedBy : Fraction → ℕ → Entries → Entries → Type 0
 WeighedBy part count es fs = (u : Fraction) → 0 < u.1 → part.0 * count * u.1 ≡ u.0 * part.1 → Weighed u es fs
 

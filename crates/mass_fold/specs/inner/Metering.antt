@@ -24,7 +24,7 @@ use Rattle.mass_fold.specs.Metering.{IsPriced, Priced, price}
 
 -- ---- a meter
 
--- so many parts more, of X parts of a bit; where there is no room for them, 128 bits are too few for X times any bound of the whole
+-- `many` parts more, of X parts of a bit; where there is no room for them, 128 bits are too few for X times any bound of the whole
 abbrev pub CountedOn : ℕ → ℕ → Fraction → Meter → Type 0
 CountedOn X many f Off = ⊥
 CountedOn X many f (Bits g) = Whole X f → Whole X g × (whole X g ≡ whole X f + many)
