@@ -12,7 +12,8 @@ use Rattle.gcl_core.specs.meaning.Parts.{HaveArmCount, AreParts}
 use Rattle.std.specs.List.{sum}
 use Rattle.gcl_core.specs.meaning.Keeping.{IsChecked}
 use Rattle.gcl_core.specs.text.ReadingOrder.{statement_listed, listed, arms_listed}
-use Rattle.gcl_core.specs.meaning.Lowest.{lowest_terms, common_divisor, lowest_parts, divided, lowest_arms, statement_in_lowest, block_in_lowest, arms_in_lowest, in_lowest}
+use Rattle.gcl_core.specs.meaning.Divisor.{common_divisor}
+use Rattle.gcl_core.specs.meaning.Lowest.{lowest_terms, lowest_parts, divided, lowest_arms, statement_in_lowest, block_in_lowest, arms_in_lowest, in_lowest}
 use Rattle.gcl_core.specs.meaning.Syntax.{Statement, Skip, Set, If, While, Choice, Choose, Uniform, Observe, Statements, done, ◌▸◌, ArmList, no_arm, arm, SourceProgram}
 use Rattle.gcl_core.specs.text.Targets.{statement_sets, sets, arms_set}
 use Rattle.gcl_core.proofs.LowestTerms.{lowest_positive, lowest_at_most_one, lowest_again}

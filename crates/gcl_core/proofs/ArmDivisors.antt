@@ -6,7 +6,7 @@ use Rattle.std.specs.Int.{IsGcd}
 use Rattle.std.specs.List.{sum}
 use Rattle.std.proofs.lemmas.Nat.Gcd.{dvd-zero, dvd_refl, dvd_trans}
 use Rattle.std.proofs.Math.Nat.{eq-zero_of_zero-dvd}
-use Rattle.gcl_core.specs.meaning.Lowest.{common_divisor}
+use Rattle.gcl_core.specs.meaning.Divisor.{common_divisor}
 use Rattle.gcl_core.proofs.LowestParts.{DividesEach, divides_sum, divisor_is}
 
 pub record Gathered (g : ℕ) (left all : List ℕ) : Type 0 where

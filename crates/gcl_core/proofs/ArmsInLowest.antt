@@ -6,7 +6,8 @@ use Rattle.gcl_core.specs.declared.syntax.Weight.{Weight}
 use Rattle.gcl_core.specs.meaning.Arms.{parts_of}
 use Rattle.gcl_core.specs.meaning.Bounds.{ArmsBelow, ArmsFit, ArmsWeights}
 use Rattle.gcl_core.specs.text.ReadingOrder.{listed, arms_listed}
-use Rattle.gcl_core.specs.meaning.Lowest.{common_divisor, lowest_parts, divided, lowest_arms, arms_in_lowest, block_in_lowest}
+use Rattle.gcl_core.specs.meaning.Divisor.{common_divisor}
+use Rattle.gcl_core.specs.meaning.Lowest.{lowest_parts, divided, lowest_arms, arms_in_lowest, block_in_lowest}
 use Rattle.gcl_core.specs.meaning.Syntax.{ArmList, no_arm, arm}
 use Rattle.gcl_core.specs.text.Targets.{sets, arms_set}
 

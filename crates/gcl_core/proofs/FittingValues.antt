@@ -13,7 +13,7 @@ use Rattle.gcl_core.specs.meaning.Bounds.{ExpressionFits}
 use Rattle.gcl_core.specs.meaning.Fitting.{state_fits}
 use Rattle.gcl_core.specs.meaning.Outcomes.{zeros}
 use Rattle.gcl_core.specs.meaning.Syntax.{Expression, Num, Truth, Var, Neg, Not, Bin}
-use Rattle.gcl_core.specs.meaning.Value.{State, Value, value_of, ◌>>=◌, fits_64, within_64, truth_number, is_zero, as_truth, quotient_of, applied}
+use Rattle.gcl_core.specs.meaning.Value.{State, Value, value_of, ◌>>=◌, fits_64, within_64, truth_number, is_zero, quotient_of, applied}
 use Rattle.gcl_core.proofs.Booleans.{both}
 
 -- ---- numbers
@@ -126,9 +126,8 @@ applied_fits Ge x y h = truth_fits (int_le y x)
 applied_fits And x y h = truth_fits (not (is_zero x) && not (is_zero y))
 applied_fits Or x y h = truth_fits (not (is_zero x) || not (is_zero y))
 
-as_truth_fits : (v : Value) → ValueFits (as_truth v)
-as_truth_fits (Ok x) = truth_fits (not (is_zero x))
-as_truth_fits (Err f) = tt
+right_fits : (op : BinOp) (x : ℤ) (v : Value) → ValueFits v → ValueFits (v >>= λ y. applied op x y)
+right_fits op x v h = then_fits v _ h (λ y fy. applied_fits op x y fy)
 
 pub each_value_fits : (e : Expression) (s : State) → ExpressionFits e → state_fits s ≡ true → ValueFits (value_of e s)
 each_value_fits (Num z) s fit h = fit
@@ -137,11 +136,11 @@ each_value_fits (Var x) s fit h = variable_fits s x h
 each_value_fits (Neg a) s fit h = then_fits (value_of a s) _ (each_value_fits a s fit h) (λ v _. within_fits (neg_ℤ v))
 each_value_fits (Not a) s fit h = then_fits (value_of a s) _ (each_value_fits a s fit h) (λ v _. truth_fits (is_zero v))
 each_value_fits (Bin And a b) s fit h =
-    then_fits (value_of a s) _ (each_value_fits a s fit.0 h) (λ x _. if_fits (is_zero x) (Ok (pos 0)) (as_truth (value_of b s)) (λ _. refl) (λ _. as_truth_fits (value_of b s)))
+    then_fits (value_of a s) _ (each_value_fits a s fit.0 h) (λ x _. if_fits (is_zero x) (Ok (pos 0)) _ (λ _. refl) (λ _. right_fits And x (value_of b s) (each_value_fits b s fit.1 h)))
 each_value_fits (Bin Or a b) s fit h =
-    then_fits (value_of a s) _ (each_value_fits a s fit.0 h) (λ x _. if_fits (is_zero x) (as_truth (value_of b s)) (Ok (pos 1)) (λ _. as_truth_fits (value_of b s)) (λ _. refl))
+    then_fits (value_of a s) _ (each_value_fits a s fit.0 h) (λ x _. if_fits (is_zero x) _ (Ok (pos 1)) (λ _. right_fits Or x (value_of b s) (each_value_fits b s fit.1 h)) (λ _. refl))
 each_value_fits (Bin op a b) s fit h =
-    then_fits (value_of a s) _ (each_value_fits a s fit.0 h) (λ x _. then_fits (value_of b s) _ (each_value_fits b s fit.1 h) (λ y fy. applied_fits op x y fy))
+    then_fits (value_of a s) _ (each_value_fits a s fit.0 h) (λ x _. right_fits op x (value_of b s) (each_value_fits b s fit.1 h))
 
 pub value_fits : (e : Expression) (s : State) (v : ℤ) → ExpressionFits e → state_fits s ≡ true → value_of e s ≡ Ok v → fits_64 v ≡ true
 value_fits e s v fit h is = subst ValueFits is (each_value_fits e s fit h)

@@ -12,6 +12,7 @@ pub mod Order
 pub mod LimitRange
 pub mod Runs
 pub mod Bounds
+pub mod Divisor
 pub mod Lowest
 pub mod Keeping
 pub mod Fitting

@@ -3,7 +3,8 @@
 ghost use Rattle.std.specs.Prelude.{◌≡◌, ◌≤◌, ◌<◌, Some, length, get_or};
 ghost use Rattle.std.specs.List.{sum};
 ghost use Rattle.gcl_core.specs.meaning.Arms.{parts_of, block_at};
-ghost use Rattle.gcl_core.specs.meaning.Lowest.{common_divisor, lowest_arms};
+ghost use Rattle.gcl_core.specs.meaning.Divisor.{common_divisor};
+ghost use Rattle.gcl_core.specs.meaning.Lowest.{lowest_arms};
 ghost use Rattle.gcl_core.specs.meaning.Views.{list_of_arms, statements_of};
 
 use crate::lowest::greatest_common;

@@ -1,5 +1,5 @@
--- What a block does from a state on a list of bits: how it ends, with the bits that are left, or that it needs more bits.
--- The statements are those of cpGCL; the limits are this project's own rule.
+-- What a block does from a state. Its statements say it once, for whatever it is done in: on a list of bits, as the end of this page has
+-- it, or by weight, as WeightedEnds has it. The statements are those of cpGCL; the limits are this project's own rule.
 use Rattle.std.specs.Prelude.{ℕ, zero, suc, ℤ, pos, negsuc, Bool, List, Option, Some, None, Ok, Err, if◌then◌else◌, slice_set}
 use Rattle.gcl_core.specs.declared.answers.Fault.{Fault}
 use Rattle.gcl_core.specs.declared.answers.Fault.TheVariants.{BadBound}
@@ -53,50 +53,73 @@ by_end failed stop go = stop failed
 by_end (fault f) stop go = stop (fault f)
 by_end (limit l) stop go = stop (limit l)
 
--- with a value, before the bits w; a fault ends the block
-abbrev pub value_on : Value → List Bool → (ℤ → Reading End) → Reading End
-value_on v w go = by_value v (λ f. gives (fault f) w) go
+-- ---- statements
 
--- with the class that a draw gives; where no attempt gave one, the limit of attempts ends the block
-abbrev pub class_on : Reading (Option ℕ) → (ℕ → List Bool → Reading End) → Reading End
-class_on x go = after x (λ class rest. by_class class (gives (limit Attempts) rest) (λ i. go i rest))
+-- M is what something is done in. In it:
+--   end e        ends at once, by the end e;
+--   go_on m k    does m, and goes on with k s where m ends in a state s; every other end of m is the end of it all;
+--   draw cs k    draws a class, where cs are the ends of the classes, and goes on with k i where it is class i.
+module _ {M : Type 0} (end : End → M) (go_on : M → (State → M) → M) where
+  -- with a value; a fault ends the block
+  abbrev pub value_in : Value → (ℤ → M) → M
+  value_in v k = by_value v (λ f. end (fault f)) k
+
+  -- At most t turns of a loop: its guard is evaluated before each, and where it is found true once more the turns have run out.
+  abbrev pub loop_in : (State → Value) → (State → M) → ℕ → State → M
+  loop_in guard body zero s = value_in (guard s) (λ v. by_truth v (end (limit Turns)) (end (on s)))
+  loop_in guard body (suc t) s = value_in (guard s) (λ v. by_truth v (go_on (body s) (loop_in guard body t)) (end (on s)))
+
+  module _ (draw : List ℕ → (ℕ → M) → M) where
+    -- x is set to a number below the bound v, each with the same weight
+    abbrev pub uniform_in : (x : ℕ) (v : ℤ) → State → M
+    uniform_in x v s = by_bound v (end (fault BadBound)) (λ m. draw (uniform_ends m) (λ i. end (on (slice_set s x (pos i)))))
+
+    -- under a limit of n turns for each entry of a loop
+    module _ (n : ℕ) where
+      abbrev mutual
+        pub statement_in : Statement → State → M
+        statement_in Skip s = end (on s)
+        statement_in (Set x e) s = value_in (value_of e s) (λ v. end (on (slice_set s x v)))
+        statement_in (Observe e) s = value_in (value_of e s) (λ v. by_truth v (end (on s)) (end failed))
+        statement_in (If e a c) s = value_in (value_of e s) (λ v. by_truth v (block_in a s) (block_in c s))
+        statement_in (Choice p a c) s = draw (choice_ends p) (λ i. by_side i (block_in a s) (block_in c s))
+        statement_in (Choose arms) s = draw (partial_sums (parts_of arms)) (λ i. arm_in arms i s)
+        statement_in (Uniform x e) s = value_in (value_of e s) (λ v. uniform_in x v s)
+        statement_in (While e a) s = loop_in (value_of e) (block_in a) n s
+
+        pub block_in : Statements → State → M
+        block_in done s = end (on s)
+        block_in (st ▸ b) s = go_on (statement_in st s) (block_in b)
+
+        -- the arm with this number; a draw gives no number that none has
+        pub arm_in : ArmList → ℕ → State → M
+        arm_in no_arm i s = end (on s)
+        arm_in (arm p b arms) zero s = block_in b s
+        arm_in (arm p b arms) (suc i) s = arm_in arms i s
+
+-- ---- on a list of bits: how a block ends, with the bits that are left, or that it needs more bits
 
 -- with the state in which a part of the block ends; every other end of it is the block's
 abbrev pub end_on : Reading End → (State → List Bool → Reading End) → Reading End
 end_on x go = after x (λ e rest. by_end e (λ e. gives e rest) (λ s. go s rest))
 
--- ---- statements
+-- with the class that a draw gives; where no attempt gave one, the limit of attempts ends the block
+abbrev pub class_on : Reading (Option ℕ) → (ℕ → List Bool → Reading End) → Reading End
+class_on x go = after x (λ class rest. by_class class (gives (limit Attempts) rest) (λ i. go i rest))
 
--- x is set to a number below the bound v, each with the same weight, by at most r attempts
-abbrev pub uniform_on : (r x : ℕ) (v : ℤ) → State → List Bool → Reading End
-uniform_on r x v s w =
-    by_bound v (gives (fault BadBound) w) (λ m. class_on (draw_on (uniform_ends m) r w) (λ i rest. gives (on (slice_set s x (pos i))) rest))
+abbrev pub go_on_bits : (List Bool → Reading End) → (State → List Bool → Reading End) → List Bool → Reading End
+go_on_bits m go w = end_on (m w) go
 
--- At most t turns of a loop: its guard is evaluated before each, and where it is found true once more the turns have run out.
+-- by at most r attempts
+abbrev pub draw_on_bits : ℕ → List ℕ → (ℕ → List Bool → Reading End) → List Bool → Reading End
+draw_on_bits r cs go w = class_on (draw_on cs r w) go
+
 abbrev pub loop_on : (State → Value) → (State → List Bool → Reading End) → ℕ → State → List Bool → Reading End
-loop_on guard body zero s w = value_on (guard s) w (λ v. by_truth v (gives (limit Turns) w) (gives (on s) w))
-loop_on guard body (suc t) s w =
-    value_on (guard s) w (λ v. by_truth v (end_on (body s w) (loop_on guard body t)) (gives (on s) w))
+loop_on = loop_in gives go_on_bits
 
 -- under limits of n turns for each entry of a loop and r attempts for each draw
-module _ (n r : ℕ) where
-  abbrev mutual
-    pub statement_on : Statement → State → List Bool → Reading End
-    statement_on Skip s w = gives (on s) w
-    statement_on (Set x e) s w = value_on (value_of e s) w (λ v. gives (on (slice_set s x v)) w)
-    statement_on (Observe e) s w = value_on (value_of e s) w (λ v. by_truth v (gives (on s) w) (gives failed w))
-    statement_on (If e a c) s w = value_on (value_of e s) w (λ v. by_truth v (block_on a s w) (block_on c s w))
-    statement_on (Choice p a c) s w = class_on (draw_on (choice_ends p) r w) (λ i rest. by_side i (block_on a s rest) (block_on c s rest))
-    statement_on (Choose arms) s w = class_on (draw_on (partial_sums (parts_of arms)) r w) (λ i rest. arm_on arms i s rest)
-    statement_on (Uniform x e) s w = value_on (value_of e s) w (λ v. uniform_on r x v s w)
-    statement_on (While e a) s w = loop_on (value_of e) (block_on a) n s w
+abbrev pub statement_on : (n r : ℕ) → Statement → State → List Bool → Reading End
+statement_on n r = statement_in gives go_on_bits (draw_on_bits r) n
 
-    pub block_on : Statements → State → List Bool → Reading End
-    block_on done s w = gives (on s) w
-    block_on (st ▸ b) s w = end_on (statement_on st s w) (block_on b)
-
-    -- the arm with this number; a draw gives no number that none has
-    pub arm_on : ArmList → ℕ → State → List Bool → Reading End
-    arm_on no_arm i s w = gives (on s) w
-    arm_on (arm p b arms) zero s w = block_on b s w
-    arm_on (arm p b arms) (suc i) s w = arm_on arms i s w
+abbrev pub block_on : (n r : ℕ) → Statements → State → List Bool → Reading End
+block_on n r = block_in gives go_on_bits (draw_on_bits r) n

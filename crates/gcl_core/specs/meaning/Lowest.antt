@@ -1,25 +1,13 @@
 -- Weights in lowest terms, the parts of a choice among several in lowest terms, and programs in which all are.
-use Rattle.std.specs.Prelude.{ℕ, zero, suc, ◌/◌, ◌%◌, ◌&&◌, ◌==◌, if◌then◌else◌, List, map}
-use Rattle.std.specs.List.{sum, list_all}
+use Rattle.std.specs.Prelude.{ℕ, ◌/◌, List, [], ◌∷◌, map}
 use Rattle.gcl_core.specs.declared.syntax.Weight.{Weight}
 use Rattle.gcl_core.specs.meaning.Arms.{parts_of}
+use Rattle.gcl_core.specs.meaning.Divisor.{common_divisor}
 use Rattle.gcl_core.specs.meaning.Syntax.{Statement, Skip, Set, If, While, Choice, Choose, Uniform, Observe, Statements, done, ◌▸◌, ArmList, no_arm, arm, SourceProgram}
 
--- the greatest number from 1 to n that divides both, or 1
-unfoldable pub greatest_divisor : ℕ → ℕ → ℕ → ℕ
-greatest_divisor a b zero = 1
-greatest_divisor a b (suc n) = if a % suc n == 0 && b % suc n == 0 then suc n else greatest_divisor a b n
-
 abbrev pub lowest_terms : Weight → Weight
-lowest_terms w = record { num = w.num / greatest_divisor w.num w.den w.den; den = w.den / greatest_divisor w.num w.den w.den }
-
--- the greatest number from 1 to n that divides each part, or 1
-unfoldable pub greatest_of : List ℕ → ℕ → ℕ
-greatest_of ps zero = 1
-greatest_of ps (suc n) = if list_all (λ p. p % suc n == 0) ps then suc n else greatest_of ps n
-
-abbrev pub common_divisor : List ℕ → ℕ
-common_divisor ps = greatest_of ps (sum ps)
+lowest_terms w =
+    record { num = w.num / common_divisor (w.num ∷ w.den ∷ []); den = w.den / common_divisor (w.num ∷ w.den ∷ []) }
 
 abbrev pub lowest_parts : List ℕ → List ℕ
 lowest_parts ps = map (λ p. p / common_divisor ps) ps

@@ -1,6 +1,6 @@
 -- What a run of a program answers on a list of bits. A failed observation begins a new round, as in cpGCL the mass that does
 -- not fail an observation is what counts; the limit of rounds and the count of bits are this project's own rule.
-use Rattle.std.specs.Prelude.{ℕ, zero, suc, ◌-◌, ◌^◌, min, Bool, List, length}
+use Rattle.std.specs.Prelude.{ℕ, zero, suc, ◌-◌, ◌^◌, min, Bool, List, [], length}
 use Rattle.gcl_core.specs.declared.answers.Limit.TheVariants.{Rounds}
 use Rattle.gcl_core.specs.declared.answers.Outcome.{Outcome}
 use Rattle.gcl_core.specs.declared.answers.Outcome.TheVariants as outcome
@@ -28,6 +28,15 @@ rounds_with body result (suc R) w = after (body w) (λ e rest. by_round e result
 abbrev pub rounds_on : SourceProgram → ℕ → ℕ → ℕ → List Bool → Reading Outcome
 rounds_on p n r R w = rounds_with (block_on n r p.body (zeros (length p.names))) p.result R w
 
+-- a run of the program: its outcome, with the bits that it leaves
+abbrev pub reads : SourceProgram → Limits → List Bool → Reading Outcome
+reads p l w = rounds_on p l.turns l.attempts l.rounds w
+
+-- the bits that a reading leaves; none where it needs more
+abbrev pub left_by : {A : Type 0} → Reading A → List Bool
+left_by (gives x rest) = rest
+left_by more_bits = []
+
 -- the number of bits read saturates at 2 ^ 64 - 1
 abbrev pub capped : ℕ → ℕ
 capped n = min n (2 ^ 64 - 1)
@@ -38,4 +47,4 @@ answer_of w more_bits = MoreBits (capped (length w))
 
 -- the run on bits: its outcome with the number of bits read, or that it needs a bit beyond them
 abbrev pub run_on : SourceProgram → Limits → List Bool → Answer
-run_on p l w = answer_of w (rounds_on p l.turns l.attempts l.rounds w)
+run_on p l w = answer_of w (reads p l w)

@@ -31,10 +31,6 @@ abbrev pub is_zero : ℤ → Bool
 is_zero (pos zero) = true
 is_zero _ = false
 
--- 1 in place of a value other than 0
-abbrev pub as_truth : Value → Value
-as_truth v = v >>= λ x. Ok (truth_number (not (is_zero x)))
-
 abbrev pub fits_64 : ℤ → Bool
 fits_64 (pos n) = nat_lt n (2 ^ 63)
 fits_64 (negsuc n) = nat_lt n (2 ^ 63)
@@ -73,8 +69,8 @@ value_of (Truth b) s = Ok (truth_number b)
 value_of (Var x) s = Ok (slice_index_or s x (pos 0))
 value_of (Neg a) s = value_of a s >>= λ x. within_64 (neg_ℤ x)
 value_of (Not a) s = value_of a s >>= λ x. Ok (truth_number (is_zero x))
-value_of (Bin And a b) s = value_of a s >>= λ x. if is_zero x then Ok (pos 0) else as_truth (value_of b s)
-value_of (Bin Or a b) s = value_of a s >>= λ x. if is_zero x then as_truth (value_of b s) else Ok (pos 1)
+value_of (Bin And a b) s = value_of a s >>= λ x. if is_zero x then Ok (pos 0) else (value_of b s >>= λ y. applied And x y)
+value_of (Bin Or a b) s = value_of a s >>= λ x. if is_zero x then (value_of b s >>= λ y. applied Or x y) else Ok (pos 1)
 value_of (Bin op a b) s = value_of a s >>= λ x. value_of b s >>= λ y. applied op x y
 
 -- each variable of the expression is below this count
