@@ -19,13 +19,14 @@ use Rattle.gcl_core.proofs.Trees.{worth, spread-add, spread-ext}
 use Rattle.gcl_core.proofs.TreeWeights.{chi}
 use Rattle.gcl_core.proofs.FittingValues.{zeros_fit}
 use Rattle.weighing_law.specs.LimitsCost.{is_cut_off, MayPass}
-use Rattle.weighing_law.proofs.ComparedBlocks.{Pair}
+use Rattle.gcl_core.proofs.CutPlays.{block_sound}
+use Rattle.weighing_law.proofs.WeighedPlays.{weighed_block}
+use Rattle.weighing_law.proofs.PlayWeights.{AtSomeScale, Pair}
 use Rattle.weighing_law.proofs.EveryLength.{worth-all}
 use Rattle.weighing_law.proofs.LimitedBlocks.{OfAttempts, CutOff, limited_block}
-use Rattle.weighing_law.proofs.Scales.{scale_of, scales, block_scale, block_scale_pos}
 use Rattle.weighing_law.proofs.Shares.{counts_sum, sum_pos, product_pos, cancel}
 use Rattle.weighing_law.proofs.WholeRuns.{all_bits, run_tree, run_within, event_mass, tree_share, mass_pos}
-use Rattle.weighing_law.proofs.WholeWeights.{Whole, whole_block, three_parts}
+use Rattle.weighing_law.proofs.WholeWeights.{Whole, play_whole, three_parts}
 
 -- ---- fractions
 open_sums : (N v u : ℕ) (p q : Fraction) → 0 < N → p.1 * v ≡ p.0 * N → q.1 * u ≡ q.0 * N → v ≤ u → AtMost p q
@@ -59,23 +60,23 @@ last_step s0 s1 t0 t1 p0 p1 q0 q1 a b c t q =
 
 -- ---- one round
 module _ (p : SourceProgram) (ok : IsChecked p) (n r : ℕ) where
-  abbrev scale : ℕ
-  scale = block_scale n (scale_of r) p.body
+  abbrev pair : AtSomeScale (λ N. Pair OfAttempts N (weighted_ends n (Some r) p.body (zeros (length p.names))) (weighted_ends n None p.body (zeros (length p.names))))
+  pair = limited_block n r p.body (checked_weights p ok) ok.numbers.body (zeros (length p.names)) (zeros_fit (length p.names))
 
-  abbrev pair : Pair OfAttempts scale (weighted_ends n (Some r) p.body (zeros (length p.names))) (weighted_ends n None p.body (zeros (length p.names)))
-  pair = limited_block n r (scale_of r) (scales r) p.body (checked_weights p ok) ok.numbers.body (zeros (length p.names)) (zeros_fit (length p.names))
-
-  pub whole : Whole scale (weighted_ends n None p.body (zeros (length p.names)))
-  whole = whole_block n r (scale_of r) (scales r) p.body (checked_weights p ok) ok.numbers.body (zeros (length p.names)) (zeros_fit (length p.names))
+  pub whole : AtSomeScale (λ N. Whole N (weighted_ends n None p.body (zeros (length p.names))))
+  whole =
+      subst (λ m. AtSomeScale (λ N. Whole N m)) (weighed_block None n p.body (zeros (length p.names)))
+      (play_whole r ⊥ _ _ _ (block_sound n r p.body (checked_weights p ok) ok.numbers.body (zeros (length p.names)) (zeros_fit (length p.names))))
 
   -- what is not cut off weighs no more under the limit
   round_below : (meant : End → Bool) → ((e : End) → CutOff e → meant e ≡ false) →
       AtMost (sum_of meant (weighted_ends n (Some r) p.body (zeros (length p.names)))) (sum_of meant (weighted_ends n None p.body (zeros (length p.names))))
   round_below meant cut =
-      open_sums scale (pair.low (chi meant)) (pair.high (chi meant)) (sum_of meant (weighted_ends n (Some r) p.body (zeros (length p.names)))) (sum_of meant (weighted_ends n None p.body (zeros (length p.names)))) (block_scale_pos n r p.body)
-      (counts_sum scale meant (weighted_ends n (Some r) p.body (zeros (length p.names))) _ (pair.low_counts (chi meant)))
-      (counts_sum scale meant (weighted_ends n None p.body (zeros (length p.names))) _ (pair.high_counts (chi meant)))
-      (pair.below (chi meant) (chi meant) (λ e bad. ap (λ t. cond t 1 0) (cut e bad)) (λ e. le_refl (chi meant e)))
+      let h = pair.holds in
+      open_sums pair.scale (h.low (chi meant)) (h.high (chi meant)) (sum_of meant (weighted_ends n (Some r) p.body (zeros (length p.names)))) (sum_of meant (weighted_ends n None p.body (zeros (length p.names)))) pair.positive
+      (counts_sum pair.scale meant (weighted_ends n (Some r) p.body (zeros (length p.names))) _ (h.low_counts (chi meant)))
+      (counts_sum pair.scale meant (weighted_ends n None p.body (zeros (length p.names))) _ (h.high_counts (chi meant)))
+      (h.below (chi meant) (chi meant) (λ e bad. ap (λ t. cond t 1 0) (cut e bad)) (λ e. le_refl (chi meant e)))
 
   outcome_below : (meant : Outcome → Bool) → meant (outcome.Limit Attempts) ≡ false → AtMost (round_mass p n (Some r) meant) (round_mass p n None meant)
   outcome_below meant spared =
@@ -164,12 +165,13 @@ module _ (p : SourceProgram) (l : Limits) (ok : IsChecked p) where
   mass_above passes meant =
       let n = l.turns in
       let r = l.attempts in
-      let N = block_scale n (scale_of r) p.body in
-      let some = block_scale_pos n r p.body in
+      let w = whole p ok n r in
+      let N = w.scale in
+      let some = w.positive in
       let m' = weighted_ends n None p.body (zeros (length p.names)) in
       let t1 = ends_in p.result meant in
       let t2 = ends_in p.result (neither meant) in
-      let parts = three_parts N t1 t2 is_failed m' N (apart p.result meant) (whole p ok n r) in
+      let parts = three_parts N t1 t2 is_failed m' N (apart p.result meant) w.holds in
       let S = round_mass p n None meant in
       let T = round_mass p n None (neither meant) in
       let f = failed_mass p n None in
@@ -192,4 +194,5 @@ module _ (p : SourceProgram) (l : Limits) (ok : IsChecked p) where
       let m = weighted_ends n None p.body (zeros (length p.names)) in
       let f = failed_mass p n None in
       let left : 0 < f.1 - f.0 = omega (arith, passes) in
-      product_pos (sum_of t m).1 (f.1 - f.0) (sum_pos (block_scale n (scale_of r) p.body) t (λ e. 1) m _ (block_scale_pos n r p.body) (whole p ok n r)) left
+      let w = whole p ok n r in
+      product_pos (sum_of t m).1 (f.1 - f.0) (sum_pos w.scale t (λ e. 1) m _ w.positive w.holds) left

@@ -2,7 +2,7 @@ pub mod Passing
 pub mod WeightedLists
 pub mod Matching
 pub mod DrawMatching
-pub mod Uniform
+pub mod WeighedPlays
 pub mod BlockMatching
 pub mod Shares
 pub mod RoundTrees
@@ -11,8 +11,7 @@ pub mod WholeRuns
 pub mod AllOutcomes
 pub mod WeighingLaw
 pub mod Comparing
-pub mod Scales
-pub mod ComparedBlocks
+pub mod PlayWeights
 pub mod LimitedBlocks
 pub mod WholeWeights
 pub mod Costs

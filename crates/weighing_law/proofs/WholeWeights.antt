@@ -1,30 +1,21 @@
--- Without a limit of attempts all ends of a block together weigh 1.
-use Rattle.std.proofs.Common.{◌≡◌, ℕ, zero, suc, ◌+◌, ◌*◌, ◌^◌, ◌≤◌, ◌<◌, ℤ, pos, negsuc, Bool, true, false, cond, Option, Some, None, Ok, Err, List, [], ◌∷◌, length, refl, subst, arith}
-use Rattle.std.specs.Prelude.{slice_set}
+-- Without a limit of attempts all ends of a play together weigh 1.
+use Rattle.std.proofs.Common.{◌≡◌, ℕ, ◌+◌, ◌*◌, ◌≤◌, Bool, true, Some, None, List, [], ◌∷◌, length, refl, subst, arith}
 use Rattle.std.proofs.lemmas.Bool.{ltb-true}
 use Rattle.std.proofs.Math.Nat.{mul-le-mul_left}
-use Rattle.gcl_core.specs.declared.answers.Fault.TheVariants.{BadBound}
-use Rattle.gcl_core.specs.declared.answers.Limit.TheVariants.{Turns, Attempts}
-use Rattle.gcl_core.specs.meaning.Bounds.{StatementIsWeighed, BlockIsWeighed, ArmsAreWeighed, StatementFits, BlockFits, ArmsFit}
-use Rattle.gcl_core.specs.meaning.Arms.{parts_of}
-use Rattle.gcl_core.specs.meaning.Parts.{partial_sums}
-use Rattle.gcl_core.specs.meaning.Syntax.{Statement, Skip, Set, If, While, Choice, Choose, Uniform, Observe, Statements, done, ◌▸◌, ArmList, no_arm, arm}
-use Rattle.gcl_core.specs.meaning.Value.{State, Value, value_of, is_zero, fits_64}
-use Rattle.gcl_core.specs.meaning.Draw.{last_from, last_end, choice_ends, uniform_ends}
-use Rattle.gcl_core.specs.meaning.Blocks.{End, on, failed, fault, limit, by_truth, by_class, by_side, by_end}
+use Rattle.gcl_core.specs.declared.answers.Limit.TheVariants.{Attempts}
+use Rattle.gcl_core.specs.meaning.Draw.{last_from, last_end}
+use Rattle.gcl_core.specs.meaning.Blocks.{limit}
+use Rattle.gcl_core.proofs.Plays.{Play}
 use Rattle.gcl_core.specs.weighing.OneDraw.{Ascends}
-use Rattle.gcl_core.specs.weighing.WeightedEnds.{Weighted, sure, taken_on, weighted_classes, uniform_weighted, loop_weighted, statement_weighted, weighted_ends, arm_weighted, value_weighted}
-use Rattle.gcl_core.specs.meaning.Fitting.{state_fits}
+use Rattle.gcl_core.specs.weighing.WeightedEnds.{Weighted, sure, taken_on, weighted_classes}
+use Rattle.weighing_law.proofs.WeighedPlays.{weighed}
+use Rattle.gcl_core.proofs.CutPlays.{Cut, same_end, no_turns, same_draw}
 use Rattle.gcl_core.proofs.DrawTrees.{class_sum}
 use Rattle.gcl_core.proofs.TreeWeights.{chi}
-use Rattle.gcl_core.proofs.FittingValues.{end_fits, value_fits}
-use Rattle.gcl_core.proofs.PartialSums.{last_is, sums_ascend}
-use Rattle.gcl_core.proofs.EqualClasses.{last_of_equal}
 use Rattle.weighing_law.proofs.Comparing.{counts_unlimited}
 use Rattle.weighing_law.proofs.DrawMatching.{class_below, draw_entries}
-use Rattle.weighing_law.proofs.LimitedBlocks.{limited_statement, limited_block}
-use Rattle.weighing_law.proofs.Scales.{Scale, loop_scale, statement_scale, block_scale, arms_scale}
-use Rattle.weighing_law.proofs.Uniform.{range_ascends}
+use Rattle.weighing_law.proofs.PlayWeights.{AtSomeScale, common}
+use Rattle.weighing_law.proofs.Shares.{product_pos}
 use Rattle.weighing_law.proofs.WeightedLists.{EachEntry, Counts, counts-more, counts_taken_on}
 
 counts-const : {A : Type 0} (N c : ℕ) (G : A → ℕ) (m : Weighted A) (v : ℕ) → Counts N G m v → Counts N (λ a. c * G a) m (c * v)
@@ -58,102 +49,21 @@ whole_draw ends K c2 up e =
     let p : class_sum (λ o. 1) 0 0 ends ≡ b = let h = parts_sum 0 0 ends up in omega arith in
     subst (λ n. Whole n (weighted_classes ends None)) e (whole_more b c2 (weighted_classes ends None) (subst (Counts b (λ o. 1) (weighted_classes ends None)) p (counts_unlimited ends (λ o. 1))))
 
--- ---- going on by cases
-whole_value : (N : ℕ) (v : Value) (k : ℤ → Weighted End) → ((z : ℤ) → v ≡ Ok z → Whole N (k z)) → Whole N (value_weighted v k)
-whole_value N (Ok z) k h = h z refl
-whole_value N (Err f) k h = whole_sure N (fault f)
-
-whole_truth : (N : ℕ) (z : ℤ) (m n : Weighted End) → Whole N m → Whole N n → Whole N (by_truth z m n)
-whole_truth N z m n p q = by_test (is_zero z)
-  where
-    by_test : (b : Bool) → Whole N (cond b n m)
-    by_test true = q
-    by_test false = p
-
-whole_end : (N : ℕ) (e : End) (k : State → Weighted End) → ((s : State) → state_fits s ≡ true → Whole N (k s)) → end_fits e ≡ true → Whole N (by_end e sure k)
-whole_end N (on s) k h p = h s p
-whole_end N failed k h p = whole_sure N failed
-whole_end N (fault f) k h p = whole_sure N (fault f)
-whole_end N (limit l) k h p = whole_sure N (limit l)
-
-whole_class : (N : ℕ) (o : Option ℕ) (k : ℕ → Weighted End) → ((i : ℕ) → Whole N (k i)) → Whole N (by_class o (sure (limit Attempts)) k)
-whole_class N None k h = whole_sure N (limit Attempts)
-whole_class N (Some i) k h = h i
-
-whole_side : (N i : ℕ) (m n : Weighted End) → Whole N m → Whole N n → Whole N (by_side i m n)
-whole_side N zero m n p q = p
-whole_side N (suc i) m n p q = q
-
-whole_loop : (S : ℕ) (guard : State → Value) (m : State → Weighted End) → ((s : State) → state_fits s ≡ true → EachEntry end_fits (m s)) → ((s : State) → state_fits s ≡ true → Whole S (m s)) →
-    (t : ℕ) (s : State) → state_fits s ≡ true → Whole (loop_scale S t) (loop_weighted guard m t s)
-whole_loop S guard m f h zero s p = whole_value 1 (guard s) _ (λ z e. whole_truth 1 z _ _ (whole_sure 1 (limit Turns)) (whole_sure 1 (on s)))
-whole_loop S guard m f h (suc t) s p =
-    let M = loop_scale S t in
-    whole_value (S * M) (guard s) _ (λ z e. whole_truth (S * M) z _ _
-    (whole_then end_fits S M (m s) _ (f s p) (h s p) (λ x q. whole_end M x _ (λ s' p'. whole_loop S guard m f h t s' p') q)) (whole_sure (S * M) (on s)))
-
--- ---- statements
-module _ (n r K : ℕ) (scale : Scale r K) where
-  whole_uniform : (x : ℕ) (z : ℤ) (s : State) → fits_64 z ≡ true → Whole (K * 1) (uniform_weighted None x z s)
-  whole_uniform x (pos zero) s f = whole_sure (K * 1) (fault BadBound)
-  whole_uniform x (negsuc m) s f = whole_sure (K * 1) (fault BadBound)
-  whole_uniform x (pos (suc m)) s f =
-      let e = last_of_equal (suc m) in
-      let small : suc m < 2 ^ 63 = ltb-true _ _ f in
-      let c = scale (last_end (uniform_ends (suc m))) (omega arith) (omega arith) in
-      let stored : ℕ → Weighted End = λ i. sure (on (slice_set s x (pos i))) in
-      whole_then (class_below (length (uniform_ends (suc m)))) K 1 (weighted_classes (uniform_ends (suc m)) None) (λ o. by_class o (sure (limit Attempts)) stored) (draw_entries (uniform_ends (suc m)) None)
-      (whole_draw (uniform_ends (suc m)) K c.1 (range_ascends 0 (suc m)) c.3) (λ o q. whole_class 1 o stored (λ i. whole_sure 1 (on (slice_set s x (pos i)))))
-
-  mutual
-    whole_statement : (st : Statement) → StatementIsWeighed st → StatementFits st → (s : State) → state_fits s ≡ true → Whole (statement_scale n K st) (statement_weighted n None st s)
-    whole_statement Skip ok f s p = whole_sure 1 (on s)
-    whole_statement (Set x e) ok f s p = whole_value 1 (value_of e s) _ (λ z q. whole_sure 1 (on (slice_set s x z)))
-    whole_statement (Observe e) ok f s p = whole_value 1 (value_of e s) _ (λ z q. whole_truth 1 z _ _ (whole_sure 1 (on s)) (whole_sure 1 failed))
-    whole_statement (If e a c) ok f s p =
-        let A = block_scale n K a in
-        let C = block_scale n K c in
-        let turned : C * A ≡ A * C = omega arith in
-        whole_value (A * C) (value_of e s) _
-        (λ z q. whole_truth (A * C) z _ _ (whole_more A C _ (whole_block a ok.0 f.1 s p)) (subst (λ x. Whole x (weighted_ends n None c s)) turned (whole_more C A _ (whole_block c ok.1 f.2 s p))))
-    whole_statement (Choice w a c) ok f s p =
-        let A = block_scale n K a in
-        let C = block_scale n K c in
-        let turned : C * A ≡ A * C = omega arith in
-        let positive = ok.0.positive in
-        let coarse = ok.0.coarse in
-        let d = scale w.den positive (omega arith) in
-        whole_then (class_below 2) K (A * C) (weighted_classes (choice_ends w) None) _ (draw_entries (choice_ends w) None)
-        (whole_draw (choice_ends w) K d.1 (omega arith, (ok.0.at_most_one, tt)) d.3)
-        (λ o q. whole_class (A * C) o _ (λ i. whole_side (A * C) i _ _ (whole_more A C _ (whole_block a ok.1 f.0 s p)) (subst (λ x. Whole x (weighted_ends n None c s)) turned (whole_more C A _ (whole_block c ok.2 f.1 s p)))))
-    whole_statement (Choose arms) ok f s p =
-        let ps = parts_of arms in
-        let ends = partial_sums ps in
-        let A = arms_scale n K arms in
-        let last = last_is ps in
-        let positive = ok.0.positive in
-        let coarse = ok.0.coarse in
-        let d = scale (last_end ends) (omega (arith, last, positive)) (omega (arith, last, coarse)) in
-        whole_then (class_below (length ends)) K A (weighted_classes ends None) _ (draw_entries ends None) (whole_draw ends K d.1 (sums_ascend 0 ps) d.3)
-        (λ o q. whole_class A o _ (λ i. whole_arm arms ok.1 f i s p))
-    whole_statement (Uniform x e) ok f s p = whole_value (K * 1) (value_of e s) _ (λ z q. whole_uniform x z s (value_fits e s z f p q))
-    whole_statement (While e a) ok f s p =
-        whole_loop (block_scale n K a) (value_of e) (weighted_ends n None a) (λ s' p'. (limited_block n r K scale a ok f.1 s' p').high_entries) (whole_block a ok f.1) n s p
-
-    pub whole_block : (b : Statements) → BlockIsWeighed b → BlockFits b → (s : State) → state_fits s ≡ true → Whole (block_scale n K b) (weighted_ends n None b s)
-    whole_block done ok f s p = whole_sure 1 (on s)
-    whole_block (st ▸ b) ok f s p =
-        whole_then end_fits (statement_scale n K st) (block_scale n K b) (statement_weighted n None st s) _ (limited_statement n r K scale st ok.0 f.0 s p).high_entries
-        (whole_statement st ok.0 f.0 s p) (λ e q. whole_end (block_scale n K b) e _ (whole_block b ok.1 f.1) q)
-
-    whole_arm : (arms : ArmList) → ArmsAreWeighed arms → ArmsFit arms → (i : ℕ) (s : State) → state_fits s ≡ true → Whole (arms_scale n K arms) (arm_weighted n None arms i s)
-    whole_arm no_arm ok f i s p = whole_sure 1 (on s)
-    whole_arm (arm q b arms) ok f zero s p = whole_more (block_scale n K b) (arms_scale n K arms) _ (whole_block b ok.0 f.0 s p)
-    whole_arm (arm q b arms) ok f (suc i) s p =
-        let B = block_scale n K b in
-        let A = arms_scale n K arms in
-        let turned : A * B ≡ B * A = omega arith in
-        subst (λ x. Whole x (arm_weighted n None arms i s)) turned (whole_more A B _ (whole_arm arms ok.1 f.1 i s p))
+-- ---- plays
+pub play_whole : (r : ℕ) (lost : Type 0) (d : ℕ) (p q : Play) → Cut r lost (Unit {0}) d p q → AtSomeScale (λ N. Whole N (weighed None q))
+play_whole r lost d p q (same_end e h) = record { scale = 1; positive = omega arith; holds = whole_sure 1 e }
+play_whole r lost d p q (no_turns {p = m} l h) = play_whole r lost d m q h
+play_whole r lost d p q (same_draw e cs k k' ok le h) =
+    let b = last_end cs in
+    let c = common (λ i N. Whole N (weighed None (k' i))) (λ i N M w. whole_more N M (weighed None (k' i)) w) (length cs) (λ i lt. play_whole r lost e (k i) (k' i) (h i lt)) in
+    let one_part : b * 1 ≡ b = omega arith in
+    let positive = (ok tt).positive in
+    record {
+      scale = b * c.scale;
+      positive = product_pos b c.scale (omega (arith, positive)) c.positive;
+      holds = whole_then (class_below (length cs)) b c.scale (weighted_classes cs None) _ (draw_entries cs None) (whole_draw cs b 1 (ok tt).ascends one_part)
+          (elim [ None ↦ λ t. whole_sure c.scale (limit Attempts) | Some i ↦ λ t. c.each i (ltb-true i (length cs) t) ]);
+    }
 
 -- ---- three tests of which no two hold at once
 pub three_parts : {A : Type 0} (N : ℕ) (t1 t2 t3 : A → Bool) (m : Weighted A) (v : ℕ) → ((a : A) → chi t1 a + chi t2 a + chi t3 a ≤ 1) → Counts N (λ a. 1) m v →
