@@ -1,11 +1,10 @@
 -- One attempt asks for a bit at each string that does not decide.
-use Rattle.std.proofs.Common.{◌≡◌, ℕ, zero, suc, ◌+◌, ◌*◌, ◌^◌, ◌<◌, ◌≤◌, ◌-◌, Bool, true, false, cond, List, [], ◌∷◌, ◌++◌, length, refl, sym, ap, ◌∙◌, arith, length-append}
+use Rattle.std.proofs.Common.{◌≡◌, ℕ, zero, suc, ◌+◌, ◌*◌, ◌^◌, ◌<◌, ◌≤◌, Bool, true, false, cond, List, [], ◌∷◌, ◌++◌, length, refl, sym, ap, ◌∙◌, arith}
 use Rattle.std.specs.Prelude.{◌==◌}
 use Rattle.std.specs.Option.{option_eq}
 use Rattle.gcl_core.specs.meaning.Draw.{class_of, have_one_class, bit, first_of, decides}
 use Rattle.gcl_core.proofs.AttemptTrees.{attempt_tree, decided_same, length-push, free_of, first-push}
 use Rattle.gcl_core.proofs.Classes.{all_below-each, option_same}
-use Rattle.gcl_core.proofs.Strings.{spelled_from-push}
 use Rattle.gcl_core.proofs.Sums.{two_more}
 use Rattle.gcl_core.proofs.Trees.{Tree, leaf, flip}
 use Rattle.cost_law.specs.ExpectedBits.{undecided_from}

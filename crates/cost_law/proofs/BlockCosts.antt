@@ -13,7 +13,7 @@ use Rattle.gcl_core.specs.meaning.Syntax.{Statement, Skip, Set, If, While, Choic
 use Rattle.gcl_core.specs.meaning.Value.{State, Value, value_of, is_zero, fits_64}
 use Rattle.gcl_core.specs.meaning.Reading.{Reading, gives}
 use Rattle.gcl_core.specs.meaning.Draw.{bits_for, last_end, draw_on, choice_ends, uniform_ends}
-use Rattle.gcl_core.specs.meaning.Blocks.{End, on, failed, fault, limit, by_value, by_truth, by_bound, by_class, by_side, by_end, uniform_on, loop_on, statement_on, block_on, arm_on, class_on, value_on}
+use Rattle.gcl_core.specs.meaning.Blocks.{End, on, failed, fault, limit, by_value, by_truth, by_bound, by_class, by_side, by_end, value_in, loop_in, uniform_in, arm_in, go_on_bits, draw_on_bits, statement_on, block_on, class_on}
 use Rattle.gcl_core.specs.weighing.Fractions.{Fraction, zero_share}
 use Rattle.gcl_core.specs.weighing.LongestReading.{longest_statement, longest, longest_arm}
 use Rattle.gcl_core.specs.weighing.OneDraw.{Ascends}
@@ -27,7 +27,7 @@ use Rattle.gcl_core.specs.meaning.Fitting.{state_fits}
 use Rattle.gcl_core.proofs.FittingValues.{end_fits, value_fits}
 use Rattle.gcl_core.proofs.EqualClasses.{last_of_equal}
 use Rattle.weighing_law.proofs.Matching.{Matches}
-use Rattle.weighing_law.proofs.Uniform.{range_ascends}
+use Rattle.gcl_core.proofs.Uniform.{range_ascends}
 use Rattle.cost_law.specs.ExpectedBits.{draw_bits, loop_bits, statement_bits, block_bits, arm_bits}
 use Rattle.cost_law.proofs.CostedReaders.{Costs, costs_none, costs_at, costs_up, costs_same, costs_then}
 use Rattle.cost_law.proofs.DrawBits.{draw_share, draw_bits_pos}
@@ -36,14 +36,14 @@ abbrev Reader : Type 0
 Reader = List Bool → Reading End
 
 -- ---- going on by cases
-value_costs : (d : ℕ) (v : Value) (go : ℤ → Reader) (k : ℤ → Fraction) → ((z : ℤ) → v ≡ Ok z → Costs d (go z) (k z)) → Costs d (λ w. value_on v w (λ z. go z w)) (by_value v (λ f. zero_share) k)
+value_costs : (d : ℕ) (v : Value) (go : ℤ → Reader) (k : ℤ → Fraction) → ((z : ℤ) → v ≡ Ok z → Costs d (go z) (k z)) → Costs d (value_in gives go_on_bits v go) (by_value v (λ f. zero_share) k)
 value_costs d (Ok z) go k h = h z refl
 value_costs d (Err f) go k h = costs_none d (fault f)
 
-truth_costs : (d : ℕ) (z : ℤ) (a c : Reader) (m n : Fraction) → Costs d a m → Costs d c n → Costs d (λ w. by_truth z (a w) (c w)) (by_truth z m n)
+truth_costs : (d : ℕ) (z : ℤ) (a c : Reader) (m n : Fraction) → Costs d a m → Costs d c n → Costs d (by_truth z a c) (by_truth z m n)
 truth_costs d z a c m n p q = by_test (is_zero z)
   where
-    by_test : (b : Bool) → Costs d (λ w. cond b (c w) (a w)) (cond b n m)
+    by_test : (b : Bool) → Costs d (cond b c a) (cond b n m)
     by_test true = q
     by_test false = p
 
@@ -59,20 +59,20 @@ class_costs : (d : ℕ) (o : Option ℕ) (go : ℕ → Reader) (k : ℕ → Frac
 class_costs d None go k h = costs_none d (limit Attempts)
 class_costs d (Some i) go k h = h i
 
-side_costs : (d i : ℕ) (a c : Reader) (m n : Fraction) → Costs d a m → Costs d c n → Costs d (λ w. by_side i (a w) (c w)) (by_side i m n)
+side_costs : (d i : ℕ) (a c : Reader) (m n : Fraction) → Costs d a m → Costs d c n → Costs d (by_side i a c) (by_side i m n)
 side_costs d zero a c m n p q = p
 side_costs d (suc i) a c m n p q = q
 
 -- ---- loops
 loop_costs : (d : ℕ) (guard : State → Value) (body : State → Reader) (bits : State → Fraction) (m : State → Weighted End) →
     ((s : State) → state_fits s ≡ true → Costs d (body s) (bits s)) → ((s : State) → state_fits s ≡ true → Matches end_fits d (body s) (m s)) →
-    (t : ℕ) (s : State) → state_fits s ≡ true → Costs (t * d) (loop_on guard body t s) (loop_bits guard bits m t s)
+    (t : ℕ) (s : State) → state_fits s ≡ true → Costs (t * d) (loop_in gives go_on_bits guard body t s) (loop_bits guard bits m t s)
 loop_costs d guard body bits m h g zero s p = at_once (guard s)
   where
-    at_once : (v : Value) → Costs (0 * d) (λ w. value_on v w (λ z. by_truth z (gives (limit Turns) w) (gives (on s) w))) zero_share
+    at_once : (v : Value) → Costs (0 * d) (value_in gives go_on_bits v (λ z. by_truth z (gives (limit Turns)) (gives (on s)))) zero_share
     at_once (Ok z) = by_test (is_zero z)
       where
-        by_test : (b : Bool) → Costs (0 * d) (λ w. cond b (gives (on s) w) (gives (limit Turns) w)) zero_share
+        by_test : (b : Bool) → Costs (0 * d) (cond b (gives (on s)) (gives (limit Turns))) zero_share
         by_test true = costs_none (0 * d) (on s)
         by_test false = costs_none (0 * d) (limit Turns)
     at_once (Err f) = costs_none (0 * d) (fault f)
@@ -97,14 +97,14 @@ drawn_costs r m x s small =
     (costs_same (d * r) (draw_on (uniform_ends m) r) (draw_bits (uniform_ends m) r) _ (λ o. by_class o (limit Attempts) (λ i. on (slice_set s x (pos i))))
     (draw_costs (uniform_ends m) r (range_ascends 0 m)) (elim [ Some i ↦ λ w. refl | None ↦ λ w. refl ]))
 
-uniform_costs : (r x : ℕ) (z : ℤ) (s : State) → fits_64 z ≡ true → Costs (63 * r) (uniform_on r x z s) (by_bound z zero_share (λ m. draw_bits (uniform_ends m) r))
+uniform_costs : (r x : ℕ) (z : ℤ) (s : State) → fits_64 z ≡ true → Costs (63 * r) (uniform_in gives go_on_bits (draw_on_bits r) x z s) (by_bound z zero_share (λ m. draw_bits (uniform_ends m) r))
 uniform_costs r x (pos zero) s f = costs_none (63 * r) (fault BadBound)
 uniform_costs r x (pos (suc m)) s f = drawn_costs r (suc m) x s (ltb-true _ _ f)
 uniform_costs r x (negsuc m) s f = costs_none (63 * r) (fault BadBound)
 
 -- ---- statements
 module _ (n r : ℕ) where
-  none_value : (v : Value) (go : ℤ → End) → Costs 0 (λ w. value_on v w (λ z. gives (go z) w)) zero_share
+  none_value : (v : Value) (go : ℤ → End) → Costs 0 (value_in gives go_on_bits v (λ z. gives (go z))) zero_share
   none_value (Ok z) go = costs_none 0 (go z)
   none_value (Err f) go = costs_none 0 (fault f)
 
@@ -114,10 +114,10 @@ module _ (n r : ℕ) where
     statement_costs (Set x e) ok f s p = none_value (value_of e s) (λ z. on (slice_set s x z))
     statement_costs (Observe e) ok f s p = observed (value_of e s)
       where
-        observed : (v : Value) → Costs 0 (λ w. value_on v w (λ z. by_truth z (gives (on s) w) (gives failed w))) zero_share
+        observed : (v : Value) → Costs 0 (value_in gives go_on_bits v (λ z. by_truth z (gives (on s)) (gives failed))) zero_share
         observed (Ok z) = by_test (is_zero z)
           where
-            by_test : (b : Bool) → Costs 0 (λ w. cond b (gives failed w) (gives (on s) w)) zero_share
+            by_test : (b : Bool) → Costs 0 (cond b (gives failed) (gives (on s))) zero_share
             by_test true = costs_none 0 failed
             by_test false = costs_none 0 (on s)
         observed (Err g) = costs_none 0 (fault g)
@@ -154,7 +154,7 @@ module _ (n r : ℕ) where
         costs_then end_fits failed (longest_statement n r st) (longest n r b) (statement_on n r st s) (statement_bits n r st s) (statement_weighted n (Some r) st s) _ _
         (statement_costs st ok.0 f.0 s p) (statement_matches n r st ok.0 f.0 s p) (λ e q. end_costs (longest n r b) e _ _ q (block_costs b ok.1 f.1))
 
-    arm_costs : (arms : ArmList) → ArmsAreWeighed arms → ArmsFit arms → (i : ℕ) (s : State) → state_fits s ≡ true → Costs (longest_arm n r arms) (arm_on n r arms i s) (arm_bits n r arms i s)
+    arm_costs : (arms : ArmList) → ArmsAreWeighed arms → ArmsFit arms → (i : ℕ) (s : State) → state_fits s ≡ true → Costs (longest_arm n r arms) (arm_in gives go_on_bits (draw_on_bits r) n arms i s) (arm_bits n r arms i s)
     arm_costs no_arm ok f i s p = costs_none 0 (on s)
     arm_costs (arm q b arms) ok f zero s p = costs_up (longest n r b) (max (longest n r b) (longest_arm n r arms)) _ _ (omega arith) (block_costs b ok.0 f.0 s p)
     arm_costs (arm q b arms) ok f (suc i) s p = costs_up (longest_arm n r arms) (max (longest n r b) (longest_arm n r arms)) _ _ (omega arith) (arm_costs arms ok.1 f.1 i s p)
