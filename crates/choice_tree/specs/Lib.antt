@@ -1,5 +1,6 @@
 pub mod Tree
 pub mod WellFormed
 pub mod Views
+pub mod OnBits
 pub mod Meaning
 pub mod TreeOf

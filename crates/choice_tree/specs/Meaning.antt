@@ -5,7 +5,8 @@ use Rattle.std.specs.Prelude.{ℕ, zero, suc, Bool, List, slice_set}
 use Rattle.gcl_core.specs.meaning.Value.{State, value_of}
 use Rattle.gcl_core.specs.meaning.Reading.{Reading, gives}
 use Rattle.gcl_core.specs.meaning.Draw.{draw_on, choice_ends}
-use Rattle.gcl_core.specs.meaning.Blocks.{End, on, failed, by_truth, by_side, uniform_on, loop_on, class_on, end_on, value_on}
+use Rattle.gcl_core.specs.meaning.Blocks.{End, on, failed, by_truth, by_side, class_on, end_on}
+use Rattle.choice_tree.specs.OnBits.{uniform_on, repeated_on, value_on}
 use Rattle.gcl_core.specs.meaning.Parts.{partial_sums}
 use Rattle.choice_tree.specs.Tree.{ChoiceTree, Fail, Set, Test, Choice, Choose, Uniform, Row, Fix, ChoiceTrees, no_tree, ◌▹◌}
 
@@ -20,7 +21,7 @@ module _ (n r : ℕ) where
     choice_tree_on (Choose ps ts) s w = class_on (draw_on (partial_sums ps) r w) (λ i rest. choice_arm_on ts i s rest)
     choice_tree_on (Uniform x e) s w = value_on (value_of e s) w (λ v. uniform_on r x v s w)
     choice_tree_on (Row ts) s w = choice_row_on ts s w
-    choice_tree_on (Fix e a) s w = loop_on (value_of e) (choice_tree_on a) n s w
+    choice_tree_on (Fix e a) s w = repeated_on (value_of e) (choice_tree_on a) n s w
 
     pub choice_row_on : ChoiceTrees → State → List Bool → Reading End
     choice_row_on no_tree s w = gives (on s) w
