@@ -27,7 +27,7 @@ taken_on (e ∷ m) go = scaled e.0 (go e.1) ++ taken_on m go
 
 -- ---- a draw
 
--- the weight of a class with so many of the b numbers, by at most r attempts; or by as many as it takes
+-- the weight of a class with `size` of the b numbers, by at most r attempts; or by as many as it takes
 abbrev pub class_weight : ℕ → Option ℕ → ℕ → Fraction
 class_weight b (Some r) size = (size * strings_to_a_number (bits_for b) (rejected_numbers b) r, 2 ^ (bits_for b * r))
 class_weight b None size = (size, b)
