@@ -6,7 +6,7 @@ use Rattle.gcl_core.specs.declared.syntax.BinOp.{BinOp}
 use Rattle.gcl_core.specs.declared.syntax.BinOp.TheVariants.{Add, Sub, Mul, Div, Rem, Eq, Ne, Lt, Le, Gt, Ge, And, Or}
 use Rattle.gcl_core.specs.meaning.Syntax.{Expression}
 use Rattle.gcl_core.specs.meaning.Syntax as source
-use Rattle.gcl_core.specs.meaning.Value.{State, Value, value_of, ExpressionBelow, truth_number, is_zero, as_truth, within_64, applied, ◌>>=◌}
+use Rattle.gcl_core.specs.meaning.Value.{State, Value, value_of, ExpressionBelow, truth_number, is_zero, within_64, applied, ◌>>=◌}
 use Rattle.formula.specs.declared.op.Op.{Op}
 use Rattle.formula.specs.declared.op.Op.TheVariants.{Push, Truth, Load, Neg, Not, Bin, AndSkip, OrSkip, Settle}
 use Rattle.formula.specs.Steps.{settling, steps_between, kept, joining, step_count, steps_at, steps_of, depth}
@@ -36,8 +36,8 @@ top_bind (Err fault) s go = refl
 
 -- from the left operand's value on
 abbrev from_left : BinOp → ℤ → Value → Value
-from_left And x right = if is_zero x then Ok (pos 0) else as_truth right
-from_left Or x right = if is_zero x then as_truth right else Ok (pos 1)
+from_left And x right = if is_zero x then Ok (pos 0) else (right >>= λ y. applied And x y)
+from_left Or x right = if is_zero x then (right >>= λ y. applied Or x y) else Ok (pos 1)
 from_left op x right = right >>= λ y. applied op x y
 
 from_both : (op : BinOp) (a b : Expression) (s : State) → (value_of a s >>= λ x. from_left op x (value_of b s)) ≡ value_of (source.Bin op a b) s
