@@ -8,7 +8,8 @@ use Rattle.gcl_core.specs.meaning.Syntax.{Choose, ArmList, no_arm, arm}
 use Rattle.gcl_core.specs.meaning.Value.{State}
 use Rattle.gcl_core.specs.meaning.Blocks.{End, limit, by_class}
 use Rattle.gcl_core.specs.weighing.Fractions.{Fraction}
-use Rattle.gcl_core.specs.weighing.WeightedEnds.{Weighted, sure, scaled, taken_on, class_weight, no_class_weight, classes_from, statement_weighted, weighted_ends, arm_weighted}
+use Rattle.gcl_core.specs.weighing.WeightedEnds.{Weighted, sure, scaled, taken_on, class_weight, no_class_weight, classes_from, statement_weighted, weighted_ends}
+use Rattle.mass_tables.proofs.WeightedParts.{arm_weighted}
 use Rattle.gcl_core.proofs.PartialSums.{last_is}
 
 pub taken_append : {A B : Type 0} (m n : Weighted A) (k : A → Weighted B) → taken_on (m ++ n) k ≡ taken_on m k ++ taken_on n k

@@ -10,7 +10,8 @@ use Rattle.gcl_core.specs.meaning.Parts.{AreParts}
 use Rattle.gcl_core.specs.meaning.Value.{State, Value, value_of, is_zero}
 use Rattle.gcl_core.specs.meaning.Blocks.{End, on, failed, fault, limit, by_value, by_bound}
 use Rattle.gcl_core.specs.weighing.Fractions.{Fraction, times, one}
-use Rattle.gcl_core.specs.weighing.WeightedEnds.{Weighted, sure, scaled, taken_on, class_weight, no_class_weight, statement_weighted, value_weighted}
+use Rattle.gcl_core.specs.weighing.WeightedEnds.{Weighted, sure, scaled, taken_on, class_weight, no_class_weight, statement_weighted}
+use Rattle.mass_tables.proofs.WeightedParts.{value_weighted}
 use Rattle.mass_tables.specs.Tables.{Table, Flow, going_on, gone, holds, fails, only, faults, all_end, both, loop_flow, statement_flow, block_flow, arms_flow, draws_each, draw_weights}
 use Rattle.mass_tables.specs.Scale.{amount, weight, whole, Whole, Wholes, Within, TablesWithin}
 use Rattle.mass_tables.specs.Counts.{sum_below, part_at, rest_at, drawn, undrawn, multiplied}

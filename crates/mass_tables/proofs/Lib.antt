@@ -1,3 +1,4 @@
+pub mod WeightedParts
 pub mod Wholes
 pub mod Amounts
 pub mod Linear

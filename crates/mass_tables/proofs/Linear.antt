@@ -8,7 +8,8 @@ use Rattle.gcl_core.specs.meaning.Value.{State, Value, value_of, is_zero}
 use Rattle.gcl_core.specs.meaning.Blocks.{End, on, failed, fault, limit, by_value, by_truth, by_end}
 use Rattle.mass_tables.specs.Scale.{Wholes, whole, amount}
 use Rattle.gcl_core.specs.weighing.Fractions.{Fraction, plus, one, times}
-use Rattle.gcl_core.specs.weighing.WeightedEnds.{Weighted, sure, scaled, taken_on, class_weight, no_class_weight, statement_weighted, weighted_ends, loop_weighted, end_weighted, value_weighted}
+use Rattle.gcl_core.specs.weighing.WeightedEnds.{Weighted, sure, scaled, taken_on, class_weight, no_class_weight, statement_weighted, weighted_ends, end_weighted}
+use Rattle.mass_tables.proofs.WeightedParts.{loop_weighted, value_weighted}
 use Rattle.gcl_core.specs.weighing.Mass.{sum_of}
 use Rattle.mass_tables.specs.Tables.{Table, Flow, going_on, gone, holds, fails, only, faults, all_end, each, both, loop_flow, statement_flow, block_flow, arms_flow}
 use Rattle.mass_tables.proofs.ArmEnds.{arm_ends, choose_weighted}

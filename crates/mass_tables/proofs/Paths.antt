@@ -10,7 +10,8 @@ use Rattle.gcl_core.specs.meaning.Value.{State, Value, value_of, is_zero}
 use Rattle.gcl_core.specs.meaning.Blocks.{End, on, failed, fault, limit, by_truth, by_class, by_side, by_end}
 use Rattle.gcl_core.specs.weighing.Fractions.{plus}
 use Rattle.gcl_core.specs.weighing.Mass.{sum_of}
-use Rattle.gcl_core.specs.weighing.WeightedEnds.{Weighted, sure, weighted_classes, loop_weighted, statement_weighted, weighted_ends, arm_weighted, value_weighted}
+use Rattle.gcl_core.specs.weighing.WeightedEnds.{Weighted, sure, weighted_classes, statement_weighted, weighted_ends}
+use Rattle.mass_tables.proofs.WeightedParts.{loop_weighted, arm_weighted, value_weighted}
 use Rattle.frac128.proofs.Divisors.{product_pos}
 use Rattle.gcl_core.proofs.PartialSums.{last_is}
 use Rattle.mass_tables.proofs.Positive.{Positive, p_taken, p_sure, p_draw, p_set, p_seen, p_drawn, alone}

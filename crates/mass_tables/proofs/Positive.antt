@@ -9,7 +9,8 @@ use Rattle.gcl_core.specs.meaning.Value.{State, Value, value_of, is_zero}
 use Rattle.gcl_core.specs.meaning.Draw.{last_end, uniform_ends}
 use Rattle.gcl_core.specs.meaning.Blocks.{End, on, failed, fault, limit, by_value, by_bound, by_truth, by_class}
 use Rattle.gcl_core.specs.weighing.Fractions.{Fraction}
-use Rattle.gcl_core.specs.weighing.WeightedEnds.{Weighted, sure, scaled, taken_on, class_weight, no_class_weight, classes_from, weighted_classes, statement_weighted, uniform_weighted, value_weighted}
+use Rattle.gcl_core.specs.weighing.WeightedEnds.{Weighted, sure, scaled, taken_on, class_weight, no_class_weight, classes_from, weighted_classes, statement_weighted}
+use Rattle.mass_tables.proofs.WeightedParts.{uniform_weighted, value_weighted}
 use Rattle.gcl_core.proofs.EqualClasses.{last_of_equal}
 use Rattle.frac128.proofs.Divisors.{product_pos}
 use Rattle.mass_tables.specs.Tables.{Table, Flow, going_on, gone, holds, fails, only, faults, all_end, each, both, loop_flow, statement_flow, block_flow, arms_flow, draws_each, draw_weights, bound_draws}

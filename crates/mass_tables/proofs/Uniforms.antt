@@ -7,7 +7,8 @@ use Rattle.gcl_core.specs.meaning.Value.{State, Value}
 use Rattle.gcl_core.specs.meaning.Blocks.{End, on, failed, fault, limit, by_value, by_bound, by_class}
 use Rattle.gcl_core.specs.meaning.Draw.{uniform_ends}
 use Rattle.gcl_core.specs.weighing.Fractions.{Fraction, one, times}
-use Rattle.gcl_core.specs.weighing.WeightedEnds.{Weighted, sure, scaled, taken_on, class_weight, no_class_weight, classes_from, weighted_classes, uniform_weighted, value_weighted}
+use Rattle.gcl_core.specs.weighing.WeightedEnds.{Weighted, sure, scaled, taken_on, class_weight, no_class_weight, classes_from, weighted_classes}
+use Rattle.mass_tables.proofs.WeightedParts.{uniform_weighted, value_weighted}
 use Rattle.gcl_core.proofs.EqualClasses.{last_of_equal}
 use Rattle.mass_tables.specs.Tables.{Table, going_on, gone}
 use Rattle.mass_tables.specs.Scale.{whole, Whole, Wholes, amount}
