@@ -110,6 +110,14 @@ impl Frac {
         self.den
     }
 
+    /// It does nothing: what every fraction keeps, for a proof that has lost it.
+    #[inline(always)]
+    pub fn is_lowest(&self)
+        ensures { InLowest self.now }
+    {
+        let _ = &self.num;
+    }
+
     /// The sum. `None` exactly where the least common multiple of the denominators, one of the two numerators over it, or their sum is above 2^128 − 1.
     pub fn add(&self, o: &Frac) -> Option<Frac>
         ensures { result ≡ sum_of self.now o.now }
@@ -120,6 +128,7 @@ impl Frac {
     }
 
     /// The difference. `None` exactly where it is below 0, or the least common multiple of the denominators or one of the two numerators over it is above 2^128 − 1.
+    /// Only tests and users of the crate call it.
     pub fn sub(&self, o: &Frac) -> Option<Frac>
         ensures { result ≡ difference_of self.now o.now }
     {
