@@ -4,7 +4,8 @@ use Rattle.std.proofs.lemmas.Bool.Decides.{nat_tests}
 use Rattle.std.proofs.lemmas.List.Sums.{sum-map, sum_by_more, sum_by-take-le}
 use Rattle.gcl_core.specs.declared.rules.TheConstants.{GREATEST_DENOMINATOR}
 use Rattle.gcl_core.specs.meaning.Arms.{parts_of}
-use Rattle.gcl_core.specs.meaning.Lowest.{common_divisor, lowest_parts}
+use Rattle.gcl_core.specs.meaning.Divisor.{common_divisor}
+use Rattle.gcl_core.specs.meaning.Lowest.{lowest_parts}
 use Rattle.gcl_core.specs.meaning.Views.{list_of_arms}
 use Rattle.gcl_check.proofs.parts.are_too_fine.Goals as goal
 
