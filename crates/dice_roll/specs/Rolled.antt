@@ -1,5 +1,5 @@
 -- What a roll over a source of bits says of its answer and of the source. This project's own rule.
-use Rattle.std.specs.Prelude.{◌≡◌, ℕ, ◌<◌, ◌≤◌, Bool, true, List, take, Result, Ok, Err}
+use Rattle.std.specs.Prelude.{◌≡◌, ℕ, ◌<◌, ◌≤◌, Bool, true, List, length, take, drop, Result, Ok, Err}
 use Rattle.zar_io.specs.declared.outside.Failed.{Failed}
 use Rattle.dice_roll.specs.declared.answers.Roll.{Roll}
 use Rattle.dice_roll.specs.declared.answers.Roll.TheVariants.{Label, Limit, MoreBits}
@@ -11,9 +11,12 @@ flips_made (Label c n) = n
 flips_made (Limit n) = n
 flips_made (MoreBits n) = n
 
--- a roll among m labels with at most so many flips needs each bit of w that it reads: those before it give no label
-pub record NeedsEach (m flips : ℕ) (w : List Bool) : Type 0 where
-  pub needed : (k : ℕ) → k < flips_made (fast_roll m flips w) → fast_roll m flips (take k w) ≡ MoreBits k
+-- Of these bits a roll among m labels with at most so many flips took those that it counts, and the others are left. It needed each: those
+-- before it give no label.
+pub record TookEach (m flips : ℕ) (r : Roll) (bits left : List Bool) : Type 0 where
+  pub enough : flips_made r ≤ length bits
+  pub left_is : left ≡ drop (flips_made r) bits
+  pub needed : (k : ℕ) → k < flips_made r → fast_roll m flips (take k bits) ≡ MoreBits k
 
 -- an answer of a roll among m labels with at most so many flips: a label is one of the m, the limit is reached at the
 -- last flip, and where bits are missing a flip was still to be made

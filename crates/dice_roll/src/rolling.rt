@@ -1,11 +1,11 @@
 //! A draw by the Fast Dice Roller over a source of bits.
-ghost use Rattle.std.specs.Prelude.{◌≡◌, ◌<◌, ◌≤◌, ◌^◌, drop, IfOk, IsTrue};
+ghost use Rattle.std.specs.Prelude.{◌≡◌, ◌<◌, ◌≤◌, ◌^◌, IfOk, IsTrue};
 ghost use Rattle.zar_io.specs.Faults.{Counts};
 ghost use Rattle.zar_io.specs.Bits.{broken_after};
 ghost use Rattle.dice_roll.specs.declared.rules.TheConstants as rule;
 ghost use Rattle.dice_roll.specs.FastRoll.{fast_roll};
 ghost use Rattle.dice_roll.specs.Fair.{IsFair};
-ghost use Rattle.dice_roll.specs.Rolled.{flips_made, NeedsEach, IsWithin, ended_by};
+ghost use Rattle.dice_roll.specs.Rolled.{TookEach, IsWithin, ended_by};
 
 use crate::answers::Roll;
 use zar_io::{Bits, Failed};
@@ -13,17 +13,16 @@ use zar_io::{Bits, Failed};
 /// Draws one of `m` labels, each as likely, by fair bits, of which it reads at most `flips`: the Fast Dice Roller
 /// (Lumbroso 2013). It takes no memory.
 ///
-/// A bit is asked for only where the labels that are still possible need one. `MoreBits` comes where a bit was
+/// Where it answers `Ok`, just the bits that the answer counts are taken, each of them needed. `MoreBits` comes where a bit was
 /// needed and there was none, `Limit` where `flips` bits gave no label. `Failed` comes only where a read of the bits
 /// failed, and then a fault was counted.
-#[tactic(auto, using(crate::proofs::Fairness::fair, crate::proofs::Fairness::needs_each))]
+#[tactic(auto, using(crate::proofs::Fairness::fair))]
 pub fn roll<B: Bits>(m: u64, flips: u64, bits: &mut B) -> Result<Roll, Failed>
     requires low { rule.LEAST_LABELS ≤ m }
     requires high { m ≤ rule.MOST_LABELS }
     requires few { flips ≤ rule.MOST_FLIPS }
     ensures answer { IfOk result (λ r. IsTrue B.told → fast_roll m flips (B.left bits.old) ≡ r) }
-    ensures taken { IfOk result (λ r. IsTrue B.told → B.left bits.new ≡ drop (flips_made r) (B.left bits.old)) }
-    ensures needed { NeedsEach m flips (B.left bits.old) }
+    ensures taken { IfOk result (λ r. IsTrue B.told → TookEach m flips r (B.left bits.old) (B.left bits.new)) }
     ensures within { IfOk result (IsWithin m flips) }
     ensures ended { B.ended bits.new ≡ ended_by result (B.ended bits.old) }
     ensures stays_ended { IsTrue (B.ended bits.old) → 0 < flips → result ≡ Ok (Roll.MoreBits 0) }
