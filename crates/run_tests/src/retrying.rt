@@ -1,19 +1,19 @@
 //! Runs that are tried again.
 
-ghost use Rattle.std.specs.Prelude.{◌≡◌, IfOk, OnOk, IsErrOf, IsTrue};
+ghost use Rattle.std.specs.Prelude.{◌≡◌, IfOk, IsErrOf, IsTrue};
 ghost use Rattle.gcl_core.specs.meaning.LimitRange.{InRange};
 ghost use Rattle.sampler_code.specs.Assembled.{CodeReaches};
 ghost use Rattle.sampler_run.specs.declared.sampling.RunError.TheVariants.{OutOfMemory};
 ghost use Rattle.sampler_run.specs.Held.{run_begun};
-ghost use Rattle.sampler_run.specs.Sampled.{reached_by, Asked, CountsRun};
+ghost use Rattle.sampler_run.specs.Sampled.{reached_by, TookTo, CountsRun};
 
 use gcl_core::Limits;
 use sampler_run::{RunError, Sampler, Stop, sample};
 use std::alloc::Global;
 use zar_io::Bits;
 
-/// Runs a sampler on bits, under these limits, and tries once more where there was no memory for it. The bits that the run asks for are
-/// asked for once.
+/// Runs a sampler on bits, under these limits, and tries once more where there was no memory for it. The bits that the run reads are
+/// taken once.
 ///
 /// `Read` comes only where the count of faults of `bits` rose in this call, and `OutOfMemory` only where memory ran out twice; no bit was
 /// asked for then.
@@ -25,7 +25,8 @@ pub fn sample_again<B: Bits>(
 ) -> Result<Stop, RunError>
     requires limits { InRange l.now }
     ensures answer { IfOk result (λ stop. IsTrue B.told → CodeReaches s.now l.now (B.left bits.old) (reached_by stop)) }
-    ensures asked { OnOk result (IsTrue B.told → Asked (run_begun s.now l.now) (B.left bits.old) (B.left bits.new)) }
+    ensures taken { IfOk result (λ stop. IsTrue B.told →
+        TookTo (run_begun s.now l.now) 0 (B.left bits.old) (B.left bits.new) (reached_by stop)) }
     ensures count { CountsRun result (B.faults bits.old) (B.faults bits.new) }
     ensures untouched { IsErrOf result RunError.OutOfMemory → bits.new ≡ bits.old }
     ensures same_source { B.source bits.new ≡ B.source bits.old }

@@ -94,7 +94,7 @@ module _ (code : List Instruction) (l : Limits) (x : ℕ) (e : Expression) (b : 
       ∙ ap (λ (tries : ℕ). record m { tries = tries; used = used; drawing = below b u.need u.low }) (sym r)
       ∙ ap (λ (used : ℕ). record m { tries = u.tries; used = used; drawing = below b u.need u.low }) (sym s)
 
-  -- one that has failed, and the next
+  -- one that is rejected, and the next
   pub trial_retries : (m : Machine) (t u : Trial) (word : ℕ) → slice_get code m.index ≡ Some (Range x e) → Answered code l (at_trial m b t) → b ≤ t.low * 2 ^ t.need → 1 < t.tries →
       u.need ≡ bits_for b → u.low ≡ 0 → u.tries ≡ t.tries - 1 → u.used ≡ t.used → u.left ≡ t.left → Went code l (at_trial m b t) (at_trial m b u) word t.left u.left
   trial_retries m t u word at h over tries n z r s left =
@@ -144,7 +144,7 @@ module _ (code : List Instruction) (l : Limits) (x : ℕ) (e : Expression) (b : 
   pub trial_stores : (m : Machine) (t : Trial) → slice_get code m.index ≡ Some (Range x e) → t.need ≡ 0 → t.low < b → step code l (at_trial m b t) ≡ goes (stored (at_trial m b t) x (pos t.low))
   trial_stores m t at none lt = step_draws code l x e b (at_trial m b t) 0 t.low at (ap (λ k. below b k t.low) none) ∙ stores code l x e b (at_trial m b t) t.low lt
 
-  -- one that has failed, and was the last
+  -- one that is rejected, and was the last
   pub trial_ends : (m : Machine) (t : Trial) → slice_get code m.index ≡ Some (Range x e) → b ≤ t.low * 2 ^ t.need → t.tries ≤ 1 → step code l (at_trial m b t) ≡ ends (outcome.Limit Attempts)
   trial_ends m t at over last =
       step_draws code l x e b (at_trial m b t) t.need t.low at refl ∙ draws_over (at_trial m b t) t.need t.low over ∙ retry_ends (at_trial m b t) t.tries last

@@ -3,7 +3,7 @@
 ghost use Rattle.std.specs.Prelude.{◌≡◌, ◌+◌, ◌-◌, ◌*◌, ◌/◌, ◌%◌, ◌^◌, ◌<◌, ◌≤◌, nat_lt};
 ghost use Rattle.gcl_core.specs.meaning.Draw.{bits_for};
 ghost use Rattle.gcl_core.specs.meaning.Runs.{capped};
-ghost use Rattle.sampler_run.specs.declared.trials.Came.TheVariants.{Failed};
+ghost use Rattle.sampler_run.specs.declared.trials.Came.TheVariants.{Rejected};
 ghost use Rattle.sampler_run.specs.inner.Tried.{CameTo, HasTried, SpellsOut};
 
 use draw_tree::bits_for;
@@ -25,7 +25,7 @@ pub enum Came {
     Number(u64),
     NeedBit,
     // Its number is not below the bound, whatever bits follow.
-    Failed,
+    Rejected,
 }
 
 // Some number below the bound begins with the bits that spell `low`, where `need` more follow.
@@ -115,7 +115,7 @@ fn read_to(trial: Trial, number: u64, need: u32) -> Trial
     }
 }
 
-// An attempt below a bound, on the lowest bits of a word: it takes those that it needs, and no more once they show that it has failed.
+// An attempt below a bound, on the lowest bits of a word: it takes those that it needs, and no more once they show that it is rejected.
 #[inline(always)]
 fn attempt(bound: u64, word: u64, trial: Trial) -> (Trial, Came)
     requires bound { (bound < 2 ^ 63) × (0 < bound) }
@@ -128,12 +128,12 @@ fn attempt(bound: u64, word: u64, trial: Trial) -> (Trial, Came)
     ensures left { result.0.left ≤ trial.left }
 {
     if !is_below(bound, trial.need, trial.low) {
-        return (trial, Came::Failed);
+        return (trial, Came::Rejected);
     }
     let (number, missing) = spelled(word, trial);
     if number >= bound {
         let need = first_above(bound, number, trial.need);
-        return (read_to(trial, number, need), Came::Failed);
+        return (read_to(trial, number, need), Came::Rejected);
     }
     let after = read_to(trial, number, missing);
     if missing == 0 {
@@ -163,7 +163,7 @@ fn again(bound: u64, trial: Trial) -> Trial
     }
 }
 
-// Attempts below a bound, on the lowest bits of a word, to one that does not fail, or to the last.
+// Attempts below a bound, on the lowest bits of a word, to one that is not rejected, or to the last.
 #[inline(always)]
 pub(crate) fn attempts(bound: u64, word: u64, trial: Trial) -> (Trial, Came)
     requires bound { (bound < 2 ^ 63) × (0 < bound) }
@@ -171,14 +171,14 @@ pub(crate) fn attempts(bound: u64, word: u64, trial: Trial) -> (Trial, Came)
     requires left { trial.left ≤ 64 }
     ensures tried { HasTried bound word trial result.0 }
     ensures came { CameTo bound result.0 result.1 }
-    ensures last { result.1 ≡ Failed → result.0.tries ≤ 1 }
+    ensures last { result.1 ≡ Rejected → result.0.tries ≤ 1 }
     ensures need { result.0.need < 64 }
 {
     let mut trial = trial;
     loop {
         let (after, came) = attempt(bound, word, trial);
         match came {
-            Came::Failed => {
+            Came::Rejected => {
                 if after.tries <= 1 {
                     return (after, came);
                 }

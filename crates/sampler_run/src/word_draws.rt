@@ -78,7 +78,7 @@ fn draw_from(
             m.drawing = under_way(bound, trial);
             (Pace::NeedBit, m.index)
         }
-        Came::Failed => {
+        Came::Rejected => {
             m.drawing = under_way(bound, trial);
             (Pace::Ended(Outcome::Limit(Limit::Attempts)), m.index)
         }

@@ -8,7 +8,7 @@ use Rattle.sampler_code.specs.Machine.{Machine, below}
 use Rattle.sampler_code.specs.inner.Bounded.{rest_of, Answered}
 use Rattle.sampler_run.specs.declared.trials.Trial.{Trial}
 use Rattle.sampler_run.specs.declared.trials.Came.{Came}
-use Rattle.sampler_run.specs.declared.trials.Came.TheVariants.{Number, NeedBit, Failed}
+use Rattle.sampler_run.specs.declared.trials.Came.TheVariants.{Number, NeedBit, Rejected}
 use Rattle.sampler_run.specs.inner.Going.{to_go}
 use Rattle.sampler_run.specs.inner.Taken.{Takes}
 
@@ -48,4 +48,4 @@ HasTried b word t u = (code : List Instruction) (l : Limits) (x : ℕ) (e : Expr
 abbrev pub CameTo : ℕ → Trial → Came → Type 0
 CameTo b t (Number v) = (t.need ≡ 0) × (t.low ≡ v) × (v < b)
 CameTo b t NeedBit = (0 < t.need) × (t.low * 2 ^ t.need < b) × (t.left ≡ 0)
-CameTo b t Failed = b ≤ t.low * 2 ^ t.need
+CameTo b t Rejected = b ≤ t.low * 2 ^ t.need

@@ -1,10 +1,11 @@
-use Rattle.std.proofs.Common.{[], OnErr, Result, Ok, Err, refl, sym, subst, ◌∙◌}
+use Rattle.std.proofs.Common.{[], OnErr, Result, Ok, Err, refl, sym, subst, ◌∙◌, arith}
 use Rattle.zar_io.specs.Bits.{Took}
 use Rattle.sampler_run.specs.declared.machine.Progress.TheVariants.{NeedBit, Ended}
 use Rattle.sampler_code.specs.Running.{Reached}
 use Rattle.sampler_run.specs.Held.{Held, Ahead}
 use Rattle.sampler_run.specs.Sampled.{WentOn}
 use Rattle.sampler_run.specs.Telling.{Tells}
+use Rattle.sampler_run.proofs.BitsUsed.{took_to}
 use Rattle.sampler_run.proofs.Taking.{told_reached, needs_told, needs_there, none_left, went_none, went_more, went_join, went_in_vain, went_reached}
 use Rattle.sampler_run.proofs.sampling.go_on.Goals as goal
 
@@ -23,6 +24,19 @@ returns-in-Ended-clause-answer g c = λ h.
     let end = told_reached s (Ended c.in-Ended.outcome) c.used.result c.place.result told c.used.ensures c.place.ensures (c.progress.ensures.some []) in
     went_reached c.args.state.now s (g.B.Bits.left c.args.bits.now) (g.B.Bits.left c.loop-outcome.bits) _ (c.loop-outcome.invariant.7 h)
     ((c.progress.ensures.ended c.in-Ended.outcome told (g.B.Bits.left c.loop-outcome.bits) _).1 end)
+
+pub returns-in-Ended-clause-stands : goal.returns-in-Ended-clause-stands
+returns-in-Ended-clause-stands g c =
+    let s = c.loop-outcome.state in
+    let told = subst (λ p. Tells s p) c.in-Ended.is c.progress.ensures.told in
+    told_reached s (Ended c.in-Ended.outcome) c.used.result c.place.result told c.used.ensures c.place.ensures (c.progress.ensures.some [])
+
+pub returns-in-Ended-clause-taken : goal.returns-in-Ended-clause-taken
+returns-in-Ended-clause-taken g c = λ h n used.
+    let s = c.loop-outcome.state in
+    let told = subst (λ p. Tells s p) c.in-Ended.is c.progress.ensures.told in
+    let end = told_reached s (Ended c.in-Ended.outcome) c.used.result c.place.result told c.used.ensures c.place.ensures (c.progress.ensures.some []) in
+    took_to c.args.state.now s n (g.B.Bits.left c.args.bits.now) (g.B.Bits.left c.loop-outcome.bits) _ (c.loop-outcome.invariant.7 h) used (grind arith) tt end
 
 pub loop-outcome-preserved-then-take_ready : goal.loop-outcome-preserved-then-take_ready
 loop-outcome-preserved-then-take_ready g c =
@@ -58,6 +72,24 @@ returns-in-None-clause-answer g c = λ h.
     let took = subst (λ o. Took o (g.B.Bits.left c.take_ready.new.bits) (g.B.Bits.left c.next.new.self)) c.in-None.is (c.in_ok-next-in-NeedBit.ensures.bit h) in
     went_reached c.args.state.now s (g.B.Bits.left c.args.bits.now) (g.B.Bits.left c.take_ready.new.bits) _ went
     (none_left s _ _ took.0 need)
+
+pub returns-in-None-clause-stands : goal.returns-in-None-clause-stands
+returns-in-None-clause-stands g c =
+    let s = c.take_ready.new.state in
+    let told = subst (λ s. Tells s NeedBit) (sym (c.take_ready.ensures.none c.if-take_ready.false)) (subst (λ p. Tells c.loop-outcome.state p) c.in-NeedBit.is c.progress.ensures.told) in
+    let some = subst (λ (s : Held). (a : Reached) × Ahead s [] a) (sym (c.take_ready.ensures.none c.if-take_ready.false)) (c.progress.ensures.some []) in
+    told_reached s NeedBit c.used-in-None.result c.place-in-None.result told c.used-in-None.ensures c.place-in-None.ensures some
+
+pub returns-in-None-clause-taken : goal.returns-in-None-clause-taken
+returns-in-None-clause-taken g c = λ h n used.
+    let s = c.take_ready.new.state in
+    let went = went_join c.args.state.now c.loop-outcome.state s _ _ _ (c.loop-outcome.invariant.7 h) (c.take_ready.ensures.went h) in
+    let told = subst (λ s. Tells s NeedBit) (sym (c.take_ready.ensures.none c.if-take_ready.false)) (subst (λ p. Tells c.loop-outcome.state p) c.in-NeedBit.is c.progress.ensures.told) in
+    let some = subst (λ (s : Held). (a : Reached) × Ahead s [] a) (sym (c.take_ready.ensures.none c.if-take_ready.false)) (c.progress.ensures.some []) in
+    let need = told_reached s NeedBit c.used-in-None.result c.place-in-None.result told c.used-in-None.ensures c.place-in-None.ensures some in
+    let took = subst (λ o. Took o (g.B.Bits.left c.take_ready.new.bits) (g.B.Bits.left c.next.new.self)) c.in-None.is (c.in_ok-next-in-NeedBit.ensures.bit h) in
+    let here = subst (λ w. WentOn c.args.state.now s (g.B.Bits.left c.args.bits.now) w) (took.0 ∙ sym took.1) went in
+    took_to c.args.state.now s n (g.B.Bits.left c.args.bits.now) (g.B.Bits.left c.next.new.self) _ here used (grind arith) took.1 need
 
 pub returns-in-None-clause-asked : goal.returns-in-None-clause-asked
 returns-in-None-clause-asked g c = λ h.

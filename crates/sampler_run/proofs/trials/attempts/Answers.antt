@@ -11,7 +11,7 @@ loop-trial-preserved c =
     let i = c.loop-trial.invariant in
     let n = c.attempt-came.ensures in
     let a = c.again-trial.ensures in
-    let over = subst (λ o. CameTo b u o) c.in-Failed.is n.came in
+    let over = subst (λ o. CameTo b u o) c.in-Rejected.is n.came in
     record {
       need = a.few;
       left = let left = a.left in let after = n.left in let fewer = i.left in omega (arith, left, after, fewer);
@@ -26,6 +26,6 @@ pub returns-in-Number : goal.returns-in-Number
 returns-in-Number c = record {
   tried = tried_join c.args.bound c.args.word c.args.trial c.loop-trial.trial c.attempt-came.result.0 c.loop-trial.invariant.tried c.attempt-came.ensures.tried;
   came = c.attempt-came.ensures.came;
-  last = λ failed. ⊎_elim (λ n. absurd (let is = n.1 in cc)) (λ n. absurd (let is = n in cc)) c.in-Number.is;
+  last = λ rejected. ⊎_elim (λ n. absurd (let is = n.1 in cc)) (λ n. absurd (let is = n in cc)) c.in-Number.is;
   need = let need = c.attempt-came.ensures.need in let few = c.loop-trial.invariant.need in omega (arith, need, few);
 }

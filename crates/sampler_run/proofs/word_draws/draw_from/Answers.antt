@@ -36,15 +36,15 @@ returns-in-NeedBit-clause-moved c =
     rests code l c.args.x (expression_in c.args.e.now) b c.args.m.now _ c.args.word c.args.left.now c.args.trial u c.requires.at c.requires.can.answered c.requires.begun
     n.tried (record { turns = refl; vars = refl; stack = refl }) pace.NeedBit here (subst (λ n. Asks (step code l n)) (sym here) (trial_asks code l c.args.x (expression_in c.args.e.now) b m u c.requires.at came.0 came.1), came.2)
 
-pub returns-in-Failed-clause-moved : goal.returns-in-Failed-clause-moved
-returns-in-Failed-clause-moved c =
+pub returns-in-Rejected-clause-moved : goal.returns-in-Rejected-clause-moved
+returns-in-Rejected-clause-moved c =
     let code = c.args.code.now.instrs in
     let l = c.args.limits.now in
     let b = c.args.bound in
     let m = machine_of c.args.m.now in
     let u = c.attempts-came.result.0 in
     let n = c.attempts-came.ensures in
-    let came = subst (λ o. CameTo b u o) c.in-Failed.is n.came in
-    let here = stands_at m b u _ c.under_way-m-in-Failed.ensures in
+    let came = subst (λ o. CameTo b u o) c.in-Rejected.is n.came in
+    let here = stands_at m b u _ c.under_way-m-in-Rejected.ensures in
     rests code l c.args.x (expression_in c.args.e.now) b c.args.m.now _ c.args.word c.args.left.now c.args.trial u c.requires.at c.requires.can.answered c.requires.begun
-    n.tried (record { turns = refl; vars = refl; stack = refl }) (pace.Ended (outcome.Limit Attempts)) here (subst (λ n. step code l n ≡ ends (outcome.Limit Attempts)) (sym here) (trial_ends code l c.args.x (expression_in c.args.e.now) b m u c.requires.at came (n.last c.in-Failed.is)))
+    n.tried (record { turns = refl; vars = refl; stack = refl }) (pace.Ended (outcome.Limit Attempts)) here (subst (λ n. step code l n ≡ ends (outcome.Limit Attempts)) (sym here) (trial_ends code l c.args.x (expression_in c.args.e.now) b m u c.requires.at came (n.last c.in-Rejected.is)))
