@@ -46,7 +46,7 @@ pub fn round_bits(
     ensures mass { IfOk result (λ t. IsMass (round_width (source_of p.now) turns (Some attempts)) t.1) }
     ensures refused { IfErr result (λ e. RoundRefused e (source_of p.now) turns (Some attempts)) }
 {
-    let _program = p.program();
+    p.is_kept();
     let nothing = Frac::of(0, 1);
     let attempts = Attempts {
         most: Some(attempts),
@@ -54,6 +54,6 @@ pub fn round_bits(
     let mut meter = Meter::Bits(nothing);
     let (_table, ended) = fold_body(alloc, p, turns, attempts, &mut meter)?;
     let failed = ended.failed;
-    let _low = failed.num();
+    failed.is_lowest();
     Ok((bits_of(meter), failed))
 }

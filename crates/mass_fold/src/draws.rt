@@ -17,7 +17,7 @@ use crate::attempts::Attempts;
 use crate::ended::{Ended, Gone};
 use crate::error::MassError;
 use crate::state::State;
-use crate::steps::gone;
+use crate::steps::ended_by;
 use crate::table::Table;
 use draw_tree::bits_for;
 use frac128::Frac;
@@ -30,7 +30,7 @@ pub fn power(base: &Frac, count: u64) -> Option<Frac>
     ensures value { IfSome result (IsPower base.now count) }
     ensures cause { IfNone result (PowerBlames base.now count) }
 {
-    let _low = base.num();
+    base.is_lowest();
     let mut product = Frac::of(1, 1);
     for _ in 0..count {
         product = product.mul(base)?;
@@ -38,8 +38,8 @@ pub fn power(base: &Frac, count: u64) -> Option<Frac>
     Some(product)
 }
 
-/// For a uniform draw below `bound`: the probability of each number, and that all attempts are rejected. `None` where either needs
-/// more than 128 bits.
+/// For a uniform draw below `bound`: the probability of each number, and the probability that every attempt is rejected, which is 0
+/// without a limit of attempts. `None` where one of the two needs more than 128 bits.
 pub fn parts(bound: u64, attempts: Attempts) -> Option<(Frac, Frac)>
     requires least { 1 ≤ bound }
     requires most { bound ≤ 2 ^ 63 }
@@ -69,7 +69,7 @@ pub fn scale(alloc: Global, w: &Frac, table: &Table) -> Result<Table, MassError>
     ensures vars { IfOk result (λ t. t.vars ≡ table.now.vars) }
     ensures cause { IfErr result (λ e. (E : Ended) → DrawBlames (λ s. w.now) (λ s. w.now) all_kept none_stopped table.now.states.entries E e) }
 {
-    let _low = w.num();
+    w.is_lowest();
     let mut next = Table::new(alloc, table.vars);
     for (s, f) in &table.states {
         let h = f.mul(w).ok_or(MassError::TooWide)?;
@@ -83,7 +83,7 @@ pub fn end_part(x: Gone, w: &Frac, table: &Table, ended: &mut Ended) -> Result<(
     ensures ok { OnOk result (DrawsTo (λ s. w.now) (λ s. w.now) none_kept (all_stopped (end_of x)) table.now.states.entries ended.old [] ended.new) }
     ensures cause { IfErr result (DrawBlames (λ s. w.now) (λ s. w.now) none_kept (all_stopped (end_of x)) table.now.states.entries ended.old) }
 {
-    let _low = w.num();
+    w.is_lowest();
     for (_, f) in &table.states {
         let h = f.mul(w).ok_or(MassError::TooWide)?;
         ended.add(x, &h)?;
@@ -162,7 +162,7 @@ fn draw_entry(
     ensures cause { IfErr result (EntryBlames x (value_of (expression_of e.now)) attempts.most next.old.states.entries ended.old s.now f.now) }
 {
     match eval(e, s.values()) {
-        Err(fault) => ended.add(gone(fault), f),
+        Err(fault) => ended.add(ended_by(fault), f),
         Ok(v) => {
             if v < 1 {
                 return ended.add(Gone::Bound, f);

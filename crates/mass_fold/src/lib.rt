@@ -12,6 +12,7 @@ mod fold;
 mod laws;
 mod masses;
 mod meter;
+mod ordered;
 mod outcomes;
 mod rounds;
 mod rows;

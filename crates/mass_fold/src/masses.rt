@@ -34,7 +34,6 @@ fn one_round(
 ) -> Result<(BTreeMap<Outcome, Frac>, Frac), MassError>
     ensures ok { IfOk result (λ t. RoundGives (source_of p.now) turns attempts.most t.0.entries t.1) }
     ensures cause { IfErr result (λ e. RoundRefused e (source_of p.now) turns attempts.most) }
-    ensures wider { (R : Option ℕ) → round_width (source_of p.now) turns attempts.most ≤ width_of (source_of p.now) turns attempts.most R }
 {
     let program = p.program();
     let mut meter = Meter::Off;
@@ -52,6 +51,8 @@ fn one_round(
 ///
 /// `TooWide` comes only where the common denominator of the round is above 2^128 − 1, and `TooManyStates` only where some point of the
 /// program is reached with more than 65,536 states. `AllFailed` never comes, and `OutOfMemory` where memory runs out.
+///
+/// Only tests and users of the crate call it.
 pub fn round(
     alloc: Global,
     p: &Checked,
@@ -65,7 +66,7 @@ pub fn round(
     ensures refused { IfErr result (λ e. RoundRefused e (source_of p.now) turns attempts) }
 {
     let (table, failed) = one_round(alloc, p, turns, Attempts { most: attempts })?;
-    let _low = failed.num();
+    failed.is_lowest();
     Ok(Round {
         rows: FracRows::of(alloc, table)?,
         failed,
@@ -95,8 +96,9 @@ pub fn mass(
     ensures parts { IfOk result (λ rows. IfNone rounds (WholeWithin (width_of (source_of p.now) turns attempts rounds) rows)) }
     ensures refused { IfErr result (λ e. MassRefused e (source_of p.now) turns attempts rounds) }
 {
+    p.is_kept();
     let (table, failed) = one_round(alloc, p, turns, Attempts { most: attempts })?;
-    let _low = failed.num();
+    failed.is_lowest();
     match rounds {
         Some(count) => FracRows::of(alloc, in_rounds(alloc, table, &failed, count)?),
         None => {

@@ -36,11 +36,11 @@ pub enum Meter {
 fn sum_with(sum: &Frac, bits: &Frac, f: &Frac) -> Meter
     ensures { (N M : ℕ) → 0 < N → 0 < M → Whole M bits.now → Whole N f.now → CountedOn (N * M) (whole N f.now * whole M bits.now) sum.now result }
 {
-    let _low = sum.num();
+    sum.is_lowest();
     match f.mul(bits) {
         None => Meter::TooWide,
         Some(more) => {
-            let _lower = more.num();
+            more.is_lowest();
             match sum.add(&more) {
                 None => Meter::TooWide,
                 Some(total) => Meter::Bits(total),

@@ -31,10 +31,10 @@ fn outcome_sum(rows: &BTreeMap<Outcome, Frac>, x: &Outcome, f: &Frac) -> Result<
     ensures ok { IfOk result (λ v. SumAt ⟦<Outcome as Ord>⟧.cmp rows.now.entries x.now f.now v) }
     ensures cause { IfErr result (λ e. AddBlames e rows.now.entries f.now) }
 {
-    let _low = f.num();
+    f.is_lowest();
     match rows.get(x) {
         Some(g) => {
-            let _lower = g.num();
+            g.is_lowest();
             g.add(f).ok_or(MassError::TooWide)
         }
         None => Ok(*f),

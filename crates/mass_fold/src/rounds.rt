@@ -19,7 +19,7 @@ pub fn repeated(s: &Frac, f: &Frac, rounds: u64) -> Option<Frac>
     ensures value { IfSome result (IsRepeated s.now f.now rounds) }
     ensures cause { IfNone result (RepeatBlames s.now f.now rounds) }
 {
-    let _low = s.num();
+    s.is_lowest();
     if f.num() == 0 {
         return Some(*s);
     }

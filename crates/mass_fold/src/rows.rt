@@ -5,6 +5,7 @@ ghost use Rattle.mass_fold.specs.declared.error.MassError.TheVariants.{OutOfMemo
 ghost use Rattle.mass_fold.specs.Rows.{Ascending, EachLowest};
 
 use crate::error::MassError;
+use crate::ordered::is_ordered;
 use frac128::Frac;
 use gcl_core::{Outcome, outcomes_are_ordered};
 use std::alloc::Global;
@@ -52,9 +53,9 @@ impl FracRows {
     {
         outcomes_are_ordered();
         let mut rows = Vec::new(alloc);
-        let _count = table.len();
+        is_ordered(&table);
         for (x, f) in table {
-            let _low = f.num();
+            f.is_lowest();
             rows.push((x, f))?;
         }
         Ok(FracRows { rows })

@@ -13,6 +13,7 @@ use frac128::Frac;
 use std::alloc::Global;
 use std::collections::BTreeMap;
 
+/// The most states that a table has. With 256 variables of 8 bytes each, the states of one table take at most 128 MiB.
 pub const MOST_STATES: usize = 65_536;
 
 /// States of `vars` variables, each once, with its weight.
@@ -31,10 +32,10 @@ fn sum_at(table: &BTreeMap<State, Frac>, s: &State, f: &Frac) -> Result<Frac, Ma
     ensures cause { IfErr result (λ e. PutBlames e table.now.entries s.now f.now) }
 {
     let count = table.len();
-    let _low = f.num();
+    f.is_lowest();
     match table.get(s) {
         Some(g) => {
-            let _lower = g.num();
+            g.is_lowest();
             g.add(f).ok_or(MassError::TooWide)
         }
         None if count >= MOST_STATES => Err(MassError::TooManyStates),

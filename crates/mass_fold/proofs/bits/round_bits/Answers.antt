@@ -10,7 +10,7 @@ returns-clause-bits c =
 
 pub returns-clause-failed : goal.returns-clause-failed
 returns-clause-failed c =
-    failed_lowest (source_of c.args.p.now) c.args.turns (Some c.args.attempts) c.in_ok-_table.ended.failed c.program-program.ensures.weights c.num-low.ensures.lowest c.in_ok-_table.ensures.ok.failed
+    failed_lowest (source_of c.args.p.now) c.args.turns (Some c.args.attempts) c.in_ok-_table.ended.failed c.is_kept.ensures.weights c.is_lowest.ensures c.in_ok-_table.ensures.ok.failed
 
 pub returns-clause-mass : goal.returns-clause-mass
 returns-clause-mass c = let ok = c.in_ok-_table.ensures.ok in record { parts = ok.ends.kept.0; at_most_all = omega (arith, ok.total) }

@@ -15,7 +15,7 @@ pub returns-in_err-end_part-clause-cause : goal.returns-in_err-end_part-clause-c
 returns-in_err-end_part-clause-cause c =
     let p = some_fits _ _ (λ t. IsParts c.args.bound c.args.attempts.most t.0 t.1) c.parts.ensures.value c.in_ok-part.ensures.value in
     let out : c.from_residual-in_err-end_part.result ≡ Err c.in_err-end_part.field-0.0 = grind arith in
-    rw out (undecided_refused c.args.bound c.args.attempts.most _ _ p c.args.table.now.states.entries c.args.ended.now c.len-count.ensures.ordered _ c.in_err-end_part.ensures.cause)
+    rw out (undecided_refused c.args.bound c.args.attempts.most _ _ p c.args.table.now.states.entries c.args.ended.now c.is_ordered.ensures _ c.in_err-end_part.ensures.cause)
 
 pub returns-clause-above : goal.returns-clause-above
 returns-clause-above c =
@@ -28,4 +28,4 @@ returns-clause-equal c = (some_fits _ _ (λ t. IsParts c.args.bound c.args.attem
 pub returns-clause-ok : goal.returns-clause-ok
 returns-clause-ok c =
     let p = some_fits _ _ (λ t. IsParts c.args.bound c.args.attempts.most t.0 t.1) c.parts.ensures.value c.in_ok-part.ensures.value in
-    undecided_to c.args.bound c.args.attempts.most _ _ p c.args.table.now.states.entries c.args.ended.now c.len-count.ensures.ordered _ c.in_ok-end_part.ensures.ok
+    undecided_to c.args.bound c.args.attempts.most _ _ p c.args.table.now.states.entries c.args.ended.now c.is_ordered.ensures _ c.in_ok-end_part.ensures.ok

@@ -13,7 +13,7 @@ eval-requires c = subst (λ s. ExpressionBelow (expression_of c.args.e.now) (len
 pub returns-in-Err-clause-stopped : goal.returns-in-Err-clause-stopped
 returns-in-Err-clause-stopped c =
     let v = value_of (expression_of c.args.e.now) in
-    IfOk-weaker c.add.result _ _ (λ _ a. fault_stopped c.args.x c.args.attempts.most c.args.s.now (v c.args.s.now) c.in-Err.fault c.gone.result _ _ _ (ap v (sym c.values.ensures) ∙ sym c.in-Err.ensures) c.gone.ensures a) c.add.ensures.ok
+    IfOk-weaker c.add.result _ _ (λ _ a. fault_stopped c.args.x c.args.attempts.most c.args.s.now (v c.args.s.now) c.in-Err.fault c.ended_by.result _ _ _ (ap v (sym c.values.ensures) ∙ sym c.in-Err.ensures) c.ended_by.ensures a) c.add.ensures.ok
 
 pub returns-in-Err-clause-added : goal.returns-in-Err-clause-added
 returns-in-Err-clause-added c =
@@ -23,7 +23,7 @@ returns-in-Err-clause-added c =
 pub returns-in-Err-clause-cause : goal.returns-in-Err-clause-cause
 returns-in-Err-clause-cause c =
     let v = value_of (expression_of c.args.e.now) in
-    IfErr-weaker c.add.result _ _ (λ e a. fault_blamed c.args.x c.args.attempts.most c.args.s.now (v c.args.s.now) c.in-Err.fault c.gone.result _ _ _ e (ap v (sym c.values.ensures) ∙ sym c.in-Err.ensures) c.gone.ensures a) c.add.ensures.cause
+    IfErr-weaker c.add.result _ _ (λ e a. fault_blamed c.args.x c.args.attempts.most c.args.s.now (v c.args.s.now) c.in-Err.fault c.ended_by.result _ _ _ e (ap v (sym c.values.ensures) ∙ sym c.in-Err.ensures) c.ended_by.ensures a) c.add.ensures.cause
 
 pub returns-then-v-lt1-clause-added : goal.returns-then-v-lt1-clause-added
 returns-then-v-lt1-clause-added c =

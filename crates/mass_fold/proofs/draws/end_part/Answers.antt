@@ -14,7 +14,7 @@ loop-f-init c =
 pub loop-f-preserved : goal.loop-f-preserved
 loop-f-preserved c =
     let w = c.args.w.now in
-    let wp : 0 < w.1 = omega (arith, c.num-low.ensures.lowest.positive) in
+    let wp : 0 < w.1 = omega (arith, c.is_lowest.ensures.positive) in
     record {
       next = tt;
       finite = tt;
@@ -31,7 +31,7 @@ returns-clause-ok c = drawing_along (λ s. c.args.w.now) (λ s. c.args.w.now) no
 pub returns-in_err-h-clause-cause : goal.returns-in_err-h-clause-cause
 returns-in_err-h-clause-cause c =
     let w = c.args.w.now in
-    let wp : 0 < w.1 = omega (arith, c.num-low.ensures.lowest.positive) in
+    let wp : 0 < w.1 = omega (arith, c.is_lowest.ensures.positive) in
     let out : c.from_residual.result ≡ Err TooWide = grind (arith, is_wide _ _ c.in_err-h.ensures.value) in
     rw out (drawing_blame (λ s. w) (λ s. w) none_kept (all_stopped (end_of c.args.x)) c.args.table.now.states.entries c.args.ended.now [] c.loop-f.ended c.in-Some.field-0-0.now c.in-Some.f.now c.next.new.self
     (drawing_along (λ s. w) (λ s. w) none_kept (all_stopped (end_of c.args.x)) c.args.table.now.states.entries c.args.ended.now _ _ _ _ c.in-Some.ensures.steps c.loop-f.invariant.so_far) TooWide
@@ -40,7 +40,7 @@ returns-in_err-h-clause-cause c =
 pub returns-in_err-add-clause-cause : goal.returns-in_err-add-clause-cause
 returns-in_err-add-clause-cause c =
     let w = c.args.w.now in
-    let wp : 0 < w.1 = omega (arith, c.num-low.ensures.lowest.positive) in
+    let wp : 0 < w.1 = omega (arith, c.is_lowest.ensures.positive) in
     let out : c.from_residual-in_err-add.result ≡ Err c.in_err-add.field-0.0 = grind arith in
     rw out (drawing_blame (λ s. w) (λ s. w) none_kept (all_stopped (end_of c.args.x)) c.args.table.now.states.entries c.args.ended.now [] c.loop-f.ended c.in-Some.field-0-0.now c.in-Some.f.now c.next.new.self
     (drawing_along (λ s. w) (λ s. w) none_kept (all_stopped (end_of c.args.x)) c.args.table.now.states.entries c.args.ended.now _ _ _ _ c.in-Some.ensures.steps c.loop-f.invariant.so_far) _

@@ -20,7 +20,7 @@ loop-s-init c =
 pub loop-s-preserved : goal.loop-s-preserved
 loop-s-preserved c =
     let w = c.args.w.now in
-    let wp : 0 < w.1 = omega (arith, c.num-low.ensures.lowest.positive) in
+    let wp : 0 < w.1 = omega (arith, c.is_lowest.ensures.positive) in
     record {
       next = tt;
       finite = tt;
@@ -41,7 +41,7 @@ returns-clause-ok c = λ E. drawing_along (λ s. c.args.w.now) (λ s. c.args.w.n
 pub returns-in_err-h-clause-cause : goal.returns-in_err-h-clause-cause
 returns-in_err-h-clause-cause c =
     let w = c.args.w.now in
-    let wp : 0 < w.1 = omega (arith, c.num-low.ensures.lowest.positive) in
+    let wp : 0 < w.1 = omega (arith, c.is_lowest.ensures.positive) in
     let out : c.from_residual.result ≡ Err TooWide = grind (arith, is_wide _ _ c.in_err-h.ensures.value) in
     rw out (λ E. drawing_blame (λ s. w) (λ s. w) all_kept none_stopped c.args.table.now.states.entries E c.loop-s.next.states.entries E c.in-Some.s.now c.in-Some.f.now c.next.new.self
     (drawing_along (λ s. w) (λ s. w) all_kept none_stopped c.args.table.now.states.entries E _ E _ _ c.in-Some.ensures.steps (c.loop-s.invariant.so_far E)) TooWide
@@ -50,7 +50,7 @@ returns-in_err-h-clause-cause c =
 pub returns-in_err-put-clause-cause : goal.returns-in_err-put-clause-cause
 returns-in_err-put-clause-cause c =
     let w = c.args.w.now in
-    let wp : 0 < w.1 = omega (arith, c.num-low.ensures.lowest.positive) in
+    let wp : 0 < w.1 = omega (arith, c.is_lowest.ensures.positive) in
     let out : c.from_residual-in_err-put.result ≡ Err c.in_err-put.field-0.0 = grind arith in
     rw out (λ E. drawing_blame (λ s. w) (λ s. w) all_kept none_stopped c.args.table.now.states.entries E c.loop-s.next.states.entries E c.in-Some.s.now c.in-Some.f.now c.next.new.self
     (drawing_along (λ s. w) (λ s. w) all_kept none_stopped c.args.table.now.states.entries E _ E _ _ c.in-Some.ensures.steps (c.loop-s.invariant.so_far E)) _

@@ -52,7 +52,10 @@ fold_block-loop-s-preserved t c =
       weights = λ h. (weights_next _ _ _ p (c.loop-s.invariant.weights h)).1;
       vars = c.in_ok-now.ensures.vars ∙ c.loop-s.invariant.vars;
       so_far = rest_next c.args.turns c.args.attempts.most (block_flow c.args.turns c.args.attempts.most (list_of c.deref-s-items.result.now)) _ _ _ _ _ _ _ _ _ p c.loop-s.invariant.so_far c.in_ok-now.ensures.ok;
-      bits = meters_next c.args.turns c.args.attempts.most (block_flow c.args.turns c.args.attempts.most (list_of c.deref-s-items.result.now)) (block_draws c.args.turns c.args.attempts.most (list_of c.deref-s-items.result.now)) _ _ _ _ _ _ _ _ _ _ _ _ p c.loop-s.invariant.bits c.in_ok-now.ensures.ok c.in_ok-now.ensures.bits;
+      bits = meters_next c.args.turns c.args.attempts.most
+          (block_flow c.args.turns c.args.attempts.most (list_of c.deref-s-items.result.now))
+          (block_draws c.args.turns c.args.attempts.most (list_of c.deref-s-items.result.now)) _ _ _ _ _ _ _ _ _ _ _ _ p
+          c.loop-s.invariant.bits c.in_ok-now.ensures.ok c.in_ok-now.ensures.bits;
       blames = blames_next c.args.turns c.args.attempts.most (block_flow c.args.turns c.args.attempts.most (list_of c.deref-s-items.result.now)) _ _ _ _ _ _ _ _ _ p w c.loop-s.invariant.blames c.in_ok-now.ensures.ok;
     }
 
@@ -70,13 +73,25 @@ fold_loop-loop-init t c =
     record {
       now_vars = refl;
       exits_vars = c.new-exits.ensures.vars;
-      so_far = loops_at (loop_flow (value_of (expression_of c.args.e.now)) (block_flow c.args.turns c.args.attempts.most (statements_of c.args.body.now))) c.args.turns _ _ _ _ _ _ _ e (loop_start c.args.turns c.args.attempts.most (expression_of c.args.e.now) (statements_of c.args.body.now) c.args.table.states.entries c.args.ended.now c.new-exits.result.states.entries c.new-exits.ensures.empty);
-      bits = meters_at c.args.attempts.most (loop_flow (value_of (expression_of c.args.e.now)) (block_flow c.args.turns c.args.attempts.most (statements_of c.args.body.now))) (draws c.args.turns c.args.attempts.most (expression_of c.args.e.now) (statements_of c.args.body.now) c.args.table.states.entries c.args.ended.now c.args.meter.now) c.args.turns _ _ _ _ _ _ _ _ _ e (meter_start c.args.turns c.args.attempts.most (expression_of c.args.e.now) (statements_of c.args.body.now) c.args.table.states.entries c.args.ended.now c.args.meter.now c.new-exits.result.states.entries c.new-exits.ensures.empty);
+      so_far = loops_at (loop_flow (value_of (expression_of c.args.e.now))
+          (block_flow c.args.turns c.args.attempts.most (statements_of c.args.body.now))) c.args.turns _ _ _ _ _ _ _ e
+          (loop_start c.args.turns c.args.attempts.most (expression_of c.args.e.now) (statements_of c.args.body.now)
+          c.args.table.states.entries c.args.ended.now c.new-exits.result.states.entries c.new-exits.ensures.empty);
+      bits = meters_at c.args.attempts.most (loop_flow (value_of (expression_of c.args.e.now))
+          (block_flow c.args.turns c.args.attempts.most (statements_of c.args.body.now)))
+          (draws c.args.turns c.args.attempts.most (expression_of c.args.e.now) (statements_of c.args.body.now)
+          c.args.table.states.entries c.args.ended.now c.args.meter.now) c.args.turns _ _ _ _ _ _ _ _ _ e
+          (meter_start c.args.turns c.args.attempts.most (expression_of c.args.e.now) (statements_of c.args.body.now)
+          c.args.table.states.entries c.args.ended.now c.args.meter.now c.new-exits.result.states.entries
+          c.new-exits.ensures.empty);
     }
 
 pub fold_loop-returns-then-len-eq0-clause-ok : goal.fold_loop-returns-then-len-eq0-clause-ok
 fold_loop-returns-then-len-eq0-clause-ok t c =
-    loop_dry c.args.turns c.args.attempts.most (expression_of c.args.e.now) (statements_of c.args.body.now) c.args.table.states.entries c.args.ended.now (c.args.turns - c.loop.counter) c.loop.now.states.entries c.loop.exits.states.entries c.loop.ended c.loop.invariant.so_far c.requires.weights (empty_of c.loop.now.states.entries (sym c.len.ensures.len ∙ c.if-len-eq0.true))
+    loop_dry c.args.turns c.args.attempts.most (expression_of c.args.e.now) (statements_of c.args.body.now)
+    c.args.table.states.entries c.args.ended.now (c.args.turns - c.loop.counter) c.loop.now.states.entries
+    c.loop.exits.states.entries c.loop.ended c.loop.invariant.so_far c.requires.weights
+    (empty_of c.loop.now.states.entries (sym c.len.ensures.len ∙ c.if-len-eq0.true))
 
 pub fold_loop-split-requires : goal.fold_loop-split-requires
 fold_loop-split-requires t c = subst (ExpressionBelow (expression_of c.args.e.now)) (sym c.loop.invariant.now_vars) c.requires.reads
@@ -92,19 +107,27 @@ fold_loop-fold_block-requires t c =
 pub fold_loop-returns-in_err-merge-clause-cause : goal.fold_loop-returns-in_err-merge-clause-cause
 fold_loop-returns-in_err-merge-clause-cause t c =
     let out : c.from_residual-in_err-merge.result ≡ Err c.in_err-merge.field-0.0 = grind arith in
-    rw out (exits_blame c.args.turns c.args.attempts.most (expression_of c.args.e.now) (statements_of c.args.body.now) c.args.table.states.entries c.args.ended.now (c.args.turns - c.loop.counter) c.loop.now.states.entries c.loop.exits.states.entries c.loop.ended c.loop.invariant.so_far _ _ _ c.in_ok-first.ensures.first c.in_ok-first.ensures.second _ c.requires.weights c.in_err-merge.ensures.cause)
+    rw out (exits_blame c.args.turns c.args.attempts.most (expression_of c.args.e.now) (statements_of c.args.body.now)
+    c.args.table.states.entries c.args.ended.now (c.args.turns - c.loop.counter) c.loop.now.states.entries
+    c.loop.exits.states.entries c.loop.ended c.loop.invariant.so_far _ _ _ c.in_ok-first.ensures.first
+    c.in_ok-first.ensures.second _ c.requires.weights c.in_err-merge.ensures.cause)
 
 pub fold_loop-returns-in_err-now-clause-cause : goal.fold_loop-returns-in_err-now-clause-cause
 fold_loop-returns-in_err-now-clause-cause t c =
     let e : c.args.turns - c.loop.counter ≡ suc (c.args.turns - (c.loop.counter + 1)) = omega arith in
     let l = loops_at (loop_flow (value_of (expression_of c.args.e.now)) (block_flow c.args.turns c.args.attempts.most (statements_of c.args.body.now))) c.args.turns _ _ _ _ _ _ _ e c.loop.invariant.so_far in
     let out : c.from_residual-in_err-now.result ≡ Err c.in_err-now.field-0.0 = grind arith in
-    rw out (body_blames c.args.turns c.args.attempts.most (expression_of c.args.e.now) (statements_of c.args.body.now) c.args.table.states.entries c.args.ended.now (c.args.turns - (c.loop.counter + 1)) c.loop.now.states.entries c.loop.exits.states.entries c.loop.ended l _ _ _ c.in_ok-first.ensures.first c.in_ok-first.ensures.second _ c.requires.weights c.in_err-now.ensures.cause)
+    rw out (body_blames c.args.turns c.args.attempts.most (expression_of c.args.e.now) (statements_of c.args.body.now)
+    c.args.table.states.entries c.args.ended.now (c.args.turns - (c.loop.counter + 1)) c.loop.now.states.entries
+    c.loop.exits.states.entries c.loop.ended l _ _ _ c.in_ok-first.ensures.first c.in_ok-first.ensures.second _
+    c.requires.weights c.in_err-now.ensures.cause)
 
 pub fold_loop-returns-in_err-first-clause-cause : goal.fold_loop-returns-in_err-first-clause-cause
 fold_loop-returns-in_err-first-clause-cause t c =
     let out : c.from_residual.result ≡ Err c.in_err-first.field-0.0 = grind arith in
-    rw out (guard_blames c.args.turns c.args.attempts.most (expression_of c.args.e.now) (statements_of c.args.body.now) c.args.table.states.entries c.args.ended.now (c.args.turns - c.loop.counter) c.loop.now.states.entries c.loop.exits.states.entries c.loop.ended c.loop.invariant.so_far _ c.requires.weights c.in_err-first.ensures.cause)
+    rw out (guard_blames c.args.turns c.args.attempts.most (expression_of c.args.e.now) (statements_of c.args.body.now)
+    c.args.table.states.entries c.args.ended.now (c.args.turns - c.loop.counter) c.loop.now.states.entries
+    c.loop.exits.states.entries c.loop.ended c.loop.invariant.so_far _ c.requires.weights c.in_err-first.ensures.cause)
 
 pub fold_loop-loop-preserved : goal.fold_loop-loop-preserved
 fold_loop-loop-preserved t c =
@@ -113,40 +136,65 @@ fold_loop-loop-preserved t c =
     record {
       now_vars = c.in_ok-now.ensures.vars ∙ c.in_ok-first.ensures.vars.0 ∙ c.loop.invariant.now_vars;
       exits_vars = c.merge.ensures.vars ∙ c.loop.invariant.exits_vars;
-      so_far = loop_turn c.args.turns c.args.attempts.most (expression_of c.args.e.now) (statements_of c.args.body.now) c.args.table.states.entries c.args.ended.now (c.args.turns - (c.loop.counter + 1)) c.loop.now.states.entries c.loop.exits.states.entries c.loop.ended l _ _ _ c.in_ok-first.ensures.first c.in_ok-first.ensures.second _ _ _ c.in_ok-merge.ensures.ok c.in_ok-now.ensures.ok;
-      bits = meter_turn c.args.turns c.args.attempts.most (expression_of c.args.e.now) (statements_of c.args.body.now) c.args.table.states.entries c.args.ended.now c.args.meter.now (c.args.turns - (c.loop.counter + 1)) c.loop.now.states.entries c.loop.exits.states.entries c.loop.ended c.loop.meter (meters_at c.args.attempts.most (loop_flow (value_of (expression_of c.args.e.now)) (block_flow c.args.turns c.args.attempts.most (statements_of c.args.body.now))) (draws c.args.turns c.args.attempts.most (expression_of c.args.e.now) (statements_of c.args.body.now) c.args.table.states.entries c.args.ended.now c.args.meter.now) c.args.turns _ _ _ _ _ _ _ _ _ e c.loop.invariant.bits) _ _ _ c.in_ok-first.ensures.first c.in_ok-first.ensures.second _ _ _ _ c.in_ok-merge.ensures.ok c.in_ok-now.ensures.ok c.in_ok-now.ensures.bits;
+      so_far = loop_turn c.args.turns c.args.attempts.most (expression_of c.args.e.now) (statements_of c.args.body.now)
+          c.args.table.states.entries c.args.ended.now (c.args.turns - (c.loop.counter + 1)) c.loop.now.states.entries
+          c.loop.exits.states.entries c.loop.ended l _ _ _ c.in_ok-first.ensures.first c.in_ok-first.ensures.second _ _ _
+          c.in_ok-merge.ensures.ok c.in_ok-now.ensures.ok;
+      bits = meter_turn c.args.turns c.args.attempts.most (expression_of c.args.e.now) (statements_of c.args.body.now)
+          c.args.table.states.entries c.args.ended.now c.args.meter.now (c.args.turns - (c.loop.counter + 1))
+          c.loop.now.states.entries c.loop.exits.states.entries c.loop.ended c.loop.meter
+          (meters_at c.args.attempts.most (loop_flow (value_of (expression_of c.args.e.now))
+          (block_flow c.args.turns c.args.attempts.most (statements_of c.args.body.now)))
+          (draws c.args.turns c.args.attempts.most (expression_of c.args.e.now) (statements_of c.args.body.now)
+          c.args.table.states.entries c.args.ended.now c.args.meter.now) c.args.turns _ _ _ _ _ _ _ _ _ e c.loop.invariant.bits)
+          _ _ _ c.in_ok-first.ensures.first c.in_ok-first.ensures.second _ _ _ _ c.in_ok-merge.ensures.ok c.in_ok-now.ensures.ok
+          c.in_ok-now.ensures.bits;
     }
 
 pub fold_loop-returns-then-len-eq0-clause-bits : goal.fold_loop-returns-then-len-eq0-clause-bits
 fold_loop-returns-then-len-eq0-clause-bits t c =
-    meter_dry c.args.turns c.args.attempts.most (expression_of c.args.e.now) (statements_of c.args.body.now) c.args.table.states.entries c.args.ended.now c.args.meter.now (c.args.turns - c.loop.counter) c.loop.now.states.entries c.loop.exits.states.entries c.loop.ended c.loop.meter c.requires.weights (empty_of c.loop.now.states.entries (sym c.len.ensures.len ∙ c.if-len-eq0.true)) c.loop.invariant.bits
+    meter_dry c.args.turns c.args.attempts.most (expression_of c.args.e.now) (statements_of c.args.body.now)
+    c.args.table.states.entries c.args.ended.now c.args.meter.now (c.args.turns - c.loop.counter) c.loop.now.states.entries
+    c.loop.exits.states.entries c.loop.ended c.loop.meter c.requires.weights
+    (empty_of c.loop.now.states.entries (sym c.len.ensures.len ∙ c.if-len-eq0.true)) c.loop.invariant.bits
 
 pub fold_loop-returns-clause-bits : goal.fold_loop-returns-clause-bits
 fold_loop-returns-clause-bits t c =
-    meter_end c.args.turns c.args.attempts.most (expression_of c.args.e.now) (statements_of c.args.body.now) c.args.table.states.entries c.args.ended.now c.args.meter.now (c.args.turns - c.loop.counter) c.loop.now.states.entries c.loop.exits.states.entries c.loop.ended c.loop.meter (omega arith) c.loop.invariant.bits
+    meter_end c.args.turns c.args.attempts.most (expression_of c.args.e.now) (statements_of c.args.body.now)
+    c.args.table.states.entries c.args.ended.now c.args.meter.now (c.args.turns - c.loop.counter) c.loop.now.states.entries
+    c.loop.exits.states.entries c.loop.ended c.loop.meter (omega arith) c.loop.invariant.bits
 
 pub fold_loop-returns-in_err-merge-2-clause-cause : goal.fold_loop-returns-in_err-merge-2-clause-cause
 fold_loop-returns-in_err-merge-2-clause-cause t c =
     let out : c.from_residual-in_err-merge-2.result ≡ Err c.in_err-merge-2.field-0.0 = grind arith in
-    rw out (exits_blame c.args.turns c.args.attempts.most (expression_of c.args.e.now) (statements_of c.args.body.now) c.args.table.states.entries c.args.ended.now (c.args.turns - c.loop.counter) c.loop.now.states.entries c.loop.exits.states.entries c.loop.ended c.loop.invariant.so_far _ _ _ c.in_ok-first-2.ensures.first c.in_ok-first-2.ensures.second _ c.requires.weights c.in_err-merge-2.ensures.cause)
+    rw out (exits_blame c.args.turns c.args.attempts.most (expression_of c.args.e.now) (statements_of c.args.body.now)
+    c.args.table.states.entries c.args.ended.now (c.args.turns - c.loop.counter) c.loop.now.states.entries
+    c.loop.exits.states.entries c.loop.ended c.loop.invariant.so_far _ _ _ c.in_ok-first-2.ensures.first
+    c.in_ok-first-2.ensures.second _ c.requires.weights c.in_err-merge-2.ensures.cause)
 
 pub fold_loop-returns-clause-ok : goal.fold_loop-returns-clause-ok
 fold_loop-returns-clause-ok t c =
     let e : c.args.turns - c.loop.counter ≡ 0 = omega arith in
     let l = loops_at (loop_flow (value_of (expression_of c.args.e.now)) (block_flow c.args.turns c.args.attempts.most (statements_of c.args.body.now))) c.args.turns _ _ _ _ _ _ _ e c.loop.invariant.so_far in
-    loop_end c.args.turns c.args.attempts.most (expression_of c.args.e.now) (statements_of c.args.body.now) c.args.table.states.entries c.args.ended.now c.loop.now.states.entries c.loop.exits.states.entries c.loop.ended l _ _ _ c.in_ok-first-2.ensures.first c.in_ok-first-2.ensures.second _ _ c.in_ok-merge-2.ensures.ok c.in_ok-end_all.ensures.ok
+    loop_end c.args.turns c.args.attempts.most (expression_of c.args.e.now) (statements_of c.args.body.now)
+    c.args.table.states.entries c.args.ended.now c.loop.now.states.entries c.loop.exits.states.entries c.loop.ended l _ _ _
+    c.in_ok-first-2.ensures.first c.in_ok-first-2.ensures.second _ _ c.in_ok-merge-2.ensures.ok c.in_ok-end_all.ensures.ok
 
 pub fold_loop-returns-in_err-end_all-clause-cause : goal.fold_loop-returns-in_err-end_all-clause-cause
 fold_loop-returns-in_err-end_all-clause-cause t c =
     let e : c.args.turns - c.loop.counter ≡ 0 = omega arith in
     let l = loops_at (loop_flow (value_of (expression_of c.args.e.now)) (block_flow c.args.turns c.args.attempts.most (statements_of c.args.body.now))) c.args.turns _ _ _ _ _ _ _ e c.loop.invariant.so_far in
     let out : c.from_residual-in_err-end_all.result ≡ Err c.in_err-end_all.field-0.0 = grind arith in
-    rw out (turns_blame c.args.turns c.args.attempts.most (expression_of c.args.e.now) (statements_of c.args.body.now) c.args.table.states.entries c.args.ended.now c.loop.now.states.entries c.loop.exits.states.entries c.loop.ended l _ _ _ c.in_ok-first-2.ensures.first c.in_ok-first-2.ensures.second _ c.requires.weights c.in_err-end_all.ensures.cause)
+    rw out (turns_blame c.args.turns c.args.attempts.most (expression_of c.args.e.now) (statements_of c.args.body.now)
+    c.args.table.states.entries c.args.ended.now c.loop.now.states.entries c.loop.exits.states.entries c.loop.ended l _ _ _
+    c.in_ok-first-2.ensures.first c.in_ok-first-2.ensures.second _ c.requires.weights c.in_err-end_all.ensures.cause)
 
 pub fold_loop-returns-in_err-first-2-clause-cause : goal.fold_loop-returns-in_err-first-2-clause-cause
 fold_loop-returns-in_err-first-2-clause-cause t c =
     let out : c.from_residual-in_err-first-2.result ≡ Err c.in_err-first-2.field-0.0 = grind arith in
-    rw out (guard_blames c.args.turns c.args.attempts.most (expression_of c.args.e.now) (statements_of c.args.body.now) c.args.table.states.entries c.args.ended.now (c.args.turns - c.loop.counter) c.loop.now.states.entries c.loop.exits.states.entries c.loop.ended c.loop.invariant.so_far _ c.requires.weights c.in_err-first-2.ensures.cause)
+    rw out (guard_blames c.args.turns c.args.attempts.most (expression_of c.args.e.now) (statements_of c.args.body.now)
+    c.args.table.states.entries c.args.ended.now (c.args.turns - c.loop.counter) c.loop.now.states.entries
+    c.loop.exits.states.entries c.loop.ended c.loop.invariant.so_far _ c.requires.weights c.in_err-first-2.ensures.cause)
 
 pub fold_stmt-returns-then-len-eq0-clause-ok : goal.fold_stmt-returns-then-len-eq0-clause-ok
 fold_stmt-returns-then-len-eq0-clause-ok t c =
@@ -213,19 +261,29 @@ fold_stmt-fold_block-requires-in-If t c =
 pub fold_stmt-returns-in_ok-merge-in-If-clause-ok : goal.fold_stmt-returns-in_ok-merge-in-If-clause-ok
 fold_stmt-returns-in_ok-merge-in-If-clause-ok t c =
     folds_as c.args.turns c.args.attempts.most _ _ _ _ _ _ (ap statement_of c.in-If.is ∙ if_view c.in-If.e c.in-If.a c.in-If.c)
-    (fold_branch c.args.turns c.args.attempts.most (expression_of c.in-If.e) (statements_of c.in-If.a) (statements_of c.in-If.c) c.args.table.states.entries _ _ c.args.ended.now _ c.in_ok-first-in-If.ensures.first c.in_ok-first-in-If.ensures.second _ _ _ _ _ c.in_ok-left-in-If.ensures.ok c.in_ok-right-in-If.ensures.ok c.in_ok-merge-in-If.ensures.ok)
+    (fold_branch c.args.turns c.args.attempts.most (expression_of c.in-If.e) (statements_of c.in-If.a)
+    (statements_of c.in-If.c) c.args.table.states.entries _ _ c.args.ended.now _ c.in_ok-first-in-If.ensures.first
+    c.in_ok-first-in-If.ensures.second _ _ _ _ _ c.in_ok-left-in-If.ensures.ok c.in_ok-right-in-If.ensures.ok
+    c.in_ok-merge-in-If.ensures.ok)
 
 pub fold_stmt-returns-in_err-merge-in-If-clause-cause : goal.fold_stmt-returns-in_err-merge-in-If-clause-cause
 fold_stmt-returns-in_err-merge-in-If-clause-cause t c =
     let out : c.from_residual-in_err-merge-in-If.result ≡ Err c.in_err-merge-in-If.field-0.0 = grind arith in
     rw out (blames_as c.args.turns c.args.attempts.most _ _ _ _ _ (ap statement_of c.in-If.is ∙ if_view c.in-If.e c.in-If.a c.in-If.c)
-    (let ws = weights_as _ _ (ap statement_of c.in-If.is ∙ if_view c.in-If.e c.in-If.a c.in-If.c) c.requires.weights in branches.both_blame c.args.turns c.args.attempts.most (expression_of c.in-If.e) (statements_of c.in-If.a) (statements_of c.in-If.c) c.args.table.states.entries _ _ c.args.ended.now _ c.in_ok-first-in-If.ensures.first c.in_ok-first-in-If.ensures.second _ _ c.in_ok-left-in-If.ensures.ok ws.0 _ _ _ ws.1 c.in_ok-right-in-If.ensures.ok c.in_err-merge-in-If.ensures.cause))
+    (let ws = weights_as _ _ (ap statement_of c.in-If.is ∙ if_view c.in-If.e c.in-If.a c.in-If.c) c.requires.weights in
+    branches.both_blame c.args.turns c.args.attempts.most (expression_of c.in-If.e) (statements_of c.in-If.a)
+    (statements_of c.in-If.c) c.args.table.states.entries _ _ c.args.ended.now _ c.in_ok-first-in-If.ensures.first
+    c.in_ok-first-in-If.ensures.second _ _ c.in_ok-left-in-If.ensures.ok ws.0 _ _ _ ws.1 c.in_ok-right-in-If.ensures.ok
+    c.in_err-merge-in-If.ensures.cause))
 
 pub fold_stmt-returns-in_err-right-in-If-clause-cause : goal.fold_stmt-returns-in_err-right-in-If-clause-cause
 fold_stmt-returns-in_err-right-in-If-clause-cause t c =
     let out : c.from_residual-in_err-right-in-If.result ≡ Err c.in_err-right-in-If.field-0.0 = grind arith in
     rw out (blames_as c.args.turns c.args.attempts.most _ _ _ _ _ (ap statement_of c.in-If.is ∙ if_view c.in-If.e c.in-If.a c.in-If.c)
-    (let ws = weights_as _ _ (ap statement_of c.in-If.is ∙ if_view c.in-If.e c.in-If.a c.in-If.c) c.requires.weights in branches.second_blames c.args.turns c.args.attempts.most (expression_of c.in-If.e) (statements_of c.in-If.a) (statements_of c.in-If.c) c.args.table.states.entries _ _ c.args.ended.now _ c.in_ok-first-in-If.ensures.first c.in_ok-first-in-If.ensures.second _ _ c.in_ok-left-in-If.ensures.ok ws.0 _ c.in_err-right-in-If.ensures.cause))
+    (let ws = weights_as _ _ (ap statement_of c.in-If.is ∙ if_view c.in-If.e c.in-If.a c.in-If.c) c.requires.weights in
+    branches.second_blames c.args.turns c.args.attempts.most (expression_of c.in-If.e) (statements_of c.in-If.a)
+    (statements_of c.in-If.c) c.args.table.states.entries _ _ c.args.ended.now _ c.in_ok-first-in-If.ensures.first
+    c.in_ok-first-in-If.ensures.second _ _ c.in_ok-left-in-If.ensures.ok ws.0 _ c.in_err-right-in-If.ensures.cause))
 
 pub fold_stmt-returns-in_err-left-in-If-clause-cause : goal.fold_stmt-returns-in_err-left-in-If-clause-cause
 fold_stmt-returns-in_err-left-in-If-clause-cause t c =
@@ -275,31 +333,47 @@ fold_stmt-fold_block-requires-in-Choice-2 t c =
 pub fold_stmt-returns-in_ok-merge-in-Choice-clause-ok : goal.fold_stmt-returns-in_ok-merge-in-Choice-clause-ok
 fold_stmt-returns-in_ok-merge-in-Choice-clause-ok t c =
     folds_as c.args.turns c.args.attempts.most _ _ _ _ _ _ (ap statement_of c.in-Choice.is ∙ choice_view c.in-Choice.p c.in-Choice.a c.in-Choice.c)
-    (let ws = weights_as _ _ (ap statement_of c.in-Choice.is ∙ choice_view c.in-Choice.p c.in-Choice.a c.in-Choice.c) c.requires.weights in fold_choice c.args.turns c.args.attempts.most c.in-Choice.p (statements_of c.in-Choice.a) (statements_of c.in-Choice.c) ws.0 c.args.table.states.entries c.args.ended.now _ _ _ c.in_ok-first-in-Choice.ensures.ok _ _ _ _ _ c.in_ok-left-in-Choice.ensures.ok c.in_ok-right-in-Choice.ensures.ok c.in_ok-merge-in-Choice.ensures.ok)
+    (let ws = weights_as _ _ (ap statement_of c.in-Choice.is ∙ choice_view c.in-Choice.p c.in-Choice.a c.in-Choice.c)
+    c.requires.weights in fold_choice c.args.turns c.args.attempts.most c.in-Choice.p (statements_of c.in-Choice.a)
+    (statements_of c.in-Choice.c) ws.0 c.args.table.states.entries c.args.ended.now _ _ _ c.in_ok-first-in-Choice.ensures.ok
+    _ _ _ _ _ c.in_ok-left-in-Choice.ensures.ok c.in_ok-right-in-Choice.ensures.ok c.in_ok-merge-in-Choice.ensures.ok)
 
 pub fold_stmt-returns-in_err-merge-in-Choice-clause-cause : goal.fold_stmt-returns-in_err-merge-in-Choice-clause-cause
 fold_stmt-returns-in_err-merge-in-Choice-clause-cause t c =
     let out : c.from_residual-in_err-merge-in-Choice.result ≡ Err c.in_err-merge-in-Choice.field-0.0 = grind arith in
     rw out (blames_as c.args.turns c.args.attempts.most _ _ _ _ _ (ap statement_of c.in-Choice.is ∙ choice_view c.in-Choice.p c.in-Choice.a c.in-Choice.c)
-    (let ws = weights_as _ _ (ap statement_of c.in-Choice.is ∙ choice_view c.in-Choice.p c.in-Choice.a c.in-Choice.c) c.requires.weights in choices.both_blame c.args.turns c.args.attempts.most c.in-Choice.p (statements_of c.in-Choice.a) (statements_of c.in-Choice.c) ws.0 c.args.table.states.entries c.args.ended.now _ _ _ c.in_ok-first-in-Choice.ensures.ok _ _ c.in_ok-left-in-Choice.ensures.ok ws.1 _ _ _ ws.2 c.in_ok-right-in-Choice.ensures.ok c.in_err-merge-in-Choice.ensures.cause))
+    (let ws = weights_as _ _ (ap statement_of c.in-Choice.is ∙ choice_view c.in-Choice.p c.in-Choice.a c.in-Choice.c)
+    c.requires.weights in choices.both_blame c.args.turns c.args.attempts.most c.in-Choice.p (statements_of c.in-Choice.a)
+    (statements_of c.in-Choice.c) ws.0 c.args.table.states.entries c.args.ended.now _ _ _ c.in_ok-first-in-Choice.ensures.ok
+    _ _ c.in_ok-left-in-Choice.ensures.ok ws.1 _ _ _ ws.2 c.in_ok-right-in-Choice.ensures.ok
+    c.in_err-merge-in-Choice.ensures.cause))
 
 pub fold_stmt-returns-in_err-right-in-Choice-clause-cause : goal.fold_stmt-returns-in_err-right-in-Choice-clause-cause
 fold_stmt-returns-in_err-right-in-Choice-clause-cause t c =
     let out : c.from_residual-in_err-right-in-Choice.result ≡ Err c.in_err-right-in-Choice.field-0.0 = grind arith in
     rw out (blames_as c.args.turns c.args.attempts.most _ _ _ _ _ (ap statement_of c.in-Choice.is ∙ choice_view c.in-Choice.p c.in-Choice.a c.in-Choice.c)
-    (let ws = weights_as _ _ (ap statement_of c.in-Choice.is ∙ choice_view c.in-Choice.p c.in-Choice.a c.in-Choice.c) c.requires.weights in choices.second_blames c.args.turns c.args.attempts.most c.in-Choice.p (statements_of c.in-Choice.a) (statements_of c.in-Choice.c) ws.0 c.args.table.states.entries c.args.ended.now _ _ _ c.in_ok-first-in-Choice.ensures.ok _ _ c.in_ok-left-in-Choice.ensures.ok ws.1 _ c.in_err-right-in-Choice.ensures.cause))
+    (let ws = weights_as _ _ (ap statement_of c.in-Choice.is ∙ choice_view c.in-Choice.p c.in-Choice.a c.in-Choice.c)
+    c.requires.weights in choices.second_blames c.args.turns c.args.attempts.most c.in-Choice.p (statements_of c.in-Choice.a)
+    (statements_of c.in-Choice.c) ws.0 c.args.table.states.entries c.args.ended.now _ _ _ c.in_ok-first-in-Choice.ensures.ok
+    _ _ c.in_ok-left-in-Choice.ensures.ok ws.1 _ c.in_err-right-in-Choice.ensures.cause))
 
 pub fold_stmt-returns-in_err-left-in-Choice-clause-cause : goal.fold_stmt-returns-in_err-left-in-Choice-clause-cause
 fold_stmt-returns-in_err-left-in-Choice-clause-cause t c =
     let out : c.from_residual-in_err-left-in-Choice.result ≡ Err c.in_err-left-in-Choice.field-0.0 = grind arith in
     rw out (blames_as c.args.turns c.args.attempts.most _ _ _ _ _ (ap statement_of c.in-Choice.is ∙ choice_view c.in-Choice.p c.in-Choice.a c.in-Choice.c)
-    (let ws = weights_as _ _ (ap statement_of c.in-Choice.is ∙ choice_view c.in-Choice.p c.in-Choice.a c.in-Choice.c) c.requires.weights in choices.first_blames c.args.turns c.args.attempts.most c.in-Choice.p (statements_of c.in-Choice.a) (statements_of c.in-Choice.c) ws.0 c.args.table.states.entries c.args.ended.now _ _ _ c.in_ok-first-in-Choice.ensures.ok _ c.in_err-left-in-Choice.ensures.cause))
+    (let ws = weights_as _ _ (ap statement_of c.in-Choice.is ∙ choice_view c.in-Choice.p c.in-Choice.a c.in-Choice.c)
+    c.requires.weights in choices.first_blames c.args.turns c.args.attempts.most c.in-Choice.p (statements_of c.in-Choice.a)
+    (statements_of c.in-Choice.c) ws.0 c.args.table.states.entries c.args.ended.now _ _ _ c.in_ok-first-in-Choice.ensures.ok
+    _ c.in_err-left-in-Choice.ensures.cause))
 
 pub fold_stmt-returns-in_err-first-in-Choice-clause-cause : goal.fold_stmt-returns-in_err-first-in-Choice-clause-cause
 fold_stmt-returns-in_err-first-in-Choice-clause-cause t c =
     let out : c.from_residual-in_err-first-in-Choice.result ≡ Err c.in_err-first-in-Choice.field-0.0 = grind arith in
     rw out (blames_as c.args.turns c.args.attempts.most _ _ _ _ _ (ap statement_of c.in-Choice.is ∙ choice_view c.in-Choice.p c.in-Choice.a c.in-Choice.c)
-    (let ws = weights_as _ _ (ap statement_of c.in-Choice.is ∙ choice_view c.in-Choice.p c.in-Choice.a c.in-Choice.c) c.requires.weights in sides_blame c.args.turns c.args.attempts.most c.in-Choice.p (statements_of c.in-Choice.a) (statements_of c.in-Choice.c) ws.0 c.args.table.states.entries c.args.ended.now _ (λ e. c.if-len-eq0.false (c.len.ensures.len ∙ ap length e)) c.in_err-first-in-Choice.ensures.cause))
+    (let ws = weights_as _ _ (ap statement_of c.in-Choice.is ∙ choice_view c.in-Choice.p c.in-Choice.a c.in-Choice.c)
+    c.requires.weights in sides_blame c.args.turns c.args.attempts.most c.in-Choice.p (statements_of c.in-Choice.a)
+    (statements_of c.in-Choice.c) ws.0 c.args.table.states.entries c.args.ended.now _
+    (λ e. c.if-len-eq0.false (c.len.ensures.len ∙ ap length e)) c.in_err-first-in-Choice.ensures.cause))
 
 pub fold_stmt-returns-then-len-eq0-clause-bits : goal.fold_stmt-returns-then-len-eq0-clause-bits
 fold_stmt-returns-then-len-eq0-clause-bits t c =
@@ -315,7 +389,10 @@ fold_stmt-returns-in-Uniform-clause-bits t c =
 pub fold_stmt-returns-in_ok-merge-in-If-clause-bits : goal.fold_stmt-returns-in_ok-merge-in-If-clause-bits
 fold_stmt-returns-in_ok-merge-in-If-clause-bits t c =
     meters_as c.args.turns c.args.attempts.most _ _ _ _ _ _ (ap statement_of c.in-If.is ∙ if_view c.in-If.e c.in-If.a c.in-If.c)
-    (branch_meters c.args.turns c.args.attempts.most (expression_of c.in-If.e) (statements_of c.in-If.a) (statements_of c.in-If.c) c.args.table.states.entries _ _ c.args.ended.now _ c.in_ok-first-in-If.ensures.first c.in_ok-first-in-If.ensures.second _ _ _ _ _ c.in_ok-left-in-If.ensures.ok c.in_ok-left-in-If.ensures.bits c.in_ok-right-in-If.ensures.bits)
+    (branch_meters c.args.turns c.args.attempts.most (expression_of c.in-If.e) (statements_of c.in-If.a)
+    (statements_of c.in-If.c) c.args.table.states.entries _ _ c.args.ended.now _ c.in_ok-first-in-If.ensures.first
+    c.in_ok-first-in-If.ensures.second _ _ _ _ _ c.in_ok-left-in-If.ensures.ok c.in_ok-left-in-If.ensures.bits
+    c.in_ok-right-in-If.ensures.bits)
 
 pub fold_stmt-returns-in-While-clause-bits : goal.fold_stmt-returns-in-While-clause-bits
 fold_stmt-returns-in-While-clause-bits t c =
@@ -328,7 +405,10 @@ pub fold_stmt-returns-in_ok-merge-in-Choice-clause-bits : goal.fold_stmt-returns
 fold_stmt-returns-in_ok-merge-in-Choice-clause-bits t c =
     meters_as c.args.turns c.args.attempts.most _ _ _ _ _ _ (ap statement_of c.in-Choice.is ∙ choice_view c.in-Choice.p c.in-Choice.a c.in-Choice.c)
     (let ws = weights_as _ _ (ap statement_of c.in-Choice.is ∙ choice_view c.in-Choice.p c.in-Choice.a c.in-Choice.c) c.requires.weights in
-    choice_meters c.args.turns c.args.attempts.most c.in-Choice.p (statements_of c.in-Choice.a) (statements_of c.in-Choice.c) ws.0 c.args.table.states.entries c.args.ended.now _ _ _ c.in_ok-first-in-Choice.ensures.ok _ _ _ _ _ _ c.count_choice.ensures c.in_ok-left-in-Choice.ensures.ok c.in_ok-left-in-Choice.ensures.bits c.in_ok-right-in-Choice.ensures.bits)
+    choice_meters c.args.turns c.args.attempts.most c.in-Choice.p (statements_of c.in-Choice.a) (statements_of c.in-Choice.c)
+    ws.0 c.args.table.states.entries c.args.ended.now _ _ _ c.in_ok-first-in-Choice.ensures.ok _ _ _ _ _ _
+    c.count_choice.ensures c.in_ok-left-in-Choice.ensures.ok c.in_ok-left-in-Choice.ensures.bits
+    c.in_ok-right-in-Choice.ensures.bits)
 
 pub fold_stmt-count_arms-requires-clause-parts : goal.fold_stmt-count_arms-requires-clause-parts
 fold_stmt-count_arms-requires-clause-parts t c = (weights_as _ _ (ap statement_of c.in-Choose.is ∙ choose_view c.in-Choose.arms) c.requires.weights).0
@@ -352,7 +432,10 @@ fold_stmt-fold_arms-requires t c =
 pub fold_stmt-returns-in_ok-part-in-Choose-clause-ok : goal.fold_stmt-returns-in_ok-part-in-Choose-clause-ok
 fold_stmt-returns-in_ok-part-in-Choose-clause-ok t c =
     IfOk-weaker c.fold_arms.result _ _
-    (λ next a. folds_as c.args.turns c.args.attempts.most _ _ _ _ _ _ (ap statement_of c.in-Choose.is ∙ choose_view c.in-Choose.arms) (a c.args.ended.now (subst (λ b. UndecidedTo b c.args.attempts.most c.args.table.states.entries c.args.ended.now c.undecided.new.ended) c.total.ensures c.in_ok-part-in-Choose.ensures.ok)))
+    (λ next a. folds_as c.args.turns c.args.attempts.most _ _ _ _ _ _
+    (ap statement_of c.in-Choose.is ∙ choose_view c.in-Choose.arms)
+    (a c.args.ended.now (subst (λ b. UndecidedTo b c.args.attempts.most c.args.table.states.entries c.args.ended.now
+    c.undecided.new.ended) c.total.ensures c.in_ok-part-in-Choose.ensures.ok)))
     c.fold_arms.ensures.ok
 
 pub fold_stmt-returns-in_ok-part-in-Choose-clause-bits : goal.fold_stmt-returns-in_ok-part-in-Choose-clause-bits
@@ -365,7 +448,10 @@ fold_stmt-returns-in_ok-part-in-Choose-clause-bits t c =
 pub fold_stmt-returns-in_ok-part-in-Choose-clause-cause : goal.fold_stmt-returns-in_ok-part-in-Choose-clause-cause
 fold_stmt-returns-in_ok-part-in-Choose-clause-cause t c =
     IfErr-weaker c.fold_arms.result _ _
-    (λ e a. blames_as c.args.turns c.args.attempts.most _ _ _ _ _ (ap statement_of c.in-Choose.is ∙ choose_view c.in-Choose.arms) (a c.args.ended.now (subst (λ b. UndecidedTo b c.args.attempts.most c.args.table.states.entries c.args.ended.now c.undecided.new.ended) c.total.ensures c.in_ok-part-in-Choose.ensures.ok)))
+    (λ e a. blames_as c.args.turns c.args.attempts.most _ _ _ _ _
+    (ap statement_of c.in-Choose.is ∙ choose_view c.in-Choose.arms)
+    (a c.args.ended.now (subst (λ b. UndecidedTo b c.args.attempts.most c.args.table.states.entries c.args.ended.now
+    c.undecided.new.ended) c.total.ensures c.in_ok-part-in-Choose.ensures.ok)))
     c.fold_arms.ensures.cause
 
 pub fold_stmt-returns-in_err-part-in-Choose-clause-cause : goal.fold_stmt-returns-in_err-part-in-Choose-clause-cause
@@ -384,8 +470,14 @@ fold_arms-loop-count-init t c =
       below = subst (ArmsBelow c.args.table.now.vars) (sym same) c.requires.below;
       weights = subst ArmsAreWeighed (sym same) c.requires.weights;
       few = let e = ap (λ a. sum (parts_of a)) same in omega (arith, e);
-      so_far = λ E u. arms_as c.args.turns c.args.attempts.most (list_of_arms c.args.arms.now) c.requires.parts c.args.table.now.states.entries E _ _ c.new-out.result.states.entries c.args.ended.now (sym same) (arms_start c.args.turns c.args.attempts.most (list_of_arms c.args.arms.now) c.requires.parts c.args.table.now.states.entries E c.args.ended.now c.new-out.result.states.entries u c.new-out.ensures.empty);
-      bits = λ E u m k. metered_as c.args.turns c.args.attempts.most (list_of_arms c.args.arms.now) c.requires.parts c.args.table.now.states.entries E m _ _ c.args.meter.now (sym same) (metered_start c.args.turns c.args.attempts.most (list_of_arms c.args.arms.now) c.requires.parts c.args.table.now.states.entries E m c.args.meter.now k);
+      so_far = λ E u. arms_as c.args.turns c.args.attempts.most (list_of_arms c.args.arms.now) c.requires.parts
+          c.args.table.now.states.entries E _ _ c.new-out.result.states.entries c.args.ended.now (sym same)
+          (arms_start c.args.turns c.args.attempts.most (list_of_arms c.args.arms.now) c.requires.parts
+          c.args.table.now.states.entries E c.args.ended.now c.new-out.result.states.entries u c.new-out.ensures.empty);
+      bits = λ E u m k. metered_as c.args.turns c.args.attempts.most (list_of_arms c.args.arms.now) c.requires.parts
+          c.args.table.now.states.entries E m _ _ c.args.meter.now (sym same)
+          (metered_start c.args.turns c.args.attempts.most (list_of_arms c.args.arms.now) c.requires.parts
+          c.args.table.now.states.entries E m c.args.meter.now k);
     }
 
 pub fold_arms-returns-in_err-side-clause-cause : goal.fold_arms-returns-in_err-side-clause-cause
@@ -394,7 +486,14 @@ fold_arms-returns-in_err-side-clause-cause t c =
     rw out (λ E u.
     let next = arms_next c.deref-count-items.result.now c.loop-count.count-index c.loop-count-item.result c.loop-count-test.true c.loop-count-item.is in
     let e = ap (λ a. sum (parts_of a)) next in
-    weighed_blames c.args.turns c.args.attempts.most (list_of_arms c.args.arms.now) c.requires.parts c.args.table.now.states.entries E c.loop-count-item.result.0 (statements_of c.loop-count-item.result.1) (arm_list_of (drop (c.loop-count.count-index + 1) c.deref-count-items.result.now)) c.loop-count.out.states.entries c.loop-count.ended (arms_as c.args.turns c.args.attempts.most (list_of_arms c.args.arms.now) c.requires.parts c.args.table.now.states.entries E _ _ c.loop-count.out.states.entries c.loop-count.ended next (c.loop-count.invariant.so_far E u)) c.args.part.now c.requires.equal c.in_err-side.field-0.0 (λ e. some_states c.args.table.now.states.entries c.requires.any e) c.requires.weights (subst ArmsAreWeighed next c.loop-count.invariant.weights)
+    weighed_blames c.args.turns c.args.attempts.most (list_of_arms c.args.arms.now) c.requires.parts
+    c.args.table.now.states.entries E c.loop-count-item.result.0 (statements_of c.loop-count-item.result.1)
+    (arm_list_of (drop (c.loop-count.count-index + 1) c.deref-count-items.result.now)) c.loop-count.out.states.entries
+    c.loop-count.ended (arms_as c.args.turns c.args.attempts.most (list_of_arms c.args.arms.now) c.requires.parts
+    c.args.table.now.states.entries E _ _ c.loop-count.out.states.entries c.loop-count.ended next
+    (c.loop-count.invariant.so_far E u)) c.args.part.now c.requires.equal c.in_err-side.field-0.0
+    (λ e. some_states c.args.table.now.states.entries c.requires.any e) c.requires.weights
+    (subst ArmsAreWeighed next c.loop-count.invariant.weights)
     (omega (arith, e, c.loop-count.invariant.few)) c.in_err-side.ensures.cause)
 
 pub fold_arms-fold_block-requires : goal.fold_arms-fold_block-requires
@@ -412,7 +511,13 @@ fold_arms-returns-in_err-left-clause-cause t c =
     let out : c.from_residual-in_err-left.result ≡ Err c.in_err-left.field-0.0 = grind arith in
     rw out (λ E u.
     let next = arms_next c.deref-count-items.result.now c.loop-count.count-index c.loop-count-item.result c.loop-count-test.true c.loop-count-item.is in
-    block_blames c.args.turns c.args.attempts.most (list_of_arms c.args.arms.now) c.requires.parts c.args.table.now.states.entries E c.loop-count-item.result.0 (statements_of c.loop-count-item.result.1) (arm_list_of (drop (c.loop-count.count-index + 1) c.deref-count-items.result.now)) c.loop-count.out.states.entries c.loop-count.ended (arms_as c.args.turns c.args.attempts.most (list_of_arms c.args.arms.now) c.requires.parts c.args.table.now.states.entries E _ _ c.loop-count.out.states.entries c.loop-count.ended next (c.loop-count.invariant.so_far E u)) c.args.part.now c.requires.equal _ c.in_ok-side.ensures.ok c.in_err-left.field-0.0 c.requires.weights (subst ArmsAreWeighed next c.loop-count.invariant.weights) c.in_err-left.ensures.cause)
+    block_blames c.args.turns c.args.attempts.most (list_of_arms c.args.arms.now) c.requires.parts
+    c.args.table.now.states.entries E c.loop-count-item.result.0 (statements_of c.loop-count-item.result.1)
+    (arm_list_of (drop (c.loop-count.count-index + 1) c.deref-count-items.result.now)) c.loop-count.out.states.entries
+    c.loop-count.ended (arms_as c.args.turns c.args.attempts.most (list_of_arms c.args.arms.now) c.requires.parts
+    c.args.table.now.states.entries E _ _ c.loop-count.out.states.entries c.loop-count.ended next
+    (c.loop-count.invariant.so_far E u)) c.args.part.now c.requires.equal _ c.in_ok-side.ensures.ok c.in_err-left.field-0.0
+    c.requires.weights (subst ArmsAreWeighed next c.loop-count.invariant.weights) c.in_err-left.ensures.cause)
 
 pub fold_arms-merge-requires : goal.fold_arms-merge-requires
 fold_arms-merge-requires t c = c.in_ok-left.ensures.vars ∙ c.in_ok-side.ensures.vars ∙ sym c.loop-count.invariant.vars
@@ -422,7 +527,13 @@ fold_arms-returns-in_err-merge-clause-cause t c =
     let out : c.from_residual-in_err-merge.result ≡ Err c.in_err-merge.field-0.0 = grind arith in
     rw out (λ E u.
     let next = arms_next c.deref-count-items.result.now c.loop-count.count-index c.loop-count-item.result c.loop-count-test.true c.loop-count-item.is in
-    arm_blames c.args.turns c.args.attempts.most (list_of_arms c.args.arms.now) c.requires.parts c.args.table.now.states.entries E c.loop-count-item.result.0 (statements_of c.loop-count-item.result.1) (arm_list_of (drop (c.loop-count.count-index + 1) c.deref-count-items.result.now)) c.loop-count.out.states.entries c.loop-count.ended (arms_as c.args.turns c.args.attempts.most (list_of_arms c.args.arms.now) c.requires.parts c.args.table.now.states.entries E _ _ c.loop-count.out.states.entries c.loop-count.ended next (c.loop-count.invariant.so_far E u)) c.args.part.now c.requires.equal _ c.in_ok-side.ensures.ok _ _ c.in_ok-left.ensures.ok c.in_err-merge.field-0.0 c.requires.weights c.in_err-merge.ensures.cause)
+    arm_blames c.args.turns c.args.attempts.most (list_of_arms c.args.arms.now) c.requires.parts
+    c.args.table.now.states.entries E c.loop-count-item.result.0 (statements_of c.loop-count-item.result.1)
+    (arm_list_of (drop (c.loop-count.count-index + 1) c.deref-count-items.result.now)) c.loop-count.out.states.entries
+    c.loop-count.ended (arms_as c.args.turns c.args.attempts.most (list_of_arms c.args.arms.now) c.requires.parts
+    c.args.table.now.states.entries E _ _ c.loop-count.out.states.entries c.loop-count.ended next
+    (c.loop-count.invariant.so_far E u)) c.args.part.now c.requires.equal _ c.in_ok-side.ensures.ok _ _
+    c.in_ok-left.ensures.ok c.in_err-merge.field-0.0 c.requires.weights c.in_err-merge.ensures.cause)
 
 pub fold_arms-loop-count-preserved : goal.fold_arms-loop-count-preserved
 fold_arms-loop-count-preserved t c =
@@ -432,19 +543,40 @@ fold_arms-loop-count-preserved t c =
       below = (subst (ArmsBelow c.args.table.now.vars) next c.loop-count.invariant.below).1;
       weights = (subst ArmsAreWeighed next c.loop-count.invariant.weights).1;
       few = let s = sum_next c.deref-count-items.result.now c.loop-count.count-index c.loop-count-item.result c.loop-count-test.true c.loop-count-item.is in omega (arith, s, c.loop-count.invariant.few);
-      so_far = λ E u. arm_turn c.args.turns c.args.attempts.most (list_of_arms c.args.arms.now) c.requires.parts c.args.table.now.states.entries E c.loop-count-item.result.0 (statements_of c.loop-count-item.result.1) (arm_list_of (drop (c.loop-count.count-index + 1) c.deref-count-items.result.now)) c.loop-count.out.states.entries c.loop-count.ended (arms_as c.args.turns c.args.attempts.most (list_of_arms c.args.arms.now) c.requires.parts c.args.table.now.states.entries E _ _ c.loop-count.out.states.entries c.loop-count.ended next (c.loop-count.invariant.so_far E u)) c.args.part.now c.requires.equal _ c.in_ok-side.ensures.ok _ _ c.in_ok-left.ensures.ok _ c.in_ok-merge.ensures.ok;
-      bits = λ E u m k. metered_turn c.args.turns c.args.attempts.most (list_of_arms c.args.arms.now) c.requires.parts c.args.table.now.states.entries E m c.loop-count-item.result.0 (statements_of c.loop-count-item.result.1) (arm_list_of (drop (c.loop-count.count-index + 1) c.deref-count-items.result.now)) c.loop-count.out.states.entries c.loop-count.ended (arms_as c.args.turns c.args.attempts.most (list_of_arms c.args.arms.now) c.requires.parts c.args.table.now.states.entries E _ _ c.loop-count.out.states.entries c.loop-count.ended next (c.loop-count.invariant.so_far E u)) c.args.part.now c.requires.equal _ c.in_ok-side.ensures.ok c.loop-count.meter _ (metered_as c.args.turns c.args.attempts.most (list_of_arms c.args.arms.now) c.requires.parts c.args.table.now.states.entries E m _ _ c.loop-count.meter next (c.loop-count.invariant.bits E u m k)) c.in_ok-left.ensures.bits;
+      so_far = λ E u. arm_turn c.args.turns c.args.attempts.most (list_of_arms c.args.arms.now) c.requires.parts
+          c.args.table.now.states.entries E c.loop-count-item.result.0 (statements_of c.loop-count-item.result.1)
+          (arm_list_of (drop (c.loop-count.count-index + 1) c.deref-count-items.result.now)) c.loop-count.out.states.entries
+          c.loop-count.ended (arms_as c.args.turns c.args.attempts.most (list_of_arms c.args.arms.now) c.requires.parts
+          c.args.table.now.states.entries E _ _ c.loop-count.out.states.entries c.loop-count.ended next
+          (c.loop-count.invariant.so_far E u)) c.args.part.now c.requires.equal _ c.in_ok-side.ensures.ok _ _
+          c.in_ok-left.ensures.ok _ c.in_ok-merge.ensures.ok;
+      bits = λ E u m k. metered_turn c.args.turns c.args.attempts.most (list_of_arms c.args.arms.now) c.requires.parts
+          c.args.table.now.states.entries E m c.loop-count-item.result.0 (statements_of c.loop-count-item.result.1)
+          (arm_list_of (drop (c.loop-count.count-index + 1) c.deref-count-items.result.now)) c.loop-count.out.states.entries
+          c.loop-count.ended (arms_as c.args.turns c.args.attempts.most (list_of_arms c.args.arms.now) c.requires.parts
+          c.args.table.now.states.entries E _ _ c.loop-count.out.states.entries c.loop-count.ended next
+          (c.loop-count.invariant.so_far E u)) c.args.part.now c.requires.equal _ c.in_ok-side.ensures.ok c.loop-count.meter _
+          (metered_as c.args.turns c.args.attempts.most (list_of_arms c.args.arms.now) c.requires.parts
+          c.args.table.now.states.entries E m _ _ c.loop-count.meter next (c.loop-count.invariant.bits E u m k))
+          c.in_ok-left.ensures.bits;
     }
 
 pub fold_arms-returns-clause-ok : goal.fold_arms-returns-clause-ok
 fold_arms-returns-clause-ok t c E u =
     let none = arms_done c.deref-count-items.result.now c.loop-count.count-index (omega (arith, c.loop-count-test.false)) in
-    arms_end c.args.turns c.args.attempts.most (list_of_arms c.args.arms.now) c.requires.parts c.args.table.now.states.entries E c.loop-count.out.states.entries c.loop-count.ended (arms_as c.args.turns c.args.attempts.most (list_of_arms c.args.arms.now) c.requires.parts c.args.table.now.states.entries E _ _ c.loop-count.out.states.entries c.loop-count.ended none (c.loop-count.invariant.so_far E u))
+    arms_end c.args.turns c.args.attempts.most (list_of_arms c.args.arms.now) c.requires.parts c.args.table.now.states.entries
+    E c.loop-count.out.states.entries c.loop-count.ended
+    (arms_as c.args.turns c.args.attempts.most (list_of_arms c.args.arms.now) c.requires.parts
+    c.args.table.now.states.entries E _ _ c.loop-count.out.states.entries c.loop-count.ended none
+    (c.loop-count.invariant.so_far E u))
 
 pub fold_arms-returns-clause-bits : goal.fold_arms-returns-clause-bits
 fold_arms-returns-clause-bits t c E u m k =
     let none = arms_done c.deref-count-items.result.now c.loop-count.count-index (omega (arith, c.loop-count-test.false)) in
-    metered_end c.args.turns c.args.attempts.most (list_of_arms c.args.arms.now) c.requires.parts c.args.table.now.states.entries E m c.loop-count.meter (metered_as c.args.turns c.args.attempts.most (list_of_arms c.args.arms.now) c.requires.parts c.args.table.now.states.entries E m _ _ c.loop-count.meter none (c.loop-count.invariant.bits E u m k))
+    metered_end c.args.turns c.args.attempts.most (list_of_arms c.args.arms.now) c.requires.parts
+    c.args.table.now.states.entries E m c.loop-count.meter
+    (metered_as c.args.turns c.args.attempts.most (list_of_arms c.args.arms.now) c.requires.parts
+    c.args.table.now.states.entries E m _ _ c.loop-count.meter none (c.loop-count.invariant.bits E u m k))
 
 pub fold_arms-returns-clause-vars : goal.fold_arms-returns-clause-vars
 fold_arms-returns-clause-vars t c = c.loop-count.invariant.vars

@@ -9,12 +9,13 @@ use Rattle.mass_fold.specs.Rounds.{scale_of}
 use Rattle.mass_fold.specs.Rows.{AreMasses}
 use Rattle.mass_fold.proofs.AllRounds.{round_refused, rounds_refused, rest_refused, rounds_hold, rest_holds, at_most_one, some_pass, some_limit, if_passes, rest_parts, if_parts, no_parts}
 use Rattle.mass_fold.proofs.OutcomeRows.{if_rows}
+use Rattle.mass_fold.proofs.RoundMasses.{wider}
 use Rattle.mass_fold.proofs.masses.mass.Goals as goal
 
 pub returns-in_err-table-clause-refused : goal.returns-in_err-table-clause-refused
 returns-in_err-table-clause-refused c =
     let out : c.from_residual.result ≡ Err c.in_err-table.field-0.0 = grind arith in
-    rw out (round_refused (source_of c.args.p.now) c.args.turns c.args.attempts c.args.rounds _ (c.one_round.ensures.wider c.args.rounds) c.in_err-table.ensures.cause)
+    rw out (round_refused (source_of c.args.p.now) c.args.turns c.args.attempts c.args.rounds _ (wider (source_of c.args.p.now) c.args.turns c.args.attempts c.is_kept.ensures.weights c.args.rounds) c.in_err-table.ensures.cause)
 
 pub returns-in_err-in_rounds-in-Some-clause-refused : goal.returns-in_err-in_rounds-in-Some-clause-refused
 returns-in_err-in_rounds-in-Some-clause-refused c =
@@ -23,7 +24,7 @@ returns-in_err-in_rounds-in-Some-clause-refused c =
     let out : c.from_residual-in_err-in_rounds-in-Some.result ≡ Err c.in_err-in_rounds-in-Some.field-0.0 = grind arith in
     let some : c.args.rounds ≡ Some k = grind arith in
     rw out (subst (λ R. MassRefused c.in_err-in_rounds-in-Some.field-0.0 p c.args.turns c.args.attempts R) (sym some)
-    (rounds_refused p c.args.turns c.args.attempts _ _ c.in_ok-table.ensures.ok c.num-low.ensures.lowest k (some_limit c.args.rounds k some c.requires.rounds) _ c.in_err-in_rounds-in-Some.ensures.cause))
+    (rounds_refused p c.args.turns c.args.attempts _ _ c.in_ok-table.ensures.ok c.is_lowest.ensures k (some_limit c.args.rounds k some c.requires.rounds) _ c.in_err-in_rounds-in-Some.ensures.cause))
 
 pub returns-in_ok-in_rounds-in-Some-clause-rows : goal.returns-in_ok-in_rounds-in-Some-clause-rows
 returns-in_ok-in_rounds-in-Some-clause-rows c =

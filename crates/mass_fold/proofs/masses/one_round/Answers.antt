@@ -1,20 +1,8 @@
 use Rattle.std.proofs.Common.{◌≡◌, Err, subst, arith}
 use Rattle.gcl_core.specs.meaning.Views.{source_of}
 use Rattle.mass_fold.specs.inner.Outcomes.{ResultsGive}
-use Rattle.mass_fold.proofs.RoundMasses.{wider, results_refused, ended_refused, round_gives}
+use Rattle.mass_fold.proofs.RoundMasses.{results_refused, ended_refused, round_gives}
 use Rattle.mass_fold.proofs.masses.one_round.Goals as goal
-
-pub returns-in_err-table-clause-wider : goal.returns-in_err-table-clause-wider
-returns-in_err-table-clause-wider c = wider (source_of c.args.p.now) c.args.turns c.args.attempts.most c.program-program.ensures.weights
-
-pub returns-in_err-add_results-clause-wider : goal.returns-in_err-add_results-clause-wider
-returns-in_err-add_results-clause-wider c = wider (source_of c.args.p.now) c.args.turns c.args.attempts.most c.program-program.ensures.weights
-
-pub returns-in_err-add_ended-clause-wider : goal.returns-in_err-add_ended-clause-wider
-returns-in_err-add_ended-clause-wider c = wider (source_of c.args.p.now) c.args.turns c.args.attempts.most c.program-program.ensures.weights
-
-pub returns-clause-wider : goal.returns-clause-wider
-returns-clause-wider c = wider (source_of c.args.p.now) c.args.turns c.args.attempts.most c.program-program.ensures.weights
 
 pub returns-in_err-add_results-clause-cause : goal.returns-in_err-add_results-clause-cause
 returns-in_err-add_results-clause-cause c =

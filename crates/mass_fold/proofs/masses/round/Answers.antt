@@ -18,4 +18,4 @@ returns-clause-rows c =
     rows_are (round_width p c.args.turns c.args.attempts) (round_mass p c.args.turns c.args.attempts) c.in_ok-table.table.entries c.in_ok-of.field-0 c.in_ok-of.ensures.same c.in_ok-table.ensures.ok.holds c.in_ok-of.ensures.ascending c.in_ok-of.ensures.lowest
 
 pub returns-clause-failed : goal.returns-clause-failed
-returns-clause-failed c = failed_is (source_of c.args.p.now) c.args.turns c.args.attempts _ _ c.in_ok-table.ensures.ok c.num-low.ensures.lowest
+returns-clause-failed c = failed_is (source_of c.args.p.now) c.args.turns c.args.attempts _ _ c.in_ok-table.ensures.ok c.is_lowest.ensures

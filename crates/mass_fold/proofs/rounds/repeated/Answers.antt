@@ -13,7 +13,7 @@ returns-in_err-mul-clause-cause c =
 pub returns-in_err-sum-clause-cause : goal.returns-in_err-sum-clause-cause
 returns-in_err-sum-clause-cause c =
     let out : c.from_residual-in_err-sum.result ≡ None = grind arith in
-    rw out (sum_blames c.args.s.now c.args.f.now c.loop.sum c.in_ok-mul.field-0 c.loop.counter c.args.rounds c.loop-test.true c.loop.invariant c.num-low.ensures.lowest (sym c.in_ok-mul.ensures) (sym c.in_err-sum.ensures))
+    rw out (sum_blames c.args.s.now c.args.f.now c.loop.sum c.in_ok-mul.field-0 c.loop.counter c.args.rounds c.loop-test.true c.loop.invariant c.is_lowest.ensures (sym c.in_ok-mul.ensures) (sym c.in_err-sum.ensures))
 
 pub loop-preserved : goal.loop-preserved
 loop-preserved c =

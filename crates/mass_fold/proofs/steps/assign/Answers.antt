@@ -69,8 +69,8 @@ returns-in_err-add-in-Err-clause-cause c =
     let v = value_of (expression_of c.args.e.now) in
     let out : c.from_residual-in_err-add-in-Err.result ≡ Err c.in_err-add-in-Err.field-0.0 = grind arith in
     rw out (blame_stop (moved c.args.x v) (stopped v) [] c.args.table.states.entries c.args.ended.now c.loop-s.next.states.entries c.loop-s.ended c.in-Some.s c.in-Some.f c.next.new.self
-    (doing_along _ _ _ _ _ _ _ _ _ c.in-Some.ensures.steps c.loop-s.invariant.so_far) _ c.gone.result c.in_err-add-in-Err.ensures.cause
-    (stopped_err v _ _ _ _ c.in-Err.ensures c.values.ensures c.gone.ensures))
+    (doing_along _ _ _ _ _ _ _ _ _ c.in-Some.ensures.steps c.loop-s.invariant.so_far) _ c.ended_by.result c.in_err-add-in-Err.ensures.cause
+    (stopped_err v _ _ _ _ c.in-Err.ensures c.values.ensures c.ended_by.ensures))
 
 pub loop-s-preserved : goal.loop-s-preserved
 loop-s-preserved c =
@@ -81,7 +81,7 @@ loop-s-preserved c =
       vars = c.loop-s.invariant.vars;
       so_far = doing_stop (moved c.args.x v) (stopped v) [] c.args.table.states.entries c.args.ended.now c.loop-s.next.states.entries c.loop-s.ended c.in-Some.s c.in-Some.f c.next.new.self
           (doing_along _ _ _ _ _ _ _ _ _ c.in-Some.ensures.steps c.loop-s.invariant.so_far)
-          c.add.new.self c.gone.result c.in_ok-add-in-Err.ensures.ok
+          c.add.new.self c.ended_by.result c.in_ok-add-in-Err.ensures.ok
           (moved_err c.args.x v _ _ _ c.in-Err.ensures c.values.ensures)
-          (stopped_err v _ _ _ _ c.in-Err.ensures c.values.ensures c.gone.ensures);
+          (stopped_err v _ _ _ _ c.in-Err.ensures c.values.ensures c.ended_by.ensures);
     }

@@ -69,7 +69,7 @@ returns-in_err-add-in-Err-clause-cause c =
     let out : c.from_residual-in_err-add-in-Err.result ≡ Err c.in_err-add-in-Err.field-0.0 = grind arith in
     rw out (blame_within (kept_if (holds v)) (stopped v) [] c.args.table.states.entries c.args.ended.now _ (kept_most (holds v))
     (blame_stop (kept_if (holds v)) (stopped v) [] c.args.table.states.entries c.args.ended.now c.loop-s.first.states.entries c.loop-s.ended c.in-Some.s c.in-Some.f c.next.new.self
-    (doing_along _ _ _ _ _ _ _ _ _ c.in-Some.ensures.steps c.loop-s.invariant.first) _ c.gone.result c.in_err-add-in-Err.ensures.cause (stopped_err v _ _ _ _ c.in-Err.ensures c.values.ensures c.gone.ensures)))
+    (doing_along _ _ _ _ _ _ _ _ _ c.in-Some.ensures.steps c.loop-s.invariant.first) _ c.ended_by.result c.in_err-add-in-Err.ensures.cause (stopped_err v _ _ _ _ c.in-Err.ensures c.values.ensures c.ended_by.ensures)))
 
 pub loop-s-preserved : goal.loop-s-preserved
 loop-s-preserved c =
@@ -80,9 +80,9 @@ loop-s-preserved c =
       first_vars = c.loop-s.invariant.first_vars;
       second_vars = c.loop-s.invariant.second_vars;
       first = doing_stop (kept_if (holds v)) (stopped v) [] c.args.table.states.entries c.args.ended.now c.loop-s.first.states.entries c.loop-s.ended c.in-Some.s c.in-Some.f c.next.new.self
-          (doing_along _ _ _ _ _ _ _ _ _ c.in-Some.ensures.steps c.loop-s.invariant.first) c.add.new.self c.gone.result c.in_ok-add-in-Err.ensures.ok (first_err v _ _ _ c.in-Err.ensures c.values.ensures) (stopped_err v _ _ _ _ c.in-Err.ensures c.values.ensures c.gone.ensures);
+          (doing_along _ _ _ _ _ _ _ _ _ c.in-Some.ensures.steps c.loop-s.invariant.first) c.add.new.self c.ended_by.result c.in_ok-add-in-Err.ensures.ok (first_err v _ _ _ c.in-Err.ensures c.values.ensures) (stopped_err v _ _ _ _ c.in-Err.ensures c.values.ensures c.ended_by.ensures);
       second = doing_stop (kept_if (fails v)) (stopped v) [] c.args.table.states.entries c.args.ended.now c.loop-s.second.states.entries c.loop-s.ended c.in-Some.s c.in-Some.f c.next.new.self
-          (doing_along _ _ _ _ _ _ _ _ _ c.in-Some.ensures.steps c.loop-s.invariant.second) c.add.new.self c.gone.result c.in_ok-add-in-Err.ensures.ok (second_err v _ _ _ c.in-Err.ensures c.values.ensures) (stopped_err v _ _ _ _ c.in-Err.ensures c.values.ensures c.gone.ensures);
+          (doing_along _ _ _ _ _ _ _ _ _ c.in-Some.ensures.steps c.loop-s.invariant.second) c.add.new.self c.ended_by.result c.in_ok-add-in-Err.ensures.ok (second_err v _ _ _ c.in-Err.ensures c.values.ensures) (stopped_err v _ _ _ _ c.in-Err.ensures c.values.ensures c.ended_by.ensures);
     }
 
 pub returns-clause-first : goal.returns-clause-first

@@ -7,7 +7,7 @@ use Rattle.mass_fold.proofs.table.sum_at.Goals as goal
 pub returns-in-Some-clause-cause : goal.returns-in-Some-clause-cause
 returns-in-Some-clause-cause c =
     if_wide _ _ _ _ c.add.ensures c.ok_or.ensures.value
-    (λ no N L I pos k p w within most few. put_wide _ c.args.f.now c.in-Some.g.now c.args.table.now.entries N (sym c.in-Some.ensures.value) c.num-lower.ensures.lowest c.num-low.ensures.lowest no pos k w (let m = within (λ s. 1) in omega (arith, most)))
+    (λ no N L I pos k p w within most few. put_wide _ c.args.f.now c.in-Some.g.now c.args.table.now.entries N (sym c.in-Some.ensures.value) c.is_lowest-in-Some.ensures c.is_lowest.ensures no pos k w (let m = within (λ s. 1) in omega (arith, most)))
 
 pub returns-in-None-clause-cause : goal.returns-in-None-clause-cause
 returns-in-None-clause-cause c =

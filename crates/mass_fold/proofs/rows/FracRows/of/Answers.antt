@@ -7,9 +7,9 @@ loop-x-preserved c =
       next = tt;
       finite = tt;
       copied = copied_next c.args.table.entries _ _ _ _ c.in-Some.x c.in-Some.f c.in-Some.ensures.steps c.in_ok-push.ensures.items i.copied;
-      lowest = lowest_next _ _ c.in-Some.x c.in-Some.f c.in_ok-push.ensures.items c.num-low.ensures.lowest i.lowest;
+      lowest = lowest_next _ _ c.in-Some.x c.in-Some.f c.in_ok-push.ensures.items c.is_lowest.ensures i.lowest;
     }
 
 pub returns-clause-ascending : goal.returns-clause-ascending
 returns-clause-ascending c =
-    rows_ascend _ c.outcomes_are_ordered.ensures.outcomes c.args.table.entries c.loop-x.rows.items (copied_all _ _ _ c.in-None.ensures.steps.0 c.loop-x.invariant.copied) c.len-count.ensures.ordered
+    rows_ascend _ c.outcomes_are_ordered.ensures.outcomes c.args.table.entries c.loop-x.rows.items (copied_all _ _ _ c.in-None.ensures.steps.0 c.loop-x.invariant.copied) c.is_ordered.ensures
