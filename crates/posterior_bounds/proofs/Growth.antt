@@ -14,7 +14,7 @@ use Rattle.gcl_core.proofs.Accepted.{checked_weights}
 use Rattle.gcl_core.proofs.FittingValues.{zeros_fit}
 use Rattle.gcl_core.proofs.TreeWeights.{chi}
 use Rattle.weighing_law.proofs.Costs.{whole}
-use Rattle.weighing_law.proofs.Scales.{scale_of, scales, block_scale, block_scale_pos}
+use Rattle.weighing_law.proofs.PlayWeights.{AtSomeScale}
 use Rattle.posterior_bounds.proofs.EntrySums.{counts_join, whole_at}
 use Rattle.posterior_bounds.proofs.MoreTurns.{RanOut, Grows, grows_block}
 
@@ -86,20 +86,23 @@ pub record Gains (N meant failed turns meant' failed' turns' : ℕ) : Type 0 whe
 
 -- ---- a round
 module _ (p : SourceProgram) (ok : IsChecked p) (n n' : ℕ) (more : n ≤ n') where
+  pub grows : AtSomeScale (λ N. Grows N (weighted_ends n None p.body (zeros (length p.names))) (weighted_ends n' None p.body (zeros (length p.names))))
+  grows = grows_block n n' more p.body (checked_weights p ok) ok.numbers.body (zeros (length p.names)) (zeros_fit (length p.names))
+
   abbrev pub scale : ℕ
-  scale = block_scale n' (scale_of 0) p.body
+  scale = grows.scale
 
   pub scale_pos : 0 < scale
-  scale_pos = block_scale_pos n' 0 p.body
+  scale_pos = grows.positive
 
   abbrev pub growth : Grows scale (weighted_ends n None p.body (zeros (length p.names))) (weighted_ends n' None p.body (zeros (length p.names)))
-  growth = grows_block n n' 0 (scale_of 0) more (scales 0) p.body (checked_weights p ok) ok.numbers.body (zeros (length p.names)) (zeros_fit (length p.names))
+  growth = grows.holds
 
   low_all : growth.low (λ e. 1) ≡ scale
-  low_all = whole_at (block_scale n (scale_of 0) p.body) scale _ (growth.low (λ e. 1)) (block_scale_pos n 0 p.body) scale_pos (whole p ok n 0) (growth.low_counts (λ e. 1))
+  low_all = let w = whole p ok n 0 in whole_at w.scale scale _ (growth.low (λ e. 1)) w.positive scale_pos w.holds (growth.low_counts (λ e. 1))
 
   high_all : growth.high (λ e. 1) ≡ scale
-  high_all = whole_at scale scale _ (growth.high (λ e. 1)) scale_pos scale_pos (whole p ok n' 0) (growth.high_counts (λ e. 1))
+  high_all = let w = whole p ok n' 0 in whole_at w.scale scale _ (growth.high (λ e. 1)) w.positive scale_pos w.holds (growth.high_counts (λ e. 1))
 
   low_join : (G H J : End → ℕ) → ((e : End) → G e + H e ≡ J e) → growth.low G + growth.low H ≡ growth.low J
   low_join G H J e = counts_join scale G H J _ _ _ _ scale_pos e (growth.low_counts G) (growth.low_counts H) (growth.low_counts J)
