@@ -7,10 +7,13 @@ use Rattle.std.proofs.Math.Nat.{mul-le-mul_left}
 use Rattle.std.proofs.lemmas.Nat.Gcd.{IsGcd-from_zero, IsGcd-swap, IsGcd-from_mod, same_from_IsGcd, dvd_of_mod-eq-zero, mod-eq-zero_of_dvd}
 use Rattle.std.proofs.Math.Nat.{mul-div_assoc}
 use Rattle.std.specs.Int.{IsGcd}
-use Rattle.std.specs.Prelude.{◌&&◌, if◌then◌else◌}
+use Rattle.std.specs.Prelude.{◌&&◌, if◌then◌else◌, [], ◌∷◌}
+use Rattle.std.specs.List.{sum}
 use Rattle.std.proofs.lemmas.Bool.{false≢true, eqb-true, eq-eqb}
 use Rattle.std.proofs.Math.Arith.{le_of_le-suc-ne}
-use Rattle.frac128.specs.Divisor.{divides, greatest_divisor, gcd, lcm}
+use Rattle.gcl_core.specs.meaning.Divisor.{divides, greatest_divisor, common_divisor}
+use Rattle.gcl_core.proofs.LowestParts.{sum_cons}
+use Rattle.frac128.specs.Divisor.{gcd, lcm}
 use Rattle.frac128.specs.Fraction.{lowest, InLowest, Fraction, IsEqual}
 
 -- the greatest common divisor by remainders, with at most k of them
@@ -28,7 +31,7 @@ euclid_is (suc k) a (suc b) h =
     IsGcd-from_mod a (suc b) (euclid k (suc b) (a % suc b)) (euclid_is k (suc b) (a % suc b) (omega arith))
 
 -- the search from k down finds the divisor that each common divisor divides
-search_finds : (k a b g : ℕ) → IsGcd a b g → 0 < g → g ≤ k → greatest_divisor k a b ≡ g
+search_finds : (k a b g : ℕ) → IsGcd a b g → 0 < g → g ≤ k → greatest_divisor (a ∷ b ∷ []) k ≡ g
 unfolding greatest_divisor
 search_finds zero a b g h pos le = omega arith
 search_finds (suc k) a b g h pos le = by_tests (divides (suc k) a) (divides (suc k) b) refl refl (search_finds k a b g h pos)
@@ -40,7 +43,7 @@ search_finds (suc k) a b g h pos le = by_tests (divides (suc k) a) (divides (suc
     lower : (n : ℕ) → g ∣ n → divides (suc k) n ≡ false → g ≤ k
     lower n d e = le_of_le-suc-ne le (λ same. false≢true (sym e ∙ eq-eqb (n % suc k) 0 (mod-eq-zero_of_dvd (suc k) (subst (λ m. m ∣ n) same d))))
 
-    by_tests : (s t : Bool) → divides (suc k) a ≡ s → divides (suc k) b ≡ t → (g ≤ k → greatest_divisor k a b ≡ g) → (if s && t then suc k else greatest_divisor k a b) ≡ g
+    by_tests : (s t : Bool) → divides (suc k) a ≡ s → divides (suc k) b ≡ t → (g ≤ k → greatest_divisor (a ∷ b ∷ []) k ≡ g) → (if s && (t && true) then suc k else greatest_divisor (a ∷ b ∷ []) k) ≡ g
     by_tests true true e f more = let l = le_of_dvd pos (h.2 (suc k) (divided a e) (divided b f)) in omega arith
     by_tests true false e f more = more (lower b h.1 f)
     by_tests false t e f more = more (lower a h.0 e)
@@ -49,7 +52,10 @@ euclid_gcd : (a b : ℕ) → IsGcd a b (euclid b a b)
 euclid_gcd a b = euclid_is b a b (omega arith)
 
 found : (a b : ℕ) → 0 < euclid b a b → euclid b a b ≤ a + b → IsGcd a b (gcd a b)
-found a b pos le = subst (IsGcd a b) (sym (search_finds (a + b) a b (euclid b a b) (euclid_gcd a b) pos le)) (euclid_gcd a b)
+found a b pos le =
+    let first = sum_cons a (b ∷ []) in
+    let second = sum_cons b [] in
+    subst (IsGcd a b) (sym (search_finds (sum (a ∷ b ∷ [])) a b (euclid b a b) (euclid_gcd a b) pos (omega (arith, first, second, le)))) (euclid_gcd a b)
 
 pub gcd_is : (a b : ℕ) → IsGcd a b (gcd a b)
 unfolding greatest_divisor
