@@ -2,3 +2,4 @@ mod LowBits
 mod Tokens
 mod Unspelled
 mod Chances
+pub mod Rows

@@ -9,7 +9,7 @@ mod tests;
 mod weighing;
 mod word_bits;
 
-pub use drawing::draw;
+pub use drawing::{draw, draw_row};
 pub use error::ReadError;
 pub use reading::program;
 pub use weighing::chance;

@@ -1,6 +1,6 @@
 // Programs that are drawn from and weighed, with answers worked out by hand.
 
-use crate::{ReadError, WordBits, chance, draw, program};
+use crate::{ReadError, WordBits, chance, draw, draw_row, program};
 use frac128::Frac;
 use gcl_core::{Answer, Limit, Limits, Outcome};
 use std::test::Fail;
@@ -40,6 +40,30 @@ fn draws_and_weighs(rt: HostRuntime) -> Result<(), Fail> {
     assert!(rt; is_fraction(rejected, 1, 16));
     let other = chance(alloc, &p, &LIMITS, Outcome::Value(3))?;
     assert!(rt; other.is_none());
+    Ok(())
+}
+
+fn is_row(row: Option<Vec<Outcome>>, want: &[Outcome]) -> bool {
+    match row {
+        Some(outcomes) => outcomes.as_slice() == want,
+        None => false,
+    }
+}
+
+// The string 0 takes the first block, 10 the second, and 110 the first, with its second attempt. A fourth run has no bit.
+#[test]
+fn draws_in_a_row(rt: HostRuntime) -> Result<(), Fail> {
+    let alloc = rt.alloc();
+    let p = program(alloc, TWO_THIRDS)?;
+    let mut bits = WordBits::new(0b010_110, 6);
+    let three = draw_row(alloc, &p, &LIMITS, 3, &mut bits)?;
+    let want = [Outcome::Value(1), Outcome::Value(2), Outcome::Value(1)];
+    assert!(rt; is_row(three, &want));
+    let more = draw(alloc, &p, &LIMITS, &mut bits)?;
+    assert_eq!(rt; more, Answer::MoreBits(0));
+    let mut again = WordBits::new(0b010_110, 6);
+    let four = draw_row(alloc, &p, &LIMITS, 4, &mut again)?;
+    assert!(rt; four.is_none());
     Ok(())
 }
 

@@ -39,7 +39,7 @@ pub fn chance(alloc: Global, p: &Checked, l: &Limits, x: Outcome) -> Result<Opti
     ensures weighs { WeighsExactly (run_on (source_of p.now) l.now) (source_of p.now) l.now }
 {
     runs_weigh_exactly();
-    let _program = p.program();
+    p.is_kept();
     let rows = mass(alloc, p, l.turns, Some(l.attempts), Some(l.rounds))?;
     Ok(find(&rows, x))
 }

@@ -8,7 +8,7 @@ use Rattle.embedding.proofs.weighing.chance.Goals as goal
 pub returns-in_err-rows-clause-weighs : goal.returns-in_err-rows-clause-weighs
 returns-in_err-rows-clause-weighs c =
     let p = source_of c.args.p.now in
-    c.runs_weigh_exactly.ensures p c.args.l.now (run_on p c.args.l.now) c.program-program.ensures.kept (λ w. refl)
+    c.runs_weigh_exactly.ensures p c.args.l.now (run_on p c.args.l.now) c.is_kept.ensures.kept (λ w. refl)
 
 pub returns-clause-mass : goal.returns-clause-mass
 returns-clause-mass c =
@@ -18,4 +18,4 @@ returns-clause-mass c =
 pub returns-clause-weighs : goal.returns-clause-weighs
 returns-clause-weighs c =
     let p = source_of c.args.p.now in
-    c.runs_weigh_exactly.ensures p c.args.l.now (run_on p c.args.l.now) c.program-program.ensures.kept (λ w. refl)
+    c.runs_weigh_exactly.ensures p c.args.l.now (run_on p c.args.l.now) c.is_kept.ensures.kept (λ w. refl)
