@@ -2,6 +2,9 @@
 
 ghost use Rattle.std.specs.Prelude.{◌≡◌};
 
+use gcl_core::refusals::{
+    BAD_BYTE, CODE_WORDS, NAME_TOO_LONG, NUMBER_TOO_WIDE, TEXT_TOO_LONG,
+};
 use std::alloc::{AllocError, AllocFailed};
 use thiserror::Error;
 
@@ -9,16 +12,16 @@ use thiserror::Error;
 #[derive(Clone, Copy, PartialEq, Eq, Debug, Error)]
 pub enum LexError {
     /// The text has more than 65,536 bytes.
-    #[error("text too long")]
+    #[error("{}", CODE_WORDS[TEXT_TOO_LONG as usize])]
     TextTooLong,
     /// At this place begins no blank, comment, number, name or symbol.
-    #[error("bad byte at {at}")]
+    #[error("{words} at {at}", words = CODE_WORDS[BAD_BYTE as usize])]
     BadByte { at: u32 },
     /// The number whose first digit stands at this place is above 2^63 - 1.
-    #[error("number too wide at {at}")]
+    #[error("{words} at {at}", words = CODE_WORDS[NUMBER_TOO_WIDE as usize])]
     NumberTooWide { at: u32 },
     /// The name whose first byte stands at this place has more than 64 bytes.
-    #[error("name too long at {at}")]
+    #[error("{words} at {at}", words = CODE_WORDS[NAME_TOO_LONG as usize])]
     NameTooLong { at: u32 },
     #[error("out of memory")]
     OutOfMemory,

@@ -2,6 +2,7 @@
 
 ghost use Rattle.std.specs.Prelude.{◌≡◌};
 
+use gcl_core::refusals::{CODE_WORDS, TOO_DEEP, UNEXPECTED};
 use std::alloc::AllocError;
 use thiserror::Error;
 
@@ -9,10 +10,10 @@ use thiserror::Error;
 #[derive(Clone, Copy, PartialEq, Eq, Debug, Error)]
 pub enum ParseError {
     /// Brackets nest deeper than 64, or more than 128 operators stand since the last `;` or brace, at the token that begins here.
-    #[error("nested too deep at {at}")]
+    #[error("{words} at {at}", words = CODE_WORDS[TOO_DEEP as usize])]
     TooDeep { at: u32 },
     /// With the token that begins here the tokens begin no program; or the text ends here, and its tokens are none yet.
-    #[error("unexpected token at {at}")]
+    #[error("{words} at {at}", words = CODE_WORDS[UNEXPECTED as usize])]
     Unexpected { at: u32 },
     #[error("out of memory")]
     OutOfMemory,
