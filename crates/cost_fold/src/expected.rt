@@ -45,7 +45,7 @@ pub fn cost(alloc: Global, p: &Checked, l: &Limits) -> Result<Frac, CostError>
     ensures lengths { IfOk result (CostsExactly (run_on (source_of p.now) l.now) (source_of p.now) l.now) }
     ensures refused { IfErr result (λ e. CostRefused e (source_of p.now) l.now) }
 {
-    let _program = p.program();
+    p.is_kept();
     match round_bits(alloc, p, l.turns, l.attempts) {
         Err(error) => Err(refusal(error)),
         Ok((bits, failed)) => match bits {
@@ -53,7 +53,7 @@ pub fn cost(alloc: Global, p: &Checked, l: &Limits) -> Result<Frac, CostError>
             Some(bits) => match repeated(&bits, &failed, l.rounds) {
                 None => Err(CostError::TooWide),
                 Some(f) => {
-                    let _low = f.num();
+                    f.is_lowest();
                     Ok(f)
                 }
             },

@@ -32,7 +32,7 @@ pub fn bounds(alloc: Global, p: &Checked, turns: u64) -> Result<Bounds, MassErro
     ensures hold { IfOk result (λ b. (n : ℕ) → turns ≤ n → IsBelowOne (fails (source_of p.now) n) → HoldAt (source_of p.now) n b.rows b.other) }
     ensures refused { IfErr result (λ e. MassRefused e (source_of p.now) turns None None) }
 {
-    let _program = p.program();
+    p.is_kept();
     let masses = mass(alloc, p, turns, None, None)?;
     let other = undecided(&masses);
     Ok(Bounds {

@@ -54,10 +54,10 @@ fn upper(low: &Frac, other: &Frac) -> Option<Frac>
     ensures value { IfSome result (λ high. high ≡ lowest (plus low.now other.now)) }
     ensures cause { IfNone result (sum_of low.now other.now ≡ None) }
 {
-    let _low = low.num();
-    let _other = other.num();
+    low.is_lowest();
+    other.is_lowest();
     let high = low.add(other)?;
-    let _high = high.num();
+    high.is_lowest();
     Some(high)
 }
 
