@@ -32,7 +32,7 @@ pub fn draw<B: Bits>(
     Ok(stop.answer)
 }
 
-/// The outcomes of so many runs in a row, each on the bits that those before it left, or `None` where a run needs a bit beyond them. One
+/// The outcomes of `count` runs in a row, each on the bits that those before it left, or `None` where a run needs a bit beyond them. One
 /// sampler and one state serve all runs, so a run takes no memory but for its outcome. `Read` comes only where a read of the bits failed.
 pub fn draw_row<B: Bits>(
     alloc: Global,
