@@ -13,7 +13,7 @@ spelled_from a (b ∷ u) = spelled_from (2 * a + from_bool b) u
 abbrev pub spelled : List Bool → ℕ
 spelled u = spelled_from 0 u
 
--- how often m goes into 2 ^ t: each of the m labels has so many of the strings of t bits
+-- how often m goes into 2 ^ t: each of the m labels has that many of the strings of t bits
 unfoldable pub quota : ℕ → ℕ → ℕ
 quota m t = 2 ^ t / m
 
@@ -35,7 +35,7 @@ label_at m u = let c = spelled u - first_undecided m (length u) in if is_read_to
 abbrev pub has_no_label : ℕ → List Bool → Bool
 has_no_label m u = nat_le (m * quota m (length u)) (spelled u)
 
--- the label after so many flips where there is one, or else what follows
+-- the label after `flips` flips where there is one, or else what follows
 abbrev pub label_or : Option ℕ → ℕ → Roll → Roll
 label_or (Some c) n otherwise = Label c n
 label_or None n otherwise = otherwise
@@ -46,7 +46,7 @@ roll_from m zero u w = label_or (label_at m u) (length u) (Limit (length u))
 roll_from m (suc h) u [] = label_or (label_at m u) (length u) (MoreBits (length u))
 roll_from m (suc h) u (b ∷ w) = label_or (label_at m u) (length u) (roll_from m h (u ++ b ∷ []) w)
 
--- A roll among m labels on the bits of w, with at most so many flips: the label of the shortest string at the front of
+-- A roll among m labels on the bits of w, with a limit of flips: the label of the shortest string at the front of
 -- w that is just read to one; the limit, where that many bits give none; else w has too few bits.
 abbrev pub fast_roll : ℕ → ℕ → List Bool → Roll
 fast_roll m flips w = roll_from m flips [] w

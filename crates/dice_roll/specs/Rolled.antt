@@ -11,14 +11,14 @@ flips_made (Label c n) = n
 flips_made (Limit n) = n
 flips_made (MoreBits n) = n
 
--- Of these bits a roll among m labels with at most so many flips took those that it counts, and the others are left. It needed each: those
+-- Of these bits a roll among m labels with a limit of flips took those that it counts, and the others are left. It needed each: those
 -- before it give no label.
 pub record TookEach (m flips : ℕ) (r : Roll) (bits left : List Bool) : Type 0 where
   pub enough : flips_made r ≤ length bits
   pub left_is : left ≡ drop (flips_made r) bits
   pub needed : (k : ℕ) → k < flips_made r → fast_roll m flips (take k bits) ≡ MoreBits k
 
--- an answer of a roll among m labels with at most so many flips: a label is one of the m, the limit is reached at the
+-- an answer of a roll among m labels with a limit of flips: a label is one of the m, the limit is reached at the
 -- last flip, and where bits are missing a flip was still to be made
 abbrev pub IsWithin : ℕ → ℕ → Roll → Type 0
 IsWithin m flips (Label c n) = (c < m) × (n ≤ flips)

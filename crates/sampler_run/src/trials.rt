@@ -93,7 +93,7 @@ fn first_above(bound: u64, number: u64, need: u32) -> u32
     63 - (number ^ (bound - 1)).leading_zeros()
 }
 
-// The attempt once it needs only so many bits more, of the number that it spells.
+// The attempt once it needs only `need` bits more of the number that it spells.
 #[inline(always)]
 fn read_to(trial: Trial, number: u64, need: u32) -> Trial
     requires need { (need ≤ trial.need) × (need < 64) }

@@ -1,4 +1,4 @@
--- How far a run goes without a further bit, and how far on so many bits, within the bound on its steps: numbers that fall.
+-- How far a run goes without a further bit, and how far on a number of bits, within the bound on its steps: numbers that fall.
 use Rattle.std.specs.Prelude.{ℕ, zero, suc, ◌+◌, ◌*◌, List}
 use Rattle.gcl_core.specs.declared.answers.Limits.{Limits}
 use Rattle.sampler_code.specs.Instruction.{Instruction}
@@ -20,6 +20,6 @@ silent code l (suc k) m = silent_after (step code l m) (silent code l k)
 unfoldable pub steps_left : List Instruction → Limits → Machine → ℕ
 steps_left code l m = silent code l (most_steps code l) m
 
--- what is left of a run on so many bits
+-- what is left of a run on `left` bits
 abbrev pub to_go : List Instruction → Limits → ℕ → Machine → ℕ
 to_go code l left m = left * suc (most_steps code l) + steps_left code l m

@@ -18,7 +18,7 @@ use Rattle.sampler_run.specs.inner.Shape.{SameShape}
 use Rattle.sampler_run.specs.inner.Taken.{Takes}
 use Rattle.sampler_run.specs.Views.{machine_of}
 
--- what a run through so many bits stands on
+-- what a run through `count` bits stands on
 pub record CanRun (code : List Instruction) (l : Limits) (m : Registers) (count : ℕ) : Type 0 where
   pub room : greatest_depth code ≤ m.stack
   pub sound : Sound code (length m.turns.items) (length m.vars.items)
