@@ -39,6 +39,6 @@ pub fn audit<R: Threads + Sync>(
 {
     let state = s.start(alloc, l)?;
     let audit = spread(rt, alloc, &state, depth, FORKS)?;
-    let _ = audit.rows.count();
+    audit.rows.are_kept();
     Ok(audit)
 }

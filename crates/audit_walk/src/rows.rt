@@ -111,6 +111,13 @@ impl AuditRows {
         })
     }
 
+    /// It does nothing: what the rows of every audit keep, for a proof that has lost it.
+    pub(crate) fn are_kept(&self)
+        ensures { IsRows self.now }
+    {
+        let _ = &self.rows;
+    }
+
     /// The number of rows. What the rows keep is told here.
     pub fn count(&self) -> usize
         ensures count { result ≡ length self.now }

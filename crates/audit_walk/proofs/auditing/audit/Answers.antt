@@ -6,7 +6,7 @@ use Rattle.audit_walk.proofs.auditing.audit.Goals as goal
 pub returns-clause-runs : goal.returns-clause-runs
 returns-clause-runs g c =
     let a = c.in_ok-audit.audit in
-    λ run is. exact_audit run c.args.depth a.rows a.undecided c.count.ensures.rows
+    λ run is. exact_audit run c.args.depth a.rows a.undecided c.are_kept.ensures
     (c.in_ok-audit.ensures.rest run (rest_here (run_begun c.args.s.now c.args.l.now) c.in_ok-state.state run c.in_ok-state.ensures.rest is))
 
 pub returns-clause-all : goal.returns-clause-all
