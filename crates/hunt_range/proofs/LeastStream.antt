@@ -11,15 +11,15 @@ use Rattle.gcl_core.specs.declared.answers.Answer.{Answer}
 use Rattle.gcl_core.specs.declared.answers.Limits.{Limits}
 use Rattle.gcl_core.specs.declared.answers.TallyKey.{TallyKey}
 use Rattle.sampler_code.specs.Assembled.{Assembled, IsRunOf}
-use Rattle.tally_range.specs.declared.range.SeedRange.{SeedRange}
-use Rattle.tally_range.specs.declared.range.TheConstants.{STREAMS_OF_A_BLOCK}
+use Rattle.stream_runs.specs.declared.range.SeedRange.{SeedRange}
+use Rattle.stream_runs.specs.declared.range.TheConstants.{STREAMS_OF_A_BLOCK}
 use Rattle.claim_board.specs.declared.pass.Pass.{Pass}
 use Rattle.claim_board.specs.Board.{dealt_to, had_none, AreDealtTo}
 use Rattle.least_board.specs.declared.pass.LeastPass.{LeastPass}
 use Rattle.least_board.specs.Board.{offers_of, seen_by, IsLeast, offered_by}
 use Rattle.hunt_range.specs.Sought.{Sought, sought_of, LeastWanted}
 use Rattle.hunt_range.specs.inner.Blocks.{block_start}
-use Rattle.tally_range.specs.Blocks.{blocks_over}
+use Rattle.stream_runs.specs.Blocks.{blocks_over}
 use Rattle.hunt_range.specs.inner.Hunters.{HasHunted, HasHuntedRuns}
 
 module _ (s : Sought) (n r : ℕ) where

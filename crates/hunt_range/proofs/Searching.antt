@@ -10,8 +10,8 @@ use Rattle.gcl_core.specs.declared.answers.Answer.{Answer}
 use Rattle.gcl_core.specs.declared.answers.Limits.{Limits}
 use Rattle.gcl_core.specs.declared.answers.TallyKey.{TallyKey}
 use Rattle.sampler_code.specs.Assembled.{Assembled, IsRunOf}
-use Rattle.tally_range.specs.declared.range.SeedRange.{SeedRange}
-use Rattle.tally_range.specs.declared.range.TheConstants.{STREAMS_OF_A_BLOCK}
+use Rattle.stream_runs.specs.declared.range.SeedRange.{SeedRange}
+use Rattle.stream_runs.specs.declared.range.TheConstants.{STREAMS_OF_A_BLOCK}
 use Rattle.claim_board.specs.declared.pass.Board.{Board}
 use Rattle.claim_board.specs.declared.pass.Pass.{Pass}
 use Rattle.claim_board.specs.Board as claim
@@ -73,11 +73,11 @@ module _ (s : Sought) where
       (listed_more y x offers h)
 
   -- one stream more that is not wanted
-  pub none_more : (a at : ℕ) → NoneWanted s a (a + at) → s.wants (a + at) ≡ false → NoneWanted s a (a + (at + 1))
+  pub none_more : (a at : ℕ) → NoneWanted s a at → s.wants at ≡ false → NoneWanted s a (at + 1)
   none_more a at none here i low high w =
-      ⊎_elim (λ (lt : i < a + at). none i low lt w)
-      (λ (ge : a + at ≤ i). let e : i ≡ a + at = omega arith in absurd (true≢false (sym w ∙ ap s.wants e ∙ here)))
-      (cases_lt i (a + at))
+      ⊎_elim (λ (lt : i < at). none i low lt w)
+      (λ (ge : at ≤ i). let e : i ≡ at = omega arith in absurd (true≢false (sym w ∙ ap s.wants e ∙ here)))
+      (cases_lt i at)
 
 -- ---- a block that was claimed, and a look
 module _ (s : Sought) (p p' : Pass) (q q' : LeastPass) (block : ℕ) (was : Searched s p q) (dealt : claim.dealt_to p' ≡ claim.dealt_to p ++ block ∷ []) (less : least.seen_by q' ≤ least.seen_by q) where

@@ -3,8 +3,8 @@ use Rattle.std.specs.Prelude.{ℕ, ◌<◌, ◌≤◌, ◌≡◌, Bool, true, Li
 use Rattle.gcl_core.specs.declared.answers.Answer.{Answer}
 use Rattle.gcl_core.specs.declared.answers.TallyKey.{TallyKey}
 use Rattle.gcl_core.specs.meaning.Outcomes.{same_key}
-use Rattle.tally_range.specs.declared.range.SeedRange.{SeedRange}
-use Rattle.tally_range.specs.Counts.{key_on}
+use Rattle.stream_runs.specs.declared.range.SeedRange.{SeedRange}
+use Rattle.stream_runs.specs.Keys.{key_on}
 
 -- the streams from `from` up to but not including `to`, and a test of those that are wanted
 pub record Sought : Type 0 where

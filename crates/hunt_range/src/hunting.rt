@@ -3,7 +3,7 @@ ghost use Rattle.std.specs.Prelude.{◌≡◌, false, Bool, List, All, IfOk, vec
 ghost use Rattle.gcl_core.specs.declared.answers.Answer.{Answer};
 ghost use Rattle.gcl_core.specs.meaning.LimitRange.{InRange};
 ghost use Rattle.sampler_code.specs.Assembled.{IsRunOf};
-ghost use Rattle.tally_range.specs.Ranges.{IsRange, IsWorkers};
+ghost use Rattle.stream_runs.specs.Ranges.{IsRange, IsWorkers};
 ghost use Rattle.claim_board.specs.Board as claim;
 ghost use Rattle.least_board.specs.Board as offers;
 ghost use Rattle.hunt_range.specs.Sought.{sought_of, LeastWanted};
@@ -17,7 +17,7 @@ use least_board::{LeastBoard, LeastPass};
 use sampler_run::Sampler;
 use std::alloc::{AllocError, Global};
 use std::thread::Threads;
-use tally_range::{STREAMS_OF_A_BLOCK, SeedRange};
+use stream_runs::{Job, STREAMS_OF_A_BLOCK, SeedRange};
 use zar_io::Gate;
 
 // A hunter for each two passes.
@@ -101,8 +101,13 @@ pub fn hunt<R: Threads + Sync, G: Gate>(
     requires workers { IsWorkers range.now.workers }
     ensures { IfOk result (λ found. (run : List Bool → Answer) → IsRunOf s.now l.now run → LeastWanted (sought_of run range.now want.now) found) }
 {
-    let blocks = (range.to - range.from).div_ceil(STREAMS_OF_A_BLOCK);
-    let (board, passes) = Board::new(alloc, blocks, range.workers)?;
+    let job = Job {
+        sampler: s,
+        limits: l,
+        range,
+        gate,
+    };
+    let (board, passes) = Board::new(alloc, range.blocks(), range.workers)?;
     let (least, bids) = LeastBoard::new(alloc, range.to, range.workers)?;
     let mut hunters = hunters_of(alloc, &board, &least, passes, bids)?;
     run_all(
@@ -110,11 +115,8 @@ pub fn hunt<R: Threads + Sync, G: Gate>(
         alloc,
         &board,
         &least,
-        s,
-        l,
-        range,
+        &job,
         want,
-        gate,
         hunters.as_mut_slice(),
     );
     close_both(alloc, s, l, range, want, board, least, hunters)

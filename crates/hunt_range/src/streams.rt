@@ -3,30 +3,19 @@ ghost use Rattle.std.specs.Prelude.{◌≡◌, ◌<◌, ◌≤◌, Bool, List, I
 ghost use Rattle.gcl_core.specs.declared.answers.Answer.{Answer};
 ghost use Rattle.gcl_core.specs.meaning.Outcomes.{same_key};
 ghost use Rattle.sampler_run.specs.Held.{IsRestOf, set_back};
-ghost use Rattle.tally_range.specs.Blocks.{first_in_block, blocks_over};
-ghost use Rattle.tally_range.specs.Homes.{IsHome};
-ghost use Rattle.tally_range.specs.Ranges.{IsRange};
+ghost use Rattle.stream_runs.specs.Homes.{IsHome};
+ghost use Rattle.stream_runs.specs.Ranges.{IsRange};
 ghost use Rattle.hunt_range.specs.Sought.{sought_of};
 ghost use Rattle.hunt_range.specs.inner.Blocks.{FirstWanted};
 
 use gcl_core::TallyKey;
 use sampler_run::State;
-use tally_range::{STREAMS_OF_A_BLOCK, SeedRange, run_on_stream};
+use stream_runs::{SeedRange, run_on_stream};
 
 fn is_same(key: TallyKey, want: &TallyKey) -> bool
     ensures { result ≡ same_key key want.now }
 {
     key == *want
-}
-
-/// The first stream of a block, of the streams from `from` up to but not including `to`.
-pub fn first_stream(from: u64, to: u64, block: u64) -> u64
-    requires order { from ≤ to }
-    requires block { block < blocks_over from to }
-    ensures first { result ≡ first_in_block from block }
-    ensures inside { result < to }
-{
-    from + STREAMS_OF_A_BLOCK * block
 }
 
 /// The first stream of a block whose run, from where `home` stands, has the key, if there is one. It takes no memory.
@@ -44,12 +33,12 @@ pub fn first_wanted<'s>(
     ensures within { IfSome result (λ x. (first ≤ x) × (x < range.now.to)) }
     ensures same_start { set_back state.new ≡ set_back state.old }
 {
-    let count = (range.to - first).min(STREAMS_OF_A_BLOCK);
-    let mut at = 0;
-    while at < count {
-        let key = run_on_stream(state, home, range.seed, first + at, range.budget);
+    let end = range.end_of_block(first);
+    let mut at = first;
+    while at < end {
+        let key = run_on_stream(state, home, range.seed, at, range.budget);
         if is_same(key, want) {
-            return Some(first + at);
+            return Some(at);
         }
         at += 1;
     }

@@ -1,6 +1,6 @@
 // Hunts by real threads.
 
-ghost use Rattle.tally_range.specs.Ranges.{IsRange, IsWorkers};
+ghost use Rattle.stream_runs.specs.Ranges.{IsRange, IsWorkers};
 
 use crate::programs::{DIE, LIMITS, sampler};
 use crate::ranges::{FAR, streams};
@@ -12,7 +12,7 @@ use std::sync::atomic::AtomicU64;
 use std::sync::atomic::Ordering::SeqCst;
 use std::test::Fail;
 use std::thread::Threads;
-use tally_range::SeedRange;
+use stream_runs::SeedRange;
 use zar_io::{Gate, Open};
 
 // Counts the blocks that are entered.

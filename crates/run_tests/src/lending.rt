@@ -5,7 +5,8 @@ use claim_board::Board;
 use sampler_run::{Sampler, State};
 use std::marker::{Send, Sync};
 use std::test::Fail;
-use tally_range::{SeedRange, Share, Tally};
+use stream_runs::SeedRange;
+use tally_range::{Share, Tally};
 
 fn lent<T: Sync>() {}
 

@@ -1,6 +1,6 @@
 // Tallies by real threads.
 
-ghost use Rattle.tally_range.specs.Ranges.{IsRange, IsWorkers};
+ghost use Rattle.stream_runs.specs.Ranges.{IsRange, IsWorkers};
 
 use crate::programs::{DIE, LIMITS, sampler};
 use crate::ranges::{FAR, streams};
@@ -9,7 +9,8 @@ use sampler_run::Sampler;
 use std::alloc::{AllocError, Global};
 use std::test::Fail;
 use std::thread::Threads;
-use tally_range::{SeedRange, Tally, tally};
+use stream_runs::SeedRange;
+use tally_range::{Tally, tally};
 use zar_io::Open;
 
 // One row, of this key and count, and no other.

@@ -1,15 +1,13 @@
 -- Counts of keys.
-use Rattle.std.proofs.Common.{◌≡◌, ℕ, ◌+◌, ◌-◌, ◌≤◌, Bool, true, false, List, [], ap, arith}
+use Rattle.std.proofs.Common.{◌≡◌, ℕ, ◌+◌, ◌-◌, ◌≤◌, Bool, true, false, List, ap, arith}
 use Rattle.std.specs.Prelude.{if◌then◌else◌}
 use Rattle.gcl_core.specs.declared.answers.Answer.{Answer}
 use Rattle.gcl_core.specs.declared.answers.TallyKey.{TallyKey}
 use Rattle.gcl_core.specs.meaning.Outcomes.{same_key}
-use Rattle.sampler_code.specs.Running.{Reached}
-use Rattle.sampler_code.proofs.Steps.{one_reached}
-use Rattle.sampler_run.specs.Held.{Held, Ahead, IsRestOf, StandsAfter}
 use Rattle.zar_io.specs.StreamBits.{stream_bits}
+use Rattle.stream_runs.specs.Keys.{key_of_answer, key_on}
 use Rattle.tally_range.specs.Rows.{counted_at}
-use Rattle.tally_range.specs.Counts.{key_of_answer, key_on, has_key, count_over, total_from}
+use Rattle.tally_range.specs.Counts.{has_key, count_over, total_from}
 use Rattle.tally_range.proofs.Totals.{total_from_le, total_from_more, total_from_same}
 
 pub counted_le : (key : TallyKey) (n : ℕ) (other : TallyKey) → counted_at key n other ≤ n
@@ -38,17 +36,3 @@ pub count_same : (run other : List Bool → Answer) (seed budget from to : ℕ) 
     count_over run seed budget from to key ≡ count_over other seed budget from to key
 count_same run other seed budget from to key same =
     total_from_same (has_key run seed budget key) (has_key other seed budget key) from (to - from) (λ i. ap (λ a. counted_at (key_of_answer a) 1 key) (same (stream_bits seed i budget)))
-
--- ---- a run has one answer
-
--- what is reached is what a function that is the run gives
-pub reached_run : (s : Held) (run : List Bool → Answer) (w : List Bool) (a : Reached) → IsRestOf s run → Ahead s w a → a.answer ≡ run w
-reached_run s run w a is reached = ap (λ (b : Reached). b.answer) (one_reached s.code s.limits s.machine w a (record { answer = run w; place = (is w).0 }) reached (is w).1)
-
--- two functions that are the run agree
-pub runs_agree : (s : Held) (run other : List Bool → Answer) → IsRestOf s run → IsRestOf s other → (w : List Bool) → run w ≡ other w
-runs_agree s run other is also w = reached_run s other w (record { answer = run w; place = (is w).0 }) also (is w).1
-
--- a run from the start reaches what a state reaches that stands before its first bit
-pub key_reached : (s t : Held) (run : List Bool → Answer) (w : List Bool) (a : Reached) → StandsAfter [] s t → Ahead t w a → IsRestOf s run → key_of_answer a.answer ≡ key_of_answer (run w)
-key_reached s t run w a stands reached is = ap key_of_answer (reached_run s run w a is ((stands w a).0 reached))

@@ -12,9 +12,10 @@ use Rattle.number_lists.specs.Numbers.{times, once_below}
 use Rattle.claim_board.specs.declared.pass.Board.{Board}
 use Rattle.claim_board.specs.declared.pass.Pass.{Pass}
 use Rattle.claim_board.specs.Board.{blocks_of, workers_of, numbers_of, dealt_to, had_none, IsPassOf, IsNew, AreAllPasses}
-use Rattle.tally_range.specs.declared.range.SeedRange.{SeedRange}
+use Rattle.stream_runs.specs.declared.range.SeedRange.{SeedRange}
 use Rattle.tally_range.specs.declared.share.Entry.{Entry}
-use Rattle.tally_range.specs.Blocks.{blocks_over, count_block}
+use Rattle.stream_runs.specs.Blocks.{blocks_over}
+use Rattle.tally_range.specs.Blocks.{count_block}
 use Rattle.tally_range.specs.Rows.{Rows}
 use Rattle.tally_range.specs.Sums.{count_in}
 use Rattle.tally_range.specs.Shares.{IsReady, IsCounted}

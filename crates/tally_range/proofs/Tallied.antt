@@ -12,12 +12,13 @@ use Rattle.number_lists.proofs.Times.{once_there}
 use Rattle.claim_board.specs.declared.pass.Board.{Board}
 use Rattle.claim_board.specs.declared.pass.Pass.{Pass}
 use Rattle.claim_board.specs.Board.{blocks_of, workers_of, dealt_to, had_none, AreAllPasses, AreDealtTo}
-use Rattle.tally_range.specs.declared.range.SeedRange.{SeedRange}
-use Rattle.tally_range.specs.Blocks.{blocks_over, count_block}
+use Rattle.stream_runs.specs.declared.range.SeedRange.{SeedRange}
+use Rattle.stream_runs.specs.Blocks.{blocks_over}
+use Rattle.tally_range.specs.Blocks.{count_block}
 use Rattle.tally_range.specs.Counts.{has_key, count_range}
 use Rattle.tally_range.specs.Rows.{Rows, IsTally, IsTallyOf}
 use Rattle.tally_range.specs.Sums.{count_in}
-use Rattle.tally_range.specs.Ranges.{IsRange}
+use Rattle.stream_runs.specs.Ranges.{IsRange}
 use Rattle.tally_range.proofs.Totals.{blocks_cover}
 use Rattle.tally_range.proofs.Counting.{count_le}
 use Rattle.tally_range.proofs.Exact.{exact_rows}

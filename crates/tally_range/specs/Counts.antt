@@ -1,18 +1,10 @@
--- How many streams of a range have runs that end in each way. Which key a run has is this project's own rule.
+-- How many streams of a range have runs that end in each way.
 use Rattle.std.specs.Prelude.{ℕ, zero, suc, ◌+◌, ◌-◌, Bool, List}
 use Rattle.gcl_core.specs.declared.answers.Answer.{Answer}
-use Rattle.gcl_core.specs.declared.answers.Answer.TheVariants.{Ended}
-use Rattle.gcl_core.specs.declared.answers.Answer.TheVariants as answer
 use Rattle.gcl_core.specs.declared.answers.TallyKey.{TallyKey}
-use Rattle.gcl_core.specs.declared.answers.TallyKey.TheVariants.{Outcome, MoreBits}
-use Rattle.zar_io.specs.StreamBits.{stream_bits}
-use Rattle.tally_range.specs.declared.range.SeedRange.{SeedRange}
+use Rattle.stream_runs.specs.declared.range.SeedRange.{SeedRange}
+use Rattle.stream_runs.specs.Keys.{key_on}
 use Rattle.tally_range.specs.Rows.{counted_at}
-
--- the key of a run by its answer: the outcome, or that it needed more bits
-abbrev pub key_of_answer : Answer → TallyKey
-key_of_answer (Ended x used) = Outcome x
-key_of_answer (answer.MoreBits used) = MoreBits
 
 -- f of each of the n numbers from a on, added up
 abbrev pub total_from : (ℕ → ℕ) → ℕ → ℕ → ℕ
@@ -20,13 +12,9 @@ total_from f a zero = 0
 total_from f a (suc n) = f (a + n) + total_from f a n
 
 module _ (run : List Bool → Answer) (seed budget : ℕ) where
-  -- the key of the run on the first bits of a stream
-  abbrev pub key_on : ℕ → TallyKey
-  key_on stream = key_of_answer (run (stream_bits seed stream budget))
-
   -- 1 where this is the key of the run on a stream, and else 0
   abbrev pub has_key : TallyKey → ℕ → ℕ
-  has_key key stream = counted_at (key_on stream) 1 key
+  has_key key stream = counted_at (key_on run seed budget stream) 1 key
 
   -- how many of the streams from `from` up to but not including `to` have runs with this key
   abbrev pub count_over : ℕ → ℕ → TallyKey → ℕ

@@ -6,7 +6,7 @@ use Rattle.gcl_core.specs.declared.answers.TallyKey.{TallyKey}
 use Rattle.gcl_core.specs.meaning.Runs.{run_on}
 use Rattle.gcl_core.specs.meaning.Syntax.{SourceProgram}
 use Rattle.sampler_code.specs.Assembled.{Assembled, IsRunOf}
-use Rattle.tally_range.specs.declared.range.SeedRange.{SeedRange}
+use Rattle.stream_runs.specs.declared.range.SeedRange.{SeedRange}
 use Rattle.tally_range.specs.Counts.{count_over, count_range}
 
 -- how many streams of the range have runs of the program with a key

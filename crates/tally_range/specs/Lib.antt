@@ -1,9 +1,7 @@
-pub mod Ranges
 pub mod Rows
 pub mod Sums
 pub mod Counts
 pub mod Blocks
-pub mod Homes
 pub mod Shares
 pub mod Laws
 pub mod inner

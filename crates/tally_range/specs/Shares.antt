@@ -8,11 +8,12 @@ use Rattle.claim_board.specs.declared.pass.Board.{Board}
 use Rattle.claim_board.specs.declared.pass.Pass.{Pass}
 use Rattle.claim_board.specs.Board.{blocks_of, dealt_to, had_none, IsPassOf, IsNew}
 use Rattle.number_lists.specs.Total.{total}
-use Rattle.tally_range.specs.declared.range.SeedRange.{SeedRange}
+use Rattle.stream_runs.specs.declared.range.SeedRange.{SeedRange}
 use Rattle.tally_range.specs.declared.share.Share.{Share}
 use Rattle.tally_range.specs.Rows.{Rows}
 use Rattle.tally_range.specs.Sums.{count_in}
-use Rattle.tally_range.specs.Blocks.{blocks_over, count_block}
+use Rattle.stream_runs.specs.Blocks.{blocks_over}
+use Rattle.tally_range.specs.Blocks.{count_block}
 
 abbrev pub pass_of : Share → Pass
 pass_of s = s.pass

@@ -2,7 +2,6 @@
 #![tactic(auto)]
 
 mod laws;
-mod range;
 mod share;
 mod sharing;
 mod small_counts;
@@ -12,9 +11,7 @@ mod tallying;
 mod working;
 
 pub use laws::{code_counts_as_program, ranges_add_up};
-pub use range::{MOST_STREAMS, MOST_WORKERS, STREAMS_OF_A_BLOCK, SeedRange};
 pub use share::Share;
-pub use streams::run_on_stream;
 pub use table::Tally;
 pub use tallying::tally;
 pub use working::work;

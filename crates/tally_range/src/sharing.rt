@@ -88,6 +88,6 @@ pub(crate) fn add_up(alloc: Global, tables: &[Tally]) -> Result<Tally, AllocErro
     for table in tables {
         all.add_all(table)?;
     }
-    let _rows = all.count();
+    all.is_tally();
     Ok(all)
 }

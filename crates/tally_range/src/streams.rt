@@ -1,55 +1,23 @@
-// Runs on streams, and their counts.
+// Counts of the runs on streams.
 
-ghost use Rattle.std.specs.Prelude.{◌≡◌, ◌+◌, ◌-◌, ◌*◌, ◌<◌, ◌≤◌, ◌^◌, min, Bool, List, IfOk};
+ghost use Rattle.std.specs.Prelude.{◌≡◌, ◌+◌, ◌-◌, ◌<◌, ◌≤◌, ◌^◌, Bool, List, IfOk};
 ghost use Rattle.gcl_core.specs.declared.answers.Answer.{Answer};
 ghost use Rattle.gcl_core.specs.declared.answers.TallyKey.{TallyKey};
 ghost use Rattle.sampler_run.specs.Held.{IsRestOf, set_back};
-ghost use Rattle.zar_io.specs.declared.stream_bits.TheConstants.{MOST_BUDGET};
-ghost use Rattle.tally_range.specs.Blocks.{blocks_over, count_block};
-ghost use Rattle.tally_range.specs.Counts.{key_of_answer, key_on, count_over};
-ghost use Rattle.tally_range.specs.Homes.{IsHome};
-ghost use Rattle.tally_range.specs.Ranges.{IsRange};
+ghost use Rattle.stream_runs.specs.Blocks.{blocks_over};
+ghost use Rattle.stream_runs.specs.Homes.{IsHome};
+ghost use Rattle.stream_runs.specs.Ranges.{IsRange};
+ghost use Rattle.tally_range.specs.Blocks.{count_block};
+ghost use Rattle.tally_range.specs.Counts.{count_over};
 ghost use Rattle.tally_range.specs.Rows.{counted_at};
 ghost use Rattle.tally_range.specs.Sums.{count_in};
 
-use crate::range::{STREAMS_OF_A_BLOCK, SeedRange};
 use crate::small_counts::SmallCounts;
 use crate::table::Tally;
-use gcl_core::{Answer, TallyKey};
-use sampler_run::{State, go_on};
+use gcl_core::TallyKey;
+use sampler_run::State;
 use std::alloc::AllocError;
-use zar_io::StreamBits;
-
-fn key_of_answer(answer: Answer) -> TallyKey
-    ensures { result ≡ key_of_answer answer }
-{
-    match answer {
-        Answer::Ended(outcome, _used) => TallyKey::Outcome(outcome),
-        Answer::MoreBits(_used) => TallyKey::MoreBits,
-    }
-}
-
-/// Runs from where `home` stands, before its first bit, on the first bits of a stream, as many as the budget says: the key of the run. It
-/// takes no memory.
-pub fn run_on_stream<'s>(
-    state: &mut State<'s>,
-    home: &State<'s>,
-    seed: u64,
-    stream: u64,
-    budget: u64,
-) -> TallyKey
-    requires home { IsHome home.now state.old }
-    requires budget { budget ≤ MOST_BUDGET }
-    ensures key { (run : List Bool → Answer) → IsRestOf (set_back state.old) run → result ≡ key_on run seed budget stream }
-    ensures same_start { set_back state.new ≡ set_back state.old }
-{
-    state.fork_from(home);
-    let mut bits = StreamBits::new(seed, stream, budget);
-    match go_on(state, &mut bits) {
-        Ok(stop) => key_of_answer(stop.answer),
-        Err(_) => unreachable!(),
-    }
-}
+use stream_runs::{STREAMS_OF_A_BLOCK, SeedRange, run_on_stream};
 
 // Counts one more for the key, in the table only where it is no small value. An error comes only where memory runs out.
 #[inline]
@@ -92,14 +60,6 @@ pub(crate) fn count_streams<'s>(
     small.add_to(table)
 }
 
-// Where a block of the range ends.
-fn end_of_block(first: u64, to: u64) -> u64
-    requires { first ≤ to }
-    ensures { result ≡ min (first + STREAMS_OF_A_BLOCK) to }
-{
-    first + (to - first).min(STREAMS_OF_A_BLOCK)
-}
-
 // Runs on the streams of a block, and counts the keys of the runs. An error comes only where memory runs out.
 pub(crate) fn count_block<'s>(
     state: &mut State<'s>,
@@ -117,7 +77,6 @@ pub(crate) fn count_block<'s>(
     ensures few { IfOk result (λ _. (key : TallyKey) → count_in table.new key ≤ count_in table.old key + STREAMS_OF_A_BLOCK) }
     ensures same_start { set_back state.new ≡ set_back state.old }
 {
-    let first = range.from + STREAMS_OF_A_BLOCK * block;
-    let end = end_of_block(first, range.to);
-    count_streams(state, home, table, range, first, end)
+    let first = range.first_stream(block);
+    count_streams(state, home, table, range, first, range.end_of_block(first))
 }

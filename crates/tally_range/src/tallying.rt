@@ -7,15 +7,15 @@ ghost use Rattle.gcl_core.specs.declared.answers.TallyKey.{TallyKey};
 ghost use Rattle.gcl_core.specs.meaning.LimitRange.{InRange};
 ghost use Rattle.sampler_code.specs.Assembled.{CodeReaches, IsRunOf};
 ghost use Rattle.sampler_code.specs.Running.{Reached};
-ghost use Rattle.number_lists.specs.Total.{total};
-ghost use Rattle.claim_board.specs.Board.{blocks_of, dealt_to, had_none, AreAllPasses, IsNew};
-ghost use Rattle.tally_range.specs.Blocks.{blocks_over, count_block};
+ghost use Rattle.claim_board.specs.Board.{blocks_of, had_none, AreAllPasses, IsNew};
+ghost use Rattle.stream_runs.specs.Blocks.{blocks_over};
+ghost use Rattle.stream_runs.specs.Jobs.{IsReadyJob};
+ghost use Rattle.stream_runs.specs.Ranges.{IsRange, IsWorkers};
 ghost use Rattle.tally_range.specs.Counts.{count_range};
-ghost use Rattle.tally_range.specs.Ranges.{IsRange, IsWorkers};
 ghost use Rattle.tally_range.specs.Rows.{IsTallyOf};
 ghost use Rattle.tally_range.specs.Sums.{count_in};
+ghost use Rattle.tally_range.specs.inner.Worked.{HaveCounted};
 
-use crate::range::{STREAMS_OF_A_BLOCK, SeedRange};
 use crate::sharing::{add_up, gather, share_out};
 use crate::table::Tally;
 use crate::working::run_workers;
@@ -24,13 +24,14 @@ use gcl_core::Limits;
 use sampler_run::Sampler;
 use std::alloc::{AllocError, Global};
 use std::thread::Threads;
+use stream_runs::{Job, STREAMS_OF_A_BLOCK, SeedRange};
 use zar_io::Gate;
 
-// Whatever bits come, a run of the sampler reaches an answer.
+// It does nothing: whatever bits come, a run of the sampler reaches an answer, as its code tells of itself.
 fn runs_answer(s: &Sampler)
     ensures { (l : Limits) (w : List Bool) → InRange l → (a : Reached) × CodeReaches s.now l w a }
 {
-    let _ = s.code().vars();
+    s.code().vars();
 }
 
 // Runs a worker for each pass, in a thread of its own, and gives back the passes and the tables of the workers. An error comes only
@@ -40,23 +41,18 @@ fn count_in_threads<R: Threads + Sync, G: Gate>(
     alloc: Global,
     board: &Board,
     passes: Vec<Pass>,
-    s: &Sampler,
-    l: &Limits,
-    range: &SeedRange,
-    gate: &G,
+    job: &Job<'_, G>,
 ) -> Result<(Vec<Pass>, Vec<Tally>), AllocError>
-    requires limits { InRange l.now }
-    requires range { IsRange range.now }
-    requires blocks { blocks_of board.now ≡ blocks_over range.now.from range.now.to }
+    requires job { IsReadyJob job.now.limits.now job.now.range.now }
+    requires blocks { blocks_of board.now ≡ blocks_over job.now.range.now.from job.now.range.now.to }
     requires passes { AreAllPasses board.now passes.items }
     requires new { All IsNew passes.items }
     ensures passes { IfOk result (λ r. AreAllPasses board.now r.0.items) }
     ensures ended { IfOk result (λ r. All (λ p. had_none p ≡ true) r.0.items) }
-    ensures counts { IfOk result (λ r. (run : List Bool → Answer) → IsRunOf s.now l.now run → (key : TallyKey) →
-        total (λ t. count_in t key) r.1.items ≡ total (λ p. total (count_block run range.now key) (dealt_to p)) r.0.items) }
+    ensures counts { IfOk result (λ r. HaveCounted job.now.sampler.now job.now.limits.now job.now.range.now r.0.items r.1.items) }
 {
     let mut entries = share_out(alloc, passes)?;
-    run_workers(rt, board, s, l, range, gate, entries.as_mut_slice());
+    run_workers(rt, board, job, entries.as_mut_slice());
     let (passes, tables) = gather(alloc, entries)?;
     Ok((passes, tables))
 }
@@ -79,9 +75,14 @@ pub fn tally<R: Threads + Sync, G: Gate>(
     ensures counts { IfOk result (λ t. (run : List Bool → Answer) → IsRunOf s.now l.now run → (key : TallyKey) → count_in t key ≡ count_range run range.now key) }
 {
     runs_answer(s);
-    let blocks = (range.to - range.from).div_ceil(STREAMS_OF_A_BLOCK);
-    let (board, passes) = Board::new(alloc, blocks, range.workers)?;
-    let (passes, tables) = count_in_threads(rt, alloc, &board, passes, s, l, range, gate)?;
+    let job = Job {
+        sampler: s,
+        limits: l,
+        range,
+        gate,
+    };
+    let (board, passes) = Board::new(alloc, range.blocks(), range.workers)?;
+    let (passes, tables) = count_in_threads(rt, alloc, &board, passes, &job)?;
     board.close(passes);
     add_up(alloc, &tables)
 }

@@ -2,21 +2,21 @@
 
 ghost use Rattle.std.specs.Prelude.{All, OnOk};
 ghost use Rattle.std.specs.List.{AllZip};
-ghost use Rattle.std.specs.Thread.{IsSync};
 ghost use Rattle.gcl_core.specs.meaning.LimitRange.{InRange};
 ghost use Rattle.claim_board.specs.Board.{IsPassOf, IsSamePass};
-ghost use Rattle.tally_range.specs.Ranges.{IsRange};
+ghost use Rattle.stream_runs.specs.Jobs.{IsReadyJob};
+ghost use Rattle.stream_runs.specs.Ranges.{IsRange};
 ghost use Rattle.tally_range.specs.Shares.{IsReady, IsCounted, pass_of};
 ghost use Rattle.tally_range.specs.inner.Worked.{IsWorked};
 
-use crate::range::SeedRange;
 use crate::share::{Entry, Share};
 use crate::streams::count_block;
 use claim_board::Board;
 use gcl_core::Limits;
 use sampler_run::Sampler;
 use std::alloc::AllocError;
-use std::thread::{Threads, join_mut};
+use std::thread::{Threads, for_each_mut};
+use stream_runs::{Job, MOST_WORKERS, SeedRange};
 use zar_io::Gate;
 
 /// Claims blocks of streams, the last of which may be shorter, until there is none left, runs the sampler on the streams of each,
@@ -46,54 +46,40 @@ pub fn work<G: Gate>(
     Ok(())
 }
 
-fn work_entry<G: Gate>(
-    board: &Board,
-    entry: &mut Entry,
-    s: &Sampler,
-    l: &Limits,
-    range: &SeedRange,
-    gate: &G,
-)
-    requires limits { InRange l.now }
-    requires range { IsRange range.now }
-    requires ready { IsReady board.now range.now entry.old.share }
-    ensures { IsWorked s.now l.now range.now entry.old entry.new }
+fn work_entry<G: Gate>(board: &Board, job: &Job<'_, G>, entry: &mut Entry)
+    requires job { IsReadyJob job.now.limits.now job.now.range.now }
+    requires ready { IsReady board.now job.now.range.now entry.old.share }
+    ensures { IsWorked job.now.sampler.now job.now.limits.now job.now.range.now entry.old entry.new }
 {
-    entry.failed = work(board, &mut entry.share, s, l, range, gate).is_err();
+    let done = work(
+        board,
+        &mut entry.share,
+        job.sampler,
+        job.limits,
+        job.range,
+        job.gate,
+    );
+    entry.failed = done.is_err();
 }
 
-// Each entry's worker runs in a thread of its own.
+// Each entry's worker runs in a thread of its own, where one can be made.
 pub(crate) fn run_workers<R: Threads + Sync, G: Gate>(
     rt: &R,
     board: &Board,
-    s: &Sampler,
-    l: &Limits,
-    range: &SeedRange,
-    gate: &G,
+    job: &Job<'_, G>,
     entries: &mut [Entry],
 )
-    requires limits { InRange l.now }
-    requires range { IsRange range.now }
-    requires ready { All (λ e. IsReady board.now range.now e.share) entries.old }
-    ensures { AllZip (IsWorked s.now l.now range.now) entries.old entries.new }
+    requires job { IsReadyJob job.now.limits.now job.now.range.now }
+    requires ready { All (λ e. IsReady board.now job.now.range.now e.share) entries.old }
+    ensures { AllZip (IsWorked job.now.sampler.now job.now.limits.now job.now.range.now) entries.old entries.new }
 {
-    if entries.len() == 0 {
-        return;
-    }
-    if entries.len() == 1 {
-        work_entry(board, &mut entries[0], s, l, range, gate);
-        return;
-    }
-    let (front, back) = entries.split_at_mut(entries.len() / 2);
-    join_mut(
+    for_each_mut(
         rt,
-        &mut ||
-            requires { IsSync R.row × IsSync G.row × InRange l.now × IsRange range.now × All (λ e. IsReady board.now range.now e.share) front.now }
-            ensures { AllZip (IsWorked s.entry.now l.entry.now range.entry.now) front.entry.now front.exit.now }
-        { run_workers(rt, board, s, l, range, gate, front) },
-        &mut ||
-            requires { IsSync R.row × IsSync G.row × InRange l.now × IsRange range.now × All (λ e. IsReady board.now range.now e.share) back.now }
-            ensures { AllZip (IsWorked s.entry.now l.entry.now range.entry.now) back.entry.now back.exit.now }
-        { run_workers(rt, board, s, l, range, gate, back) },
+        entries,
+        MOST_WORKERS as usize,
+        &|_, e: &mut Entry|
+            requires { IsReadyJob job.now.limits.now job.now.range.now × IsReady board.now job.now.range.now e.now.share }
+            ensures { IsWorked job.entry.now.sampler.now job.entry.now.limits.now job.entry.now.range.now e.entry.now e.exit.now }
+        { work_entry(board, job, e) },
     );
 }

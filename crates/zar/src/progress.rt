@@ -4,7 +4,7 @@ use std::io::Eprint;
 use std::sync::atomic::Ordering::SeqCst;
 use std::sync::atomic::{AtomicBool, AtomicU64};
 use std::time::{Clock, Instant};
-use tally_range::STREAMS_OF_A_BLOCK;
+use stream_runs::STREAMS_OF_A_BLOCK;
 use zar_io::Gate;
 
 // The milliseconds before the first line, at least.

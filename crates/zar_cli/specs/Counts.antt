@@ -11,7 +11,7 @@ use Rattle.generated_program.specs.Generated.{generated}
 use Rattle.report_text.specs.Lines.{number_text}
 use Rattle.report_text.specs.declared.counts.Count.TheVariants.{Statements, Bytes, Streams}
 use Rattle.report_text.specs.declared.refusals.Refusal.{Refusal}
-use Rattle.tally_range.specs.declared.range.SeedRange.{SeedRange}
+use Rattle.stream_runs.specs.declared.range.SeedRange.{SeedRange}
 use Rattle.tally_range.specs.Laws.{count_on}
 use Rattle.tally_range.specs.Rows as tallied
 use Rattle.tally_range.specs.Rows.{IsTallyOf}

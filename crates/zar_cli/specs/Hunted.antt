@@ -6,7 +6,7 @@ use Rattle.gcl_core.specs.meaning.Runs.{run_on}
 use Rattle.gcl_core.specs.meaning.Syntax.{SourceProgram}
 use Rattle.hunt_range.specs.Sought.{LeastWanted, sought_of}
 use Rattle.report_text.specs.declared.refusals.Refusal.{Refusal}
-use Rattle.tally_range.specs.declared.range.SeedRange.{SeedRange}
+use Rattle.stream_runs.specs.declared.range.SeedRange.{SeedRange}
 use Rattle.zar_cli.specs.declared.said.Said.{Said}
 use Rattle.zar_cli.specs.declared.said.Said.TheVariants.{Found}
 

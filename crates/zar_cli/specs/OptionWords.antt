@@ -5,7 +5,7 @@ use Rattle.dice_roll.specs.declared.rules.TheConstants.{MOST_FLIPS}
 use Rattle.gcl_core.specs.declared.answers.Limits.{Limits}
 use Rattle.gcl_core.specs.declared.answers.TallyKey.{TallyKey}
 use Rattle.gcl_core.specs.declared.rules.TheConstants.{MOST_LIMIT}
-use Rattle.tally_range.specs.declared.range.SeedRange.{SeedRange}
+use Rattle.stream_runs.specs.declared.range.SeedRange.{SeedRange}
 use Rattle.zar_cli.specs.declared.command.Source.{Source}
 use Rattle.zar_cli.specs.declared.command.Source.TheVariants as source
 use Rattle.zar_cli.specs.declared.settings.Purpose.{Purpose}
@@ -14,7 +14,7 @@ use Rattle.zar_cli.specs.declared.settings.Setting.{Setting}
 use Rattle.zar_cli.specs.declared.settings.Setting.TheVariants.{Bits, Seed, Stream, Budget, From, To, Workers, Depth, Flips, Turns, Attempts, Rounds, Want}
 use Rattle.zar_io.specs.declared.stream_bits.TheConstants.{MOST_BUDGET}
 use Rattle.audit_walk.specs.declared.auditing.TheConstants.{MOST_DEPTH}
-use Rattle.tally_range.specs.declared.range.TheConstants.{MOST_STREAMS, MOST_WORKERS}
+use Rattle.stream_runs.specs.declared.range.TheConstants.{MOST_STREAMS, MOST_WORKERS}
 use Rattle.zar_cli.specs.declared.settings.TheConstants.{USUAL_LIMIT, USUAL_BUDGET, USUAL_WORKERS}
 use Rattle.zar_cli.specs.declared.settings.Verb.{Verb}
 use Rattle.zar_cli.specs.declared.settings.Verb.TheVariants as verb

@@ -5,7 +5,7 @@ use Rattle.gcl_core.specs.meaning.LimitRange.{InRange}
 use Rattle.gcl_core.specs.declared.rules.TheConstants.{MOST_LIMIT}
 use Rattle.generated_program.specs.declared.generating.TheConstants.{GREATEST_NUMBER}
 use Rattle.mass_fold.specs.Refused.{IsLimit}
-use Rattle.tally_range.specs.Ranges.{IsRange, IsWorkers}
+use Rattle.stream_runs.specs.Ranges.{IsRange, IsWorkers}
 use Rattle.zar_cli.specs.declared.command.Command.{Command}
 use Rattle.zar_cli.specs.declared.command.Command.TheVariants.{Sample, Mass, Cost, Posterior, Audit, Tally, Hunt, Check, Show, Code, Gen, Fast, Help}
 use Rattle.zar_cli.specs.declared.command.Source.{Source}

@@ -6,7 +6,7 @@ use crate::help::Topic;
 use gcl_core::{Limits, TallyKey};
 use std::alloc::{AllocError, Global};
 use std::marker::Model;
-use tally_range::SeedRange;
+use stream_runs::SeedRange;
 
 /// The name of a file, as a word of the call. It is seen as the list of its bytes.
 #[derive(Drop)]

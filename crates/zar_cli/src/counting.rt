@@ -3,7 +3,7 @@
 ghost use Rattle.std.specs.Prelude.{◌≤◌, IfOk};
 ghost use Rattle.gcl_core.specs.meaning.LimitRange.{InRange};
 ghost use Rattle.gcl_core.specs.meaning.Views.{source_of};
-ghost use Rattle.tally_range.specs.Ranges.{IsRange, IsWorkers};
+ghost use Rattle.stream_runs.specs.Ranges.{IsRange, IsWorkers};
 ghost use Rattle.audit_walk.specs.declared.auditing.TheConstants.{MOST_DEPTH};
 ghost use Rattle.zar_cli.specs.Counts.{IsAuditText, IsTallyText};
 
@@ -15,7 +15,8 @@ use sampler_run::compile;
 use std::alloc::{AllocError, Global};
 use std::marker::Sync;
 use std::thread::Threads;
-use tally_range::{SeedRange, tally};
+use stream_runs::SeedRange;
+use tally_range::tally;
 use zar_io::Gate;
 
 /// How a program's runs end on all bit strings of a length, as lines. An error comes only where memory runs out.

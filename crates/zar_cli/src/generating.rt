@@ -16,7 +16,7 @@ use report_text::{Count, number_line};
 use std::alloc::{AllocError, Global};
 use std::marker::Sync;
 use std::thread::Threads;
-use tally_range::SeedRange;
+use stream_runs::SeedRange;
 use zar_io::Gate;
 
 // The lines of a program's size.

@@ -12,7 +12,7 @@ use audit_walk::MOST_DEPTH;
 use dice_roll::{LEAST_LABELS, MOST_FLIPS, MOST_LABELS};
 use gcl_core::MOST_LIMIT;
 use generated_program::GREATEST_NUMBER;
-use tally_range::MOST_WORKERS;
+use stream_runs::MOST_WORKERS;
 use zar_io::MOST_BUDGET;
 
 /// What help is asked for.

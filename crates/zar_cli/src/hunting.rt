@@ -3,7 +3,7 @@
 ghost use Rattle.std.specs.Prelude.{IfOk, Ok};
 ghost use Rattle.gcl_core.specs.meaning.LimitRange.{InRange};
 ghost use Rattle.gcl_core.specs.meaning.Views.{source_of};
-ghost use Rattle.tally_range.specs.Ranges.{IsRange, IsWorkers};
+ghost use Rattle.stream_runs.specs.Ranges.{IsRange, IsWorkers};
 ghost use Rattle.zar_cli.specs.declared.command.Command.TheVariants.{Hunt};
 ghost use Rattle.zar_cli.specs.Answer.{IsSaid};
 ghost use Rattle.zar_cli.specs.Hunted.{IsFound};
@@ -20,7 +20,7 @@ use sampler_run::compile;
 use std::alloc::{AllocError, Global};
 use std::marker::Sync;
 use std::thread::Threads;
-use tally_range::SeedRange;
+use stream_runs::SeedRange;
 use zar_io::{Files, Gate};
 
 // The least stream of a range on which the run of a program has a key. An error comes only where memory runs out.

@@ -6,7 +6,7 @@ ghost use Rattle.dice_roll.specs.declared.rules.TheConstants.{MOST_FLIPS};
 ghost use Rattle.gcl_core.specs.declared.rules.TheConstants.{MOST_LIMIT};
 ghost use Rattle.zar_io.specs.declared.stream_bits.TheConstants.{MOST_BUDGET};
 ghost use Rattle.audit_walk.specs.declared.auditing.TheConstants.{MOST_DEPTH};
-ghost use Rattle.tally_range.specs.declared.range.TheConstants.{MOST_WORKERS};
+ghost use Rattle.stream_runs.specs.declared.range.TheConstants.{MOST_WORKERS};
 
 use crate::keys::key_named;
 use crate::settings::{
@@ -15,7 +15,7 @@ use crate::settings::{
 use audit_walk::MOST_DEPTH;
 use dice_roll::MOST_FLIPS;
 use gcl_core::{Limits, MOST_LIMIT, TallyKey};
-use tally_range::{MOST_STREAMS, MOST_WORKERS, SeedRange};
+use stream_runs::{MOST_STREAMS, MOST_WORKERS, SeedRange};
 use zar_io::MOST_BUDGET;
 
 // What the options said so far.
@@ -63,7 +63,7 @@ impl<'a> Options<'a> {
     ghost use Rattle.std.specs.Prelude.{option_map, IfSome};
     ghost use Rattle.gcl_core.specs.meaning.LimitRange.{InRange};
     ghost use Rattle.zar_cli.specs.OptionWords.{setting_named, is_given, excludes, if_taken, with_value, limits_of, range_of};
-    ghost use Rattle.tally_range.specs.Ranges.{IsRange, IsWorkers};
+    ghost use Rattle.stream_runs.specs.Ranges.{IsRange, IsWorkers};
     ghost use Rattle.zar_cli.specs.inner.OptionsView.{options_of};
 
     fn is_given(&self, setting: Setting) -> bool

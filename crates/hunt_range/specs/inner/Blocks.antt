@@ -1,7 +1,7 @@
 -- The streams of a block, and the first of them that is wanted.
 use Rattle.std.specs.Prelude.{ℕ, ◌+◌, ◌<◌, ◌≤◌, ◌≡◌, true, Option, Some, None}
-use Rattle.tally_range.specs.declared.range.TheConstants.{STREAMS_OF_A_BLOCK}
-use Rattle.tally_range.specs.Blocks.{first_in_block}
+use Rattle.stream_runs.specs.declared.range.TheConstants.{STREAMS_OF_A_BLOCK}
+use Rattle.stream_runs.specs.Blocks.{first_in_block}
 use Rattle.hunt_range.specs.Sought.{Sought, NoneWanted}
 
 -- the first stream of a block

@@ -14,9 +14,9 @@ use Rattle.gcl_core.specs.declared.answers.Answer.{Answer}
 use Rattle.gcl_core.specs.declared.answers.Limits.{Limits}
 use Rattle.gcl_core.specs.declared.answers.TallyKey.{TallyKey}
 use Rattle.sampler_code.specs.Assembled.{Assembled, IsRunOf}
-use Rattle.tally_range.specs.declared.range.SeedRange.{SeedRange}
-use Rattle.tally_range.specs.declared.range.TheConstants.{STREAMS_OF_A_BLOCK}
-use Rattle.tally_range.specs.Blocks.{blocks_over}
+use Rattle.stream_runs.specs.declared.range.SeedRange.{SeedRange}
+use Rattle.stream_runs.specs.declared.range.TheConstants.{STREAMS_OF_A_BLOCK}
+use Rattle.stream_runs.specs.Blocks.{blocks_over}
 use Rattle.hunt_range.specs.Sought.{Sought, sought_of}
 use Rattle.hunt_range.specs.inner.Blocks.{block_start}
 

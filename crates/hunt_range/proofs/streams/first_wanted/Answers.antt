@@ -13,9 +13,9 @@ returns-then-is_same-clause-first c = λ run is.
     let i = c.loop-at.invariant in
     let here = subst (λ (h : Held). IsRestOf h run) (sym i.start) is in
     let key = c.run_on_stream-key.ensures.key run here in (
-      omega arith,
-      omega (arith, c.loop-at-test.true, c.min-count.ensures),
-      omega (arith, c.loop-at-test.true, c.min-count.ensures),
+      i.from,
+      omega (arith, c.loop-at-test.true, c.end_of_block-end.ensures),
+      omega (arith, c.loop-at-test.true, c.end_of_block-end.ensures),
       ap (λ k. same_key k c.args.want.now) (sym key) ∙ sym c.is_same.ensures ∙ c.if-is_same.true,
       i.none run here,
     )
@@ -24,6 +24,7 @@ pub loop-at-preserved : goal.loop-at-preserved
 loop-at-preserved c =
     let i = c.loop-at.invariant in
     record {
+      from = omega (arith, i.from);
       within = omega (arith, c.loop-at-test.true);
       start = c.run_on_stream-key.ensures.same_start ∙ i.start;
       none = λ run is.
@@ -36,4 +37,4 @@ loop-at-preserved c =
 pub returns-clause-first : goal.returns-clause-first
 returns-clause-first c = λ run is j low high inside w.
     let i = c.loop-at.invariant in
-    i.none run (subst (λ (h : Held). IsRestOf h run) (sym i.start) is) j low (omega (arith, c.loop-at-test.false, c.min-count.ensures)) w
+    i.none run (subst (λ (h : Held). IsRestOf h run) (sym i.start) is) j low (omega (arith, c.loop-at-test.false, c.end_of_block-end.ensures)) w

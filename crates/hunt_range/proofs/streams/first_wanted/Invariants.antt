@@ -1,4 +1,4 @@
-use Rattle.std.proofs.Common.{◌≡◌, ◌≤◌, ◌-◌, ◌+◌, Bool, List}
+use Rattle.std.proofs.Common.{◌≡◌, ◌≤◌, ◌-◌, Bool, List}
 use Rattle.gcl_core.specs.declared.answers.Answer.{Answer}
 use Rattle.sampler_run.specs.Held.{IsRestOf, set_back}
 use Rattle.hunt_range.specs.Sought.{sought_of, NoneWanted}
@@ -7,10 +7,11 @@ use Rattle.hunt_range.proofs.streams.first_wanted.Given as goal
 -- none of the streams so far is wanted
 abbrev pub invariant-loop-at : goal.invariant-loop-at
 invariant-loop-at l = record {
-  within : l.at ≤ l.count;
+  from : l.first ≤ l.at;
+  within : l.at ≤ l.end;
   start : set_back l.state ≡ set_back l.initial.state;
-  none : (run : List Bool → Answer) → IsRestOf (set_back l.state) run → NoneWanted (sought_of run l.range l.want) l.first (l.first + l.at);
+  none : (run : List Bool → Answer) → IsRestOf (set_back l.state) run → NoneWanted (sought_of run l.range l.want) l.first l.at;
 }
 
 abbrev pub decreases-loop-at : goal.decreases-loop-at
-decreases-loop-at l = l.count - l.at
+decreases-loop-at l = l.end - l.at

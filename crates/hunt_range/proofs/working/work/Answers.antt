@@ -15,7 +15,7 @@ pub returns-then-look-first-clause-hunted : goal.returns-then-look-first-clause-
 returns-then-look-first-clause-hunted g c = λ run is.
     let i = c.loop-block.invariant.0 in
     let e = c.look.ensures in
-    stops (sought_of run c.args.range.now c.args.want.now) c.loop-block.hunter.pass c.claim.new.pass c.loop-block.hunter.bid c.look.new.pass c.in-Some.block (i.searched run is) c.in-Some.ensures.some.2 (omega (arith, e.seen, e.below.0)) e.offers
+    stops (sought_of run c.args.job.now.range.now c.args.want.now) c.loop-block.hunter.pass c.claim.new.pass c.loop-block.hunter.bid c.look.new.pass c.in-Some.block (i.searched run is) c.in-Some.ensures.some.2 (omega (arith, e.seen, e.below.0)) e.offers
     (omega (arith, e.seen, c.if-look-first.true, c.first_stream-first.ensures.first))
 
 pub loop-block-smaller-in-Some-first_wanted : goal.loop-block-smaller-in-Some-first_wanted
@@ -28,11 +28,11 @@ loop-block-preserved-in-Some-first_wanted g c =
     let e = c.look.ensures in
     let o = c.offer.ensures in
     let f = c.in-Some-first_wanted.ensures in (
-      hunts_on c.args.board.now c.args.least.now (HasSearched c.args.s.now c.args.l.now c.args.range.now c.args.want.now) c.args.hunter.now c.loop-block.hunter c.claim.new.pass c.offer.new.pass c.in-Some.block c.loop-block.hunter.failed i c.in-Some.ensures.pass
+      hunts_on c.args.board.now c.args.least.now (HasSearched c.args.job.now.sampler.now c.args.job.now.limits.now c.args.job.now.range.now c.args.want.now) c.args.hunter.now c.loop-block.hunter c.claim.new.pass c.offer.new.pass c.in-Some.block c.loop-block.hunter.failed i c.in-Some.ensures.pass
           (o.pass.0 ∙ e.pass.0, o.pass.1 ∙ e.pass.1) some.0 some.1 some.2 some.3
-          (λ run is. offers (sought_of run c.args.range.now c.args.want.now) c.loop-block.hunter.pass c.claim.new.pass c.loop-block.hunter.bid c.offer.new.pass c.in-Some.block (i.searched run is) some.2 (omega (arith, o.seen.0, e.seen, e.below.0))
+          (λ run is. offers (sought_of run c.args.job.now.range.now c.args.want.now) c.loop-block.hunter.pass c.claim.new.pass c.loop-block.hunter.bid c.offer.new.pass c.in-Some.block (i.searched run is) some.2 (omega (arith, o.seen.0, e.seen, e.below.0))
           c.in-Some-first_wanted.stream (o.offers ∙ ap (λ l. l ++ c.in-Some-first_wanted.stream ∷ []) e.offers) o.seen.1
-          (subst (λ n. FirstWanted (sought_of run c.args.range.now c.args.want.now) n c.args.range.now.to (Some c.in-Some-first_wanted.stream)) c.first_stream-first.ensures.first
+          (subst (λ n. FirstWanted (sought_of run c.args.job.now.range.now c.args.want.now) n c.args.job.now.range.now.to (Some c.in-Some-first_wanted.stream)) c.first_stream-first.ensures.first
           (f.first run (subst (λ (h : Held). IsRestOf h run) (sym c.loop-block.invariant.1) is)))),
       f.same_start ∙ c.loop-block.invariant.1,
     )
@@ -46,10 +46,10 @@ loop-block-preserved g c =
     let some = c.in-Some.ensures.some in
     let e = c.look.ensures in
     let f = c.in_default-first_wanted.ensures in (
-      hunts_on c.args.board.now c.args.least.now (HasSearched c.args.s.now c.args.l.now c.args.range.now c.args.want.now) c.args.hunter.now c.loop-block.hunter c.claim.new.pass c.look.new.pass c.in-Some.block c.loop-block.hunter.failed i c.in-Some.ensures.pass e.pass
+      hunts_on c.args.board.now c.args.least.now (HasSearched c.args.job.now.sampler.now c.args.job.now.limits.now c.args.job.now.range.now c.args.want.now) c.args.hunter.now c.loop-block.hunter c.claim.new.pass c.look.new.pass c.in-Some.block c.loop-block.hunter.failed i c.in-Some.ensures.pass e.pass
           some.0 some.1 some.2 some.3
-          (λ run is. goes_on (sought_of run c.args.range.now c.args.want.now) c.loop-block.hunter.pass c.claim.new.pass c.loop-block.hunter.bid c.look.new.pass c.in-Some.block (i.searched run is) some.2 (omega (arith, e.seen, e.below.0)) e.offers
-          (subst (λ n. FirstWanted (sought_of run c.args.range.now c.args.want.now) n c.args.range.now.to None) c.first_stream-first.ensures.first
+          (λ run is. goes_on (sought_of run c.args.job.now.range.now c.args.want.now) c.loop-block.hunter.pass c.claim.new.pass c.loop-block.hunter.bid c.look.new.pass c.in-Some.block (i.searched run is) some.2 (omega (arith, e.seen, e.below.0)) e.offers
+          (subst (λ n. FirstWanted (sought_of run c.args.job.now.range.now c.args.want.now) n c.args.job.now.range.now.to None) c.first_stream-first.ensures.first
           (f.first run (subst (λ (h : Held). IsRestOf h run) (sym c.loop-block.invariant.1) is)))),
       f.same_start ∙ c.loop-block.invariant.1,
     )
@@ -57,4 +57,4 @@ loop-block-preserved g c =
 pub returns-clause-hunted : goal.returns-clause-hunted
 returns-clause-hunted g c = λ run is.
     let none = c.in_default.ensures.none refl in
-    ends (sought_of run c.args.range.now c.args.want.now) c.loop-block.hunter.pass c.claim.new.pass c.loop-block.hunter.bid (c.loop-block.invariant.0.searched run is) none.0 none.1
+    ends (sought_of run c.args.job.now.range.now c.args.want.now) c.loop-block.hunter.pass c.claim.new.pass c.loop-block.hunter.bid (c.loop-block.invariant.0.searched run is) none.0 none.1

@@ -6,7 +6,7 @@ use Rattle.hunt_range.proofs.Searching.{Hunting, HasSearched}
 use Rattle.hunt_range.proofs.working.work.Given as goal
 
 abbrev pub invariant-loop-block : goal.invariant-loop-block
-invariant-loop-block g l = Hunting l.board l.least (HasSearched l.s l.l l.range l.want) l.initial.hunter l.hunter × (set_back l.state ≡ run_begun l.s l.l)
+invariant-loop-block g l = Hunting l.board l.least (HasSearched l.job.sampler.now l.job.limits.now l.job.range.now l.want) l.initial.hunter l.hunter × (set_back l.state ≡ run_begun l.job.sampler.now l.job.limits.now)
 
 -- each block is above those before it
 abbrev pub decreases-loop-block : goal.decreases-loop-block

@@ -1,6 +1,7 @@
 use Rattle.gcl_core.specs.meaning.Runs.{run_on}
 use Rattle.sampler_run.specs.Held.{run_begun}
-use Rattle.tally_range.proofs.Counting.{count_same, runs_agree}
+use Rattle.stream_runs.proofs.OneAnswer.{runs_agree}
+use Rattle.tally_range.proofs.Counting.{count_same}
 use Rattle.tally_range.proofs.laws.code_counts_as_program.Goals as goal
 
 pub returns : goal.returns

@@ -7,7 +7,7 @@ use Rattle.claim_board.specs.Board.{blocks_of, dealt_to, had_none, IsPassOf, IsS
 use Rattle.sampler_code.specs.Assembled.{IsRunOf}
 use Rattle.sampler_run.specs.Held.{run_begun, set_back}
 use Rattle.tally_range.specs.Sums.{count_in}
-use Rattle.tally_range.specs.declared.range.TheConstants.{STREAMS_OF_A_BLOCK}
+use Rattle.stream_runs.specs.declared.range.TheConstants.{STREAMS_OF_A_BLOCK}
 use Rattle.tally_range.specs.Blocks.{count_block}
 use Rattle.tally_range.specs.Shares.{pass_of, table_of}
 use Rattle.tally_range.proofs.working.work.Given as goal

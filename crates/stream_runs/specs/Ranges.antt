@@ -1,8 +1,8 @@
 -- Ranges that can be gone through. The bounds are this project's own rule.
 use Rattle.std.specs.Prelude.{ℕ, ◌-◌, ◌≤◌, ◌<◌}
 use Rattle.zar_io.specs.declared.stream_bits.TheConstants.{MOST_BUDGET}
-use Rattle.tally_range.specs.declared.range.SeedRange.{SeedRange}
-use Rattle.tally_range.specs.declared.range.TheConstants.{MOST_STREAMS, MOST_WORKERS}
+use Rattle.stream_runs.specs.declared.range.SeedRange.{SeedRange}
+use Rattle.stream_runs.specs.declared.range.TheConstants.{MOST_STREAMS, MOST_WORKERS}
 
 -- its ends in order, not too many streams, and not too many bits of each
 pub record IsRange (r : SeedRange) : Type 0 where

@@ -2,8 +2,8 @@ use Rattle.std.proofs.Common.{◌∙◌, [], Bool, List, sym, subst}
 use Rattle.zar_io.specs.StreamBits.{stream_bits}
 use Rattle.sampler_run.specs.Held.{Held, Ahead, StandsAfter, set_back}
 use Rattle.sampler_run.specs.Sampled.{reached_by}
-use Rattle.tally_range.proofs.Counting.{key_reached}
-use Rattle.tally_range.proofs.streams.run_on_stream.Goals as goal
+use Rattle.stream_runs.proofs.OneAnswer.{key_reached}
+use Rattle.stream_runs.proofs.running.run_on_stream.Goals as goal
 
 pub returns-clause-key : goal.returns-clause-key
 returns-clause-key c = λ run is. let a = reached_by c.in-Ok.stop in let bits : List Bool = stream_bits c.args.seed c.args.stream c.args.budget in

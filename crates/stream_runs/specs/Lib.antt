@@ -1,0 +1,5 @@
+pub mod Ranges
+pub mod Blocks
+pub mod Keys
+pub mod Homes
+pub mod Jobs
