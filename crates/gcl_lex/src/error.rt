@@ -2,9 +2,7 @@
 
 ghost use Rattle.std.specs.Prelude.{◌≡◌};
 
-use gcl_core::refusals::{
-    BAD_BYTE, CODE_WORDS, NAME_TOO_LONG, NUMBER_TOO_WIDE, TEXT_TOO_LONG,
-};
+use gcl_core::refusals::{BAD_BYTE, CODE_WORDS, NAME_TOO_LONG, NUMBER_TOO_WIDE, TEXT_TOO_LONG};
 use std::alloc::{AllocError, AllocFailed};
 use thiserror::Error;
 
