@@ -145,7 +145,6 @@ module _ (p : SourceProgram) (ok : IsChecked p) (n n' : ℕ) (more : n ≤ n') (
           from_below = lower_rises;
           from_above = mass_below;
           among_others = λ none. had_nothing m.0 m.1 g.0 g.1 r.0 r.1 f.1 (f.1 - f.0) (given_pos p n N before meant) none mass_below;
-          lower_rises = lower_rises;
           upper_falls = upper_falls;
           new_falls = λ none. had_nothing h.0 h.1 g.0 g.1 r.0 r.1 f.1 (f.1 - f.0) (given_pos p n N before meant) none upper_falls;
           before = are_bounds p n N before meant;

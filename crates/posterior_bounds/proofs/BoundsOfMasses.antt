@@ -124,11 +124,6 @@ module _ (p : SourceProgram) (n : ℕ) (ok : IsChecked p) (passes : IsBelowOne (
         fraction = λ x s. (l.outcomes x s).fraction;
         from_below = λ x low high c. let s = are.settled x low high c in
             equal_below low (lower_of p n x) (mass_of p n' None None x) (lower_pos x s) (of_value low (lower_of p n x) (are.lower x low high c)) (l.outcomes x s).from_below;
-        from_above = λ x low high c. let s = are.settled x low high c in
-            equal_above (mass_of p n' None None x) high (upper_of p n x) (upper_pos x s) (of_value high (upper_of p n x) (are.upper x low high c)) (l.outcomes x s).from_above;
-        without_row = λ x s none. equal_above (mass_of p n' None None x) other (upper_of_others p n) others_pos u ((l.outcomes x s).among_others (nothing_given x s none));
-        lower_rises = λ x low high c. let s = are.settled x low high c in
-            equal_below low (lower_of p n x) (lower_of p n' x) (lower_pos x s) (of_value low (lower_of p n x) (are.lower x low high c)) (l.outcomes x s).lower_rises;
         upper_falls = λ x low high c. let s = are.settled x low high c in
             equal_above (upper_of p n' x) high (upper_of p n x) (upper_pos x s) (of_value high (upper_of p n x) (are.upper x low high c)) (l.outcomes x s).upper_falls;
         new_falls = λ x s none. equal_above (upper_of p n' x) other (upper_of_others p n) others_pos u ((l.outcomes x s).new_falls (nothing_given x s none));

@@ -17,13 +17,13 @@ pub record AreBounds (p : SourceProgram) (n : ℕ) (meant : Outcome → Bool) : 
   pub width : IsEqual (plus (lower_of_those p n meant) (upper_of_others p n)) (upper_of_those p n meant)
 
 -- The outcomes that are meant have at n' turns a mass between their bounds at n turns, both included. Where a round gave them nothing
--- at n turns, it is at most the bound of all others, and so is their upper bound at n'. Their bounds at n' lie within those at n.
+-- at n turns, it is at most the bound of all others, and so is their upper bound at n'. Their bounds at n' lie within those at n: the lower
+-- one at n' is the mass there.
 pub record IsBounded (p : SourceProgram) (n n' : ℕ) (meant : Outcome → Bool) : Type 0 where
   pub fraction : 1 ≤ (mass_of_those p n' None None meant).1
   pub from_below : AtMost (lower_of_those p n meant) (mass_of_those p n' None None meant)
   pub from_above : AtMost (mass_of_those p n' None None meant) (upper_of_those p n meant)
   pub among_others : (given p n meant).0 ≡ 0 → AtMost (mass_of_those p n' None None meant) (upper_of_others p n)
-  pub lower_rises : AtMost (lower_of_those p n meant) (lower_of_those p n' meant)
   pub upper_falls : AtMost (upper_of_those p n' meant) (upper_of_those p n meant)
   pub new_falls : (given p n meant).0 ≡ 0 → AtMost (upper_of_those p n' meant) (upper_of_others p n)
   pub before : AreBounds p n meant

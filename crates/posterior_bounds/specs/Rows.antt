@@ -29,14 +29,13 @@ pub record AreBoundsOf (p : SourceProgram) (n : ℕ) (rows : Rows) : Type 0 wher
 abbrev pub HasNone : Outcome → Rows → Type 0
 HasNone x rows = (low high : Fraction) → Contains rows (x, low, high) → ⊥
 
--- At n' turns the mass of an outcome that has a row lies between its bounds, both included, and that of a value or fault that has none is
--- at most the bound of all others. The bounds at n' turns lie within these.
+-- At n' turns the mass of an outcome that has a row, which is its lower bound there, is at least its lower bound, and its upper bound there
+-- at most its upper bound; the upper bound there of a value or fault that has no row is at most the bound of all others, which does not
+-- rise. So the mass lies between the bounds, both included, since no mass is above its upper bound at the same limit (`from_above` of the
+-- law, with one limit for both).
 pub record HoldAt (p : SourceProgram) (n' : ℕ) (rows : Rows) (other : Fraction) : Type 0 where
   pub fraction : (x : Outcome) → is_settled x ≡ true → 1 ≤ (mass_of p n' None None x).1
   pub from_below : (x : Outcome) (low high : Fraction) → Contains rows (x, low, high) → AtMost low (mass_of p n' None None x)
-  pub from_above : (x : Outcome) (low high : Fraction) → Contains rows (x, low, high) → AtMost (mass_of p n' None None x) high
-  pub without_row : (x : Outcome) → is_settled x ≡ true → HasNone x rows → AtMost (mass_of p n' None None x) other
-  pub lower_rises : (x : Outcome) (low high : Fraction) → Contains rows (x, low, high) → AtMost low (lower_of p n' x)
   pub upper_falls : (x : Outcome) (low high : Fraction) → Contains rows (x, low, high) → AtMost (upper_of p n' x) high
   pub new_falls : (x : Outcome) → is_settled x ≡ true → HasNone x rows → AtMost (upper_of p n' x) other
   pub others_fall : AtMost (upper_of_others p n') other

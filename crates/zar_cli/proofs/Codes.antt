@@ -1,0 +1,131 @@
+-- By which refusals a command may end: a code of texts or of work, or the outside, and never a failed write.
+use Rattle.std.proofs.Common.{◌≡◌, ℕ, ◌<◌, Bool, List, Option, Some, None, Ok, Err, ◌⊎◌, inl, inr, sym, subst, arith}
+use Rattle.dice_roll.specs.FastRoll.{fast_roll}
+use Rattle.gcl_core.specs.declared.answers.Limits.{Limits}
+use Rattle.gcl_core.specs.declared.refusals.TheConstants.{BAD_WORDS}
+use Rattle.gcl_core.specs.meaning.Runs.{run_on}
+use Rattle.gcl_core.specs.meaning.Syntax.{SourceProgram}
+use Rattle.gcl_core.specs.text.Acceptance.{Flaw, kind_mismatch, unknown_name, zero_denominator, weight_above_one, too_fine}
+use Rattle.gcl_core.specs.text.Texts.{IsRefusedText, too_long, no_piece, wide_number, long_name, unexpected, too_deep, flaw_code, IsRefusedProgram, many_names, has_flaw, SpellsNone, as_text, as_program}
+use Rattle.report_text.specs.declared.refusals.Refusal.{Refusal}
+use Rattle.report_text.specs.declared.refusals.Refusal.TheVariants.{Coded, Read, Write, Memory, NoFile}
+use Rattle.zar_cli.specs.declared.command.Command.{Command}
+use Rattle.zar_cli.specs.declared.command.Command.TheVariants.{Sample, Mass, Cost, Posterior, Audit, Tally, Hunt, Check, Show, Code, Gen, Fast, Help}
+use Rattle.zar_cli.specs.declared.command.Source.TheVariants.{File, Stream}
+use Rattle.zar_cli.specs.declared.said.Said.{Said}
+use Rattle.zar_cli.specs.declared.said.Said.TheVariants.{Answered, Rolled}
+use Rattle.zar_cli.specs.Costs as costs
+use Rattle.zar_cli.specs.Costs.{SaysCost}
+use Rattle.zar_cli.specs.Counts.{ShowsText}
+use Rattle.zar_cli.specs.Forms.{CallWord}
+use Rattle.zar_cli.specs.Masses as masses
+use Rattle.zar_cli.specs.Masses.{SaysMasses}
+use Rattle.zar_cli.specs.ByStages.{Output, says, reading, on_bits, HasOrRefuses, if_spelled, if_written}
+use Rattle.zar_cli.specs.Output.{IsOutput}
+use Rattle.zar_cli.specs.Posterior as posterior
+use Rattle.zar_cli.specs.Posterior.{SaysBounds}
+use Rattle.zar_cli.specs.Rolls.{weights_text, weights_said}
+
+abbrev pub IsRefusal : Refusal → Type 0
+IsRefusal (Coded code at) = code < BAD_WORDS
+IsRefusal Read = Unit {0}
+IsRefusal Write = ⊥
+IsRefusal Memory = Unit {0}
+IsRefusal NoFile = Unit {0}
+
+-- ---- texts
+
+text_codes : (text : List ℕ) (code : ℕ) (at : Option ℕ) → IsRefusedText text code at → code < BAD_WORDS
+text_codes text _ _ (too_long h) = omega arith
+text_codes text _ _ (no_piece h) = omega arith
+text_codes text _ _ (wide_number h) = omega arith
+text_codes text _ _ (long_name h) = omega arith
+text_codes text _ _ (unexpected lexed nested h) = omega arith
+text_codes text _ _ (too_deep lexed h) = omega arith
+
+flaw_codes : (flaw : Flaw) → flaw_code flaw < BAD_WORDS
+flaw_codes kind_mismatch = omega arith
+flaw_codes unknown_name = omega arith
+flaw_codes zero_denominator = omega arith
+flaw_codes weight_above_one = omega arith
+flaw_codes too_fine = omega arith
+
+program_codes : (p : SourceProgram) (places : List ℕ) (code : ℕ) (at : Option ℕ) → IsRefusedProgram p places code at → code < BAD_WORDS
+program_codes p places _ _ (many_names h) = omega arith
+program_codes p places _ _ (has_flaw {flaw = flaw} h there) = flaw_codes flaw
+
+spelled_codes : (text : List ℕ) (code : ℕ) (at : Option ℕ) → SpellsNone text code at → code < BAD_WORDS
+spelled_codes text code at (as_text h) = text_codes text code at h
+spelled_codes text code at (as_program {p = p} {places = places} written h) = program_codes p places code at h
+
+-- ---- work
+
+masses_codes : (p : SourceProgram) (turns : ℕ) (attempts rounds : Option ℕ) (e : Refusal) → SaysMasses p turns attempts rounds (Err e) → IsRefusal e
+masses_codes p turns attempts rounds _ (masses.too_wide h) = omega arith
+masses_codes p turns attempts rounds _ (masses.too_many_states h) = omega arith
+masses_codes p turns attempts rounds _ (masses.all_failed h) = omega arith
+
+costs_codes : (p : SourceProgram) (limits : Limits) (e : Refusal) → SaysCost p limits (Err e) → IsRefusal e
+costs_codes p limits _ (costs.too_wide h) = omega arith
+costs_codes p limits _ (costs.too_many_states h) = omega arith
+
+bounds_codes : (p : SourceProgram) (turns : ℕ) (e : Refusal) → SaysBounds p turns (Err e) → IsRefusal e
+bounds_codes p turns _ (posterior.too_wide h) = omega arith
+bounds_codes p turns _ (posterior.too_many_states h) = omega arith
+bounds_codes p turns _ (posterior.all_failed h) = omega arith
+
+-- ---- commands
+
+module _ (e : Refusal) where
+  is_refusal : (other : Refusal) → ◌≡◌ {A = Output} (Err e) (Err other) → IsRefusal other → IsRefusal e
+  is_refusal other same is = let equal : e ≡ other = cc in subst IsRefusal (sym equal) is
+
+  of_said : (said : Said) → says said (Err e) → IsRefusal e
+  of_said said is = let same : ◌≡◌ {A = Output} (Err e) (Ok said) = is in absurd (cc)
+
+  of_shown : (Is : List ℕ → Type 0) → ShowsText Is (Err e) → IsRefusal e
+  of_shown Is is = let same = is.2 in absurd (cc)
+
+  of_weights : (weights : Option (List ℕ)) → ◌≡◌ {A = Output} (Err e) (weights_said weights) → IsRefusal e
+  of_weights (Some text) is = absurd (cc)
+  of_weights None is = is_refusal _ is (omega arith)
+
+  of_reading : (file : Option (List ℕ)) (go : List ℕ → Output → Type 0) → ((text : List ℕ) → go text (Err e) → IsRefusal e) → reading file go (Err e) → IsRefusal e
+  of_reading (Some text) go h is = h text is
+  of_reading None go h is = is_refusal NoFile is tt
+
+  of_bits : (file : Option (List ℕ)) (say : List Bool → Said) → on_bits file say (Err e) → IsRefusal e
+  of_bits file say is = of_reading file _ (λ text said. of_said _ said) is
+
+  module _ (Has : SourceProgram → Type 0) (Refuses : ℕ → Option ℕ → Type 0) (go : SourceProgram → Output → Type 0) (codes : (code : ℕ) (at : Option ℕ) → Refuses code at → code < BAD_WORDS)
+      (h : (p : SourceProgram) → go p (Err e) → IsRefusal e) where
+    of_either : ((p : SourceProgram) × Has p × go p (Err e)) ⊎ ((code : ℕ) × (at : Option ℕ) × Refuses code at × (◌≡◌ {A = Output} (Err e) (Err (Coded code at)))) → IsRefusal e
+    of_either (inl is) = h is.0 is.2
+    of_either (inr is) = is_refusal (Coded is.0 is.1) is.3 (codes is.0 is.1 is.2)
+
+    of_program : HasOrRefuses Has Refuses go (Err e) → IsRefusal e
+    of_program is = of_either is.right
+
+  of_spelled : (file : Option (List ℕ)) (go : SourceProgram → Output → Type 0) → reading file (if_spelled go) (Err e) → ((p : SourceProgram) → go p (Err e) → IsRefusal e) → IsRefusal e
+  of_spelled file go is h = of_reading file (if_spelled go) (λ text there. of_program _ _ go (spelled_codes text) h there) is
+
+  of_written : (file : Option (List ℕ)) (go : SourceProgram → Output → Type 0) → reading file (if_written go) (Err e) → ((p : SourceProgram) → go p (Err e) → IsRefusal e) → IsRefusal e
+  of_written file go is h = of_reading file (if_written go) (λ text there. of_program _ _ go (text_codes text) h there) is
+
+  pub output_codes : (file : CallWord → Option (List ℕ)) (c : Command) → IsOutput file c (Err e) → IsRefusal e
+  output_codes file (Sample program (File bits) limits) is = of_spelled _ _ is (λ p there. of_bits (file bits) (λ w. Answered (run_on p limits w)) there)
+  output_codes file (Sample program (Stream seed stream budget) limits) is = of_spelled _ _ is (λ p there. of_said _ there)
+  output_codes file (Mass program turns attempts rounds) is = of_spelled _ _ is (λ p there. masses_codes p turns attempts rounds e there)
+  output_codes file (Cost program limits) is = of_spelled _ _ is (λ p there. costs_codes p limits e there)
+  output_codes file (Posterior program turns) is = of_spelled _ _ is (λ p there. bounds_codes p turns e there)
+  output_codes file (Audit program depth limits) is = of_spelled _ _ is (λ p there. of_shown _ there)
+  output_codes file (Tally program range limits) is = of_spelled _ _ is (λ p there. of_shown _ there)
+  output_codes file (Hunt program range limits want) is = of_spelled _ _ is (λ p there. let same = there.2 in absurd (cc))
+  output_codes file (Check program) is = of_spelled _ _ is (λ p there. of_said _ there)
+  output_codes file (Show program) is = of_written _ _ is (λ p there. of_said _ there)
+  output_codes file (Code program) is = of_spelled _ _ is (λ p there. of_said _ there)
+  output_codes file (Gen k) is = of_shown _ is
+  output_codes file (Fast labels flips (Some (File bits))) is = of_bits (file bits) (λ w. Rolled (fast_roll labels flips w)) is
+  output_codes file (Fast labels flips (Some (Stream seed stream budget))) is = of_said _ is
+  output_codes file (Fast labels flips None) is = of_weights (weights_text labels flips) is
+  output_codes file (Help topic) is = of_said _ is

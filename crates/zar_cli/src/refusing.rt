@@ -1,0 +1,20 @@
+// Why work on a program is refused.
+
+ghost use Rattle.std.specs.Prelude.{◌≡◌};
+ghost use Rattle.zar_cli.specs.inner.Readings.{mass_code};
+
+use gcl_core::refusals;
+use mass_fold::MassError;
+use report_text::Refusal;
+
+/// Why there are no masses, as a refusal.
+pub fn mass_refusal(error: MassError) -> Refusal
+    ensures { result ≡ mass_code error }
+{
+    match error {
+        MassError::TooWide => Refusal::Coded(refusals::TOO_WIDE, None),
+        MassError::TooManyStates => Refusal::Coded(refusals::TOO_MANY_STATES, None),
+        MassError::AllFailed => Refusal::Coded(refusals::ALL_FAILED, None),
+        MassError::OutOfMemory => Refusal::Memory,
+    }
+}
