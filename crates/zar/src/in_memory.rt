@@ -4,7 +4,8 @@ ghost use Rattle.std.specs.Prelude.{◌≡◌, ◌^◌, ◌<◌, ◌++◌, IfOk,
 ghost use Rattle.zar_io.specs.MemFiles.{named_file, files_faults};
 ghost use Rattle.zar_io.specs.MemSink.{sink_bytes, sink_faults};
 ghost use Rattle.zar_cli.specs.Delivery.{status_of, out_text, err_text};
-ghost use Rattle.zar_cli.specs.Output.{Output, TellsWords};
+ghost use Rattle.zar_cli.specs.ByStages.{Output};
+ghost use Rattle.zar_cli.specs.Output.{TellsWords};
 ghost use Rattle.zar_cli.specs.Seen.{IsQuiet};
 ghost use Rattle.zar_cli.specs.Words.{command_of};
 

@@ -1,5 +1,5 @@
 -- Why each status comes, from what is said and how it is shown.
-use Rattle.std.proofs.Common.{◌≡◌, ℕ, ◌<◌, ◌≤◌, ◌==◌, nat_lt, Bool, true, false, ◌||◌, IsTrue, List, Some, None, Result, Ok, Err, ◌⊎◌, inl, inr, refl, sym, ◌∙◌, ap, subst, arith, if◌then◌else◌}
+use Rattle.std.proofs.Common.{◌≡◌, ℕ, ◌<◌, ◌≤◌, ◌==◌, nat_lt, Bool, true, false, ◌||◌, IsTrue, List, Option, Some, None, Result, Ok, Err, ◌⊎◌, inl, inr, refl, sym, ◌∙◌, ap, subst, arith, if◌then◌else◌}
 use Rattle.std.proofs.lemmas.Bool.Decides.{nat_tests}
 use Rattle.dice_roll.specs.declared.answers.Roll.{Roll}
 use Rattle.dice_roll.specs.declared.answers.Roll.TheVariants as rolled
@@ -10,19 +10,20 @@ use Rattle.gcl_core.specs.declared.refusals.TheConstants.{TOO_FINE, BAD_WORDS}
 use Rattle.report_text.specs.declared.refusals.Refusal.TheVariants.{Coded, Read, Write, Memory, NoFile}
 use Rattle.zar_io.specs.Faults.{CountsFault}
 use Rattle.zar_cli.specs.declared.command.Command.{Command}
-use Rattle.zar_cli.specs.declared.command.Command.TheVariants.{Sample, Mass, Cost, Posterior, Audit, Tally, Hunt, Check, Show, Code, Gen, Fast, Help}
 use Rattle.zar_cli.specs.declared.said.Said.{Said}
 use Rattle.zar_cli.specs.declared.said.Said.TheVariants.{Answered, Accepted, Costed, Shown, Found, Rolled, Helped}
 use Rattle.zar_cli.specs.declared.statuses.TheConstants.{DONE, WORDS_REFUSED, READ_FAULT, WRITE_FAULT, MASS_REFUSED, LIMIT_REACHED, NO_FILE}
 use Rattle.zar_cli.specs.declared.statuses.TheConstants as status
-use Rattle.zar_cli.specs.Answer.{FitsWords, MissesNamed, NamesMissing, IsAnswer, HasCause}
+use Rattle.zar_cli.specs.Answer.{FitsWords, MissesNamed, IsAnswer}
+use Rattle.zar_cli.specs.Cause.{NamesMissing, HasCause}
 use Rattle.zar_cli.specs.Delivery.{answer_status, roll_status, said_status, status_of, CountsIf}
-use Rattle.zar_cli.specs.Fits.{greatest_code}
-use Rattle.zar_cli.specs.Output.{Output}
+use Rattle.zar_cli.specs.Fits.{Fits}
+use Rattle.zar_cli.specs.ByStages.{Output}
 use Rattle.zar_cli.specs.Seen.{FilesSeen, SinkSeen, IsQuiet, NoWriteFailed}
 use Rattle.zar_cli.specs.Stages.{refusal_in, CountsRead, ClosesAfter}
 use Rattle.zar_cli.specs.Forms.{CallWord}
 use Rattle.zar_cli.specs.Words.{command_of, is_bad}
+use Rattle.zar_cli.proofs.Codes.{output_codes}
 
 -- ---- the statuses of what is said
 
@@ -74,21 +75,14 @@ coded_words true b e = refl
 coded_words false true e = absurd (omega arith)
 coded_words false false e = absurd (omega arith)
 
-greatest_few : (c : Command) → greatest_code c ≤ 15
-greatest_few (Sample program bits limits) = omega arith
-greatest_few (Mass program turns attempts rounds) = omega arith
-greatest_few (Cost program limits) = omega arith
-greatest_few (Posterior program turns) = omega arith
-greatest_few (Audit program depth limits) = omega arith
-greatest_few (Tally program range limits) = omega arith
-greatest_few (Hunt program range limits want) = omega arith
-greatest_few (Check program) = omega arith
-greatest_few (Show program) = omega arith
-greatest_few (Code program) = omega arith
-greatest_few (Gen k) = omega arith
-greatest_few (Fast labels flips (Some source)) = omega arith
-greatest_few (Fast labels flips None) = omega arith
-greatest_few (Help topic) = omega arith
+-- a code of a command is none of words, and none of its refusals a failed write
+never_written : (c : Command) → Fits c (Err Write) → ⊥
+never_written c (inl may) = may
+never_written c (inr is) = output_codes Write is.0 c is.1
+
+few_codes : (c : Command) (code : ℕ) (at : Option ℕ) → Fits c (Err (Coded code at)) → code < BAD_WORDS
+few_codes c code at (inl may) = absurd may
+few_codes c code at (inr is) = output_codes (Coded code at) is.0 c is.1
 
 -- ---- outputs
 
@@ -121,7 +115,7 @@ never_writes : (c : Result Command ℕ) (o : Output) → FitsWords c o → statu
 never_writes c (Ok s) fits e = said_apart (said_status s) (said_statuses s) (inr (inr (inl e)))
 never_writes c (Err (Coded code at)) fits e = coded_apart (code == BAD_WORDS) (nat_lt TOO_FINE code) (inr (inl e))
 never_writes c (Err Read) fits e = omega arith
-never_writes (Ok c) (Err Write) fits e = fits
+never_writes (Ok c) (Err Write) fits e = never_written c fits
 never_writes (Err at) (Err Write) fits e = cc
 never_writes c (Err Memory) fits e = omega arith
 never_writes c (Err NoFile) fits e = omega arith
@@ -131,10 +125,10 @@ words_status (Err at) o fits e = refl
 words_status (Ok c) (Ok s) fits e = absurd (said_apart (said_status s) (said_statuses s) (inl e))
 words_status (Ok c) (Err (Coded code at)) fits e =
     let is = coded_words (code == BAD_WORDS) (nat_lt TOO_FINE code) e in
-    let few = greatest_few c in
-    absurd (grind (arith, nat_tests, fits.1))
+    let few = few_codes c code at fits in
+    absurd (grind (arith, nat_tests))
 words_status (Ok c) (Err Read) fits e = absurd (omega arith)
-words_status (Ok c) (Err Write) fits e = absurd fits
+words_status (Ok c) (Err Write) fits e = absurd (never_written c fits)
 words_status (Ok c) (Err Memory) fits e = absurd (omega arith)
 words_status (Ok c) (Err NoFile) fits e = absurd (omega arith)
 

@@ -11,9 +11,10 @@ use Rattle.report_text.specs.declared.refusals.Refusal.{Refusal}
 use Rattle.report_text.specs.declared.refusals.Refusal.TheVariants.{Coded}
 use Rattle.zar_cli.specs.declared.said.Said.{Said}
 use Rattle.zar_cli.specs.declared.said.Said.TheVariants.{Costed}
+use Rattle.zar_cli.specs.Narrow.{IsNarrow}
 
--- The number is exact. A refusal comes only by its cause.
+-- The number is exact, and no wider than 128 bits. A refusal comes only by its cause.
 pub data SaysCost (p : SourceProgram) (l : Limits) : Result Said Refusal → Type 0 where
-  exact : (bits : ℕ × ℕ) → bits ≡ lowest (expected_bits p l) → SaysCost p l (Ok (Costed bits))
+  exact : (bits : ℕ × ℕ) → bits ≡ lowest (expected_bits p l) → IsNarrow bits → SaysCost p l (Ok (Costed bits))
   too_wide : CostRefused TooWide p l → SaysCost p l (Err (Coded TOO_WIDE None))
   too_many_states : CostRefused TooManyStates p l → SaysCost p l (Err (Coded TOO_MANY_STATES None))

@@ -1,6 +1,6 @@
 -- What is said of the bounds of a program: those of each value and fault that has a mass, outcomes ascending, and of all others; or why they
 -- are refused.
-use Rattle.std.specs.Prelude.{◌≡◌, ℕ, ◌≤◌, None, Result, Ok, Err}
+use Rattle.std.specs.Prelude.{◌≡◌, ℕ, ◌≤◌, All, None, Result, Ok, Err}
 use Rattle.frac128.specs.Fraction.{lowest}
 use Rattle.gcl_core.specs.declared.refusals.TheConstants.{TOO_WIDE, TOO_MANY_STATES, ALL_FAILED}
 use Rattle.gcl_core.specs.weighing.Fractions.{Fraction, IsBelowOne}
@@ -13,12 +13,15 @@ use Rattle.report_text.specs.declared.refusals.Refusal.{Refusal}
 use Rattle.report_text.specs.declared.refusals.Refusal.TheVariants.{Coded}
 use Rattle.zar_cli.specs.declared.said.Said.{Said}
 use Rattle.zar_cli.specs.declared.said.Said.TheVariants.{Shown}
+use Rattle.zar_cli.specs.Narrow.{IsNarrow}
 use Rattle.zar_cli.specs.Tables.{bounds_text}
 
--- the bounds at n turns, which hold at every greater limit of turns
+-- the bounds at n turns, none wider than 128 bits, which hold at every greater limit of turns
 pub record AreExact (p : SourceProgram) (n : ℕ) (rows : Rows) (other : Fraction) : Type 0 where
   pub bounds : AreBoundsOf p n rows
   pub others : other ≡ lowest (upper_of_others p n)
+  pub narrow : All (λ row. IsNarrow row.1 × IsNarrow row.2) rows
+  pub narrow_others : IsNarrow other
   pub passes : IsBelowOne (fails p n)
   pub hold : (n' : ℕ) → n ≤ n' → IsBelowOne (fails p n') → HoldAt p n' rows other
 

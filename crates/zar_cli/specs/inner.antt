@@ -2,3 +2,4 @@
 pub mod Kept
 pub mod OptionsView
 pub mod Readings
+pub mod Stage

@@ -12,12 +12,12 @@ ghost use Rattle.zar_cli.specs.inner.Kept.{KeepsFiles};
 ghost use Rattle.zar_cli.specs.declared.said.Said.TheVariants.{Shown};
 
 use crate::command::FileName;
+use crate::refusing::mass_refusal;
 use crate::said::Said;
 use crate::source::read_checked;
 use crate::tables::bounds_text;
-use gcl_core::{Checked, refusals};
+use gcl_core::Checked;
 use gcl_print::Text;
-use mass_fold::MassError;
 use posterior_bounds::bounds;
 use report_text::Refusal;
 use std::alloc::Global;
@@ -30,10 +30,7 @@ fn bounds_of(alloc: Global, program: &Checked, turns: u64) -> Result<Text, Refus
 {
     match bounds(alloc, program, turns) {
         Ok(found) => Ok(bounds_text(alloc, &found)?),
-        Err(MassError::TooWide) => Err(Refusal::Coded(refusals::TOO_WIDE, None)),
-        Err(MassError::TooManyStates) => Err(Refusal::Coded(refusals::TOO_MANY_STATES, None)),
-        Err(MassError::AllFailed) => Err(Refusal::Coded(refusals::ALL_FAILED, None)),
-        Err(MassError::OutOfMemory) => Err(Refusal::Memory),
+        Err(error) => Err(mass_refusal(error)),
     }
 }
 

@@ -1,13 +1,14 @@
 // Rolls, and what their labels weigh.
 
-ghost use Rattle.std.specs.Prelude.{◌≡◌, ◌≤◌, [], ◌∷◌, IsTrue, IfOk};
+ghost use Rattle.std.specs.Prelude.{◌≡◌, ◌≤◌, [], ◌∷◌, IsTrue, IfErr, IfOk};
 ghost use Rattle.dice_roll.specs.FastRoll.{fast_roll};
 ghost use Rattle.dice_roll.specs.declared.rules.TheConstants.{LEAST_LABELS, MOST_LABELS, MOST_FLIPS};
 ghost use Rattle.zar_cli.specs.inner.Readings.{GivesOnBits};
 ghost use Rattle.zar_cli.specs.Rolls.{shares_text, weights_text};
 ghost use Rattle.zar_cli.specs.Seen.{files_seen};
 ghost use Rattle.zar_cli.specs.inner.Kept.{KeepsFiles};
-ghost use Rattle.zar_cli.specs.Stages.{IsStage, refusal_in};
+ghost use Rattle.zar_cli.specs.inner.Stage.{IsStage, OfOutside};
+ghost use Rattle.zar_cli.specs.Stages.{refusal_in};
 ghost use Rattle.zar_io.specs.declared.stream_bits.TheConstants.{MOST_BUDGET};
 ghost use Rattle.zar_io.specs.StreamBits.{stream_bits};
 
@@ -29,7 +30,8 @@ pub fn roll_on_file<F: Files>(
     requires high { labels ≤ MOST_LABELS }
     requires few { flips ≤ MOST_FLIPS }
     ensures answer { IsTrue F.told → GivesOnBits (fast_roll labels flips) (F.file files.old name.now) result }
-    ensures stage { IsStage (name.now ∷ []) 0 (files_seen F.told F.file F.may_be_missing F.faults F.is_open files.old files.new) (refusal_in result) }
+    ensures refused { IfErr result OfOutside }
+    ensures stage { IsStage (name.now ∷ []) (files_seen F.told F.file F.may_be_missing F.faults F.is_open files.old files.new) (refusal_in result) }
     ensures kept { KeepsFiles F.file F.may_be_missing files.old files.new }
 {
     match files.open(name) {

@@ -2,7 +2,7 @@
 
 ghost use Rattle.std.specs.Prelude.{◌≡◌, is_err, if◌then◌else◌};
 ghost use Rattle.report_text.specs.Lines.{refusal_text};
-ghost use Rattle.zar_cli.specs.Delivery.{answer_status, roll_status, said_status, refusal_status, status_of, said_text, out_text, err_text, IsWrittenOn};
+ghost use Rattle.zar_cli.specs.Delivery.{answer_status, roll_status, said_status, is_of_masses, refusal_status, status_of, said_text, out_text, err_text, IsWrittenOn};
 ghost use Rattle.zar_cli.specs.Seen.{sink_seen};
 
 use crate::said::Said;
@@ -59,12 +59,19 @@ fn said_status(said: &Said) -> u8
     }
 }
 
+// Whether a code is one of masses. These come behind those of texts.
+fn is_of_masses(code: u8) -> bool
+    ensures { result ≡ is_of_masses code }
+{
+    code > TOO_FINE
+}
+
 fn refusal_status(refusal: &Refusal) -> u8
     ensures { result ≡ refusal_status refusal.now }
 {
     match refusal {
         Refusal::Coded(code, _) if *code == BAD_WORDS => WORDS_REFUSED,
-        Refusal::Coded(code, _) if *code > TOO_FINE => MASS_REFUSED,
+        Refusal::Coded(code, _) if is_of_masses(*code) => MASS_REFUSED,
         Refusal::Coded(_, _) => TEXT_REFUSED,
         Refusal::Read => READ_FAULT,
         Refusal::Write => WRITE_FAULT,

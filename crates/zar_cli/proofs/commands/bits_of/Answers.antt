@@ -5,7 +5,7 @@ use Rattle.zar_cli.specs.Costs.{exact, too_wide, too_many_states}
 use Rattle.zar_cli.proofs.commands.bits_of.Goals as goal
 
 pub returns-in-Ok : goal.returns-in-Ok
-returns-in-Ok c = exact c.in-Ok.bits c.in-Ok.ensures.bits
+returns-in-Ok c = exact c.in-Ok.bits c.in-Ok.ensures.bits c.is_narrow.ensures
 
 pub returns-in-Err-TooWide : goal.returns-in-Err-TooWide
 returns-in-Err-TooWide c = too_wide (subst (λ e. CostRefused e (source_of c.args.program.now) c.args.limits.now) c.in-Err-TooWide.field-0-is c.in-Err-TooWide.ensures.refused)

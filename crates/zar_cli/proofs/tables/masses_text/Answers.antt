@@ -1,6 +1,8 @@
 use Rattle.std.proofs.Common.{◌≡◌, ◌∙◌, ◌+◌, ◌++◌, ap, drop}
 use Rattle.report_text.specs.Lines.{mass_text}
 use Rattle.zar_cli.specs.Tables.{masses_text}
+use Rattle.zar_cli.specs.Narrow.{IsNarrow}
+use Rattle.zar_cli.proofs.NarrowRows.{one_more}
 use Rattle.zar_cli.proofs.RowLines.{rows_go}
 use Rattle.zar_cli.proofs.tables.masses_text.Goals as goal
 
@@ -9,5 +11,8 @@ loop-i-preserved c =
     let rows = c.args.rows.now in
     let row = c.get.result.now in
     let line : c.push.new.self ≡ c.loop-i.text ++ mass_text row.0 row.1 = c.in_ok-push.ensures.ok ∙ ap (λ bytes. c.loop-i.text ++ bytes) (c.bytes.ensures ∙ c.mass_line.ensures) in
-    ap (λ text. text ++ masses_text (drop (c.loop-i.i + 1) rows)) line
-    ∙ rows_go (λ r. mass_text r.0 r.1) rows c.loop-i.i row c.loop-i.text (masses_text rows) c.get.ensures c.loop-i.invariant
+    record {
+      lines = ap (λ text. text ++ masses_text (drop (c.loop-i.i + 1) rows)) line
+          ∙ rows_go (λ r. mass_text r.0 r.1) rows c.loop-i.i row c.loop-i.text (masses_text rows) c.get.ensures c.loop-i.invariant.lines;
+      narrow = one_more (λ r. IsNarrow r.1) rows c.loop-i.i row c.get.ensures c.is_narrow.ensures c.loop-i.invariant.narrow;
+    }

@@ -1,6 +1,7 @@
-use Rattle.std.proofs.Common.{◌≡◌, ◌++◌, drop}
-use Rattle.zar_cli.specs.Tables.{masses_text}
+use Rattle.report_text.specs.Lines.{mass_text}
+use Rattle.zar_cli.specs.Narrow.{IsNarrow}
+use Rattle.zar_cli.proofs.NarrowRows.{AreWritten}
 use Rattle.zar_cli.proofs.tables.masses_text.Given as goal
 
 abbrev pub invariant-loop-i : goal.invariant-loop-i
-invariant-loop-i l = l.text ++ masses_text (drop l.i l.rows) ≡ masses_text l.rows
+invariant-loop-i l = AreWritten (λ row. mass_text row.0 row.1) (λ row. IsNarrow row.1) l.rows l.i l.text
