@@ -1,5 +1,5 @@
 -- Which commands name a file.
-use Rattle.std.proofs.Common.{◌≡◌, ℕ, ◌<◌, true, length, Option, Some, None, Result, Ok, Err, ◌⊎◌, inl, refl, arith}
+use Rattle.std.proofs.Common.{◌≡◌, ℕ, ◌<◌, true, length, Option, Some, None, Result, Ok, Err, inl, refl, arith}
 use Rattle.std.specs.Prelude.{is_some}
 use Rattle.gcl_core.specs.declared.answers.Limits.{Limits}
 use Rattle.report_text.specs.declared.refusals.Refusal.TheVariants.{Memory}

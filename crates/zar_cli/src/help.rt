@@ -2,10 +2,9 @@
 
 ghost use Rattle.std.specs.Prelude.{◌≡◌, ◌++◌, flat_map};
 ghost use Rattle.zar_cli.specs.Help.{piece_text, topic_text};
-ghost use Rattle.zar_cli.specs.Words.{topic_named};
 
 use crate::settings::{
-    LEAST_GENERATED, USUAL_BUDGET, USUAL_LIMIT, USUAL_MASS_TURNS, USUAL_WEIGHED_FLIPS,
+    LEAST_GENERATED, USUAL_BUDGET, USUAL_FLIPS, USUAL_LIMIT, USUAL_MASS_TURNS, USUAL_WEIGHED_FLIPS,
     USUAL_WORKERS, Verb,
 };
 use audit_walk::MOST_DEPTH;
@@ -117,7 +116,7 @@ const WORK: Part = &[
 // The flips of a roll.
 const FLIPS: Part = &[
     ("--flips N     the most flips, 0 to ", Some(MOST_FLIPS)),
-    USUAL,
+    (" (", Some(USUAL_FLIPS)),
     ("; without bits ", Some(USUAL_WEIGHED_FLIPS)),
     END,
 ];
@@ -268,17 +267,6 @@ zar fast N --seed N
         FLIPS,
     ],
 );
-
-/// What help a word asks for.
-pub fn topic_named(word: &str) -> Option<Topic>
-    ensures { result ≡ topic_named word.now }
-{
-    match word {
-        "help" | "--help" | "-h" => Some(Topic::Everything),
-        "--version" => Some(Topic::Version),
-        _ => None,
-    }
-}
 
 /// The page that is asked for.
 pub fn page_of(topic: Topic) -> Page

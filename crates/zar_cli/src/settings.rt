@@ -82,6 +82,8 @@ pub const USUAL_WORKERS: u64 = 4;
 pub const LEAST_GENERATED: u64 = 1;
 /// How many streams a generated program is tallied over.
 pub const GENERATED_STREAMS: u64 = 1000;
+/// The limit of flips of a roll on bits where none is given.
+pub const USUAL_FLIPS: u64 = 1000;
 /// The limit of flips under which the labels of a roll are weighed where none is given.
 pub const USUAL_WEIGHED_FLIPS: u64 = 30;
 
