@@ -3,6 +3,7 @@ ghost use Rattle.std.specs.Prelude.{◌≡◌, false, Bool, List, All, IfOk, vec
 ghost use Rattle.gcl_core.specs.declared.answers.Answer.{Answer};
 ghost use Rattle.gcl_core.specs.meaning.LimitRange.{InRange};
 ghost use Rattle.sampler_code.specs.Assembled.{IsRunOf};
+ghost use Rattle.stream_runs.specs.Jobs.{IsReadyJob};
 ghost use Rattle.stream_runs.specs.Ranges.{IsRange, IsWorkers};
 ghost use Rattle.claim_board.specs.Board as claim;
 ghost use Rattle.least_board.specs.Board as offers;
@@ -49,21 +50,19 @@ fn hunters_of(
 }
 
 // Closes both boards. The least number offered is the least stream that is wanted.
-fn close_both(
+fn close_both<G: Gate>(
     alloc: Global,
-    s: &Sampler,
-    l: &Limits,
-    range: &SeedRange,
+    job: &Job<'_, G>,
     want: &TallyKey,
     board: Board,
     least: LeastBoard,
     mut hunters: Vec<Hunter>,
 ) -> Result<Option<u64>, AllocError>
-    requires range { IsRange range.now }
-    requires fits { BelongTogether board least range.now }
+    requires job { IsReadyJob job.now.limits.now job.now.range.now }
+    requires fits { BelongTogether board least job.now.range.now }
     requires all { AreAll board least hunters.items }
-    requires hunted { All (λ h. h.failed ≡ false → HasHuntedRuns s.now l.now range.now want.now h.pass h.bid) hunters.items }
-    ensures { IfOk result (λ found. (run : List Bool → Answer) → IsRunOf s.now l.now run → LeastWanted (sought_of run range.now want.now) found) }
+    requires hunted { All (λ h. h.failed ≡ false → HasHuntedRuns job.now.sampler.now job.now.limits.now job.now.range.now want.now h.pass h.bid) hunters.items }
+    ensures { IfOk result (λ found. (run : List Bool → Answer) → IsRunOf job.now.sampler.now job.now.limits.now run → LeastWanted (sought_of run job.now.range.now want.now) found) }
 {
     let mut passes = Vec::with_capacity(alloc, hunters.len())?;
     let mut bids = Vec::with_capacity(alloc, hunters.len())?;
@@ -77,7 +76,7 @@ fn close_both(
     }
     board.close(passes);
     let found = least.close(bids);
-    if found < range.to {
+    if found < job.range.to {
         return Ok(Some(found));
     }
     Ok(None)
@@ -119,5 +118,5 @@ pub fn hunt<R: Threads + Sync, G: Gate>(
         want,
         hunters.as_mut_slice(),
     );
-    close_both(alloc, s, l, range, want, board, least, hunters)
+    close_both(alloc, &job, want, board, least, hunters)
 }

@@ -12,7 +12,7 @@ left : (len : ℕ) (R : Hunter → Hunter → Type 0) (old new : List Hunter) �
 left len R old new wide z = ap (λ (n : ℕ). take n (new ++ drop (length new) old)) (wide ∙ length_all_zip R old new z) ∙ take-append_seam new (drop (length new) old)
 
 pub close_both-requires-clause-all : goal.close_both-requires-clause-all
-close_both-requires-clause-all g c =
+close_both-requires-clause-all g c κs within =
     let R = HasWorked (HasHuntedRuns c.args.s.now c.args.l.now c.args.range.now c.args.want.now) in
     let old : List Hunter = c.in_ok-hunters.hunters.items in
     let new : List Hunter = c.run_all.new.hunters in
@@ -21,7 +21,7 @@ close_both-requires-clause-all g c =
     subst (AreAll c.in_ok-board.board c.in_ok-least.least) (sym (left c.in_ok-hunters.hunters.len R old new wide worked)) (all_worked c.in_ok-board.board c.in_ok-least.least (HasHuntedRuns c.args.s.now c.args.l.now c.args.range.now c.args.want.now) old new worked c.in_ok-hunters.ensures.all)
 
 pub close_both-requires-clause-hunted : goal.close_both-requires-clause-hunted
-close_both-requires-clause-hunted g c =
+close_both-requires-clause-hunted g c κs within =
     let R = HasWorked (HasHuntedRuns c.args.s.now c.args.l.now c.args.range.now c.args.want.now) in
     let old : List Hunter = c.in_ok-hunters.hunters.items in
     let new : List Hunter = c.run_all.new.hunters in
