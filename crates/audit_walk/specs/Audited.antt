@@ -11,8 +11,8 @@ use Rattle.audit_walk.specs.Rows.{Rows, IsRows, row_count}
 abbrev pub undecided_by : (List Bool → Answer) → ℕ → ℕ
 undecided_by run h = strings_that (λ v. needs_more (run v)) h
 
--- The rows are exactly the outcomes whose weight is above 0, in order, each with its weight. An outcome that has no row counts 0. On so
--- many strings the run needs more.
+-- The rows are exactly the outcomes whose weight is above 0, in order, each with its weight. An outcome that has no row counts 0.
+-- On so many strings the run needs more.
 pub record IsAuditOf (run : List Bool → Answer) (depth : ℕ) (rows : Rows) (undecided : ℕ) : Type 0 where
   pub ordered : IsRows rows
   pub weights : (x : Outcome) → row_count x rows ≡ outcome_weight run x depth

@@ -21,10 +21,10 @@ pub const MOST_DEPTH: u32 = 20;
 // Where fewer bits were read, the two sides of a further bit are walked in threads of their own.
 const FORKS: u32 = 4;
 
-/// How the runs of a sampler end on the bit strings of one length, of at most [`MOST_DEPTH`] bits, under limits in range. The rows are
-/// exactly the outcomes that some string ends in, each with its weight at the scale of 2 to that length; `undecided` is the number of
-/// strings of that length on which the run needs more. Counts and undecided strings add up to all strings. An error comes only where
-/// memory runs out, in whichever thread.
+/// How the runs of a sampler end on the bit strings of one length, of at most [`MOST_DEPTH`] bits, under limits in range. The
+/// rows are exactly the outcomes that some string ends in, each with its weight at the scale of 2 to that length; `undecided` is
+/// the number of strings of that length on which the run needs more. Counts and undecided strings add up to all strings. An error
+/// comes only where memory runs out, in whichever thread.
 pub fn audit<R: Threads + Sync>(
     rt: &R,
     alloc: Global,
@@ -34,7 +34,8 @@ pub fn audit<R: Threads + Sync>(
 ) -> Result<Audit, AllocError>
     requires limits { InRange l.now }
     requires depth { depth ≤ MOST_DEPTH }
-    ensures runs { IfOk result (λ a. (run : List Bool → Answer) → IsRunOf s.now l.now run → IsAuditOf run depth a.rows a.undecided) }
+    ensures runs { IfOk result
+        (λ a. (run : List Bool → Answer) → IsRunOf s.now l.now run → IsAuditOf run depth a.rows a.undecided) }
     ensures all { IfOk result (λ a. sum_of_counts a.rows + a.undecided ≡ 2 ^ depth) }
 {
     let state = s.start(alloc, l)?;

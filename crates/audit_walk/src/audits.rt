@@ -4,8 +4,8 @@ use crate::rows::AuditRows;
 use gcl_core::Outcome;
 use std::alloc::{AllocError, Global};
 
-/// How the bit strings of one length end: how many in each outcome, where those that begin with a string on which the run has ended
-/// end as it did, and on how many the run needs more bits.
+/// How the bit strings of one length end: how many in each outcome, where those that begin with a string on which the run has
+/// ended end as it did, and on how many the run needs more bits.
 #[derive(Drop)]
 pub struct Audit {
     pub rows: AuditRows,

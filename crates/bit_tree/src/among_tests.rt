@@ -1,5 +1,5 @@
-// The program `choose { 6: { x := 1; } | 4: { x := 2; } | 2: { x := 3; } } return x;`, on its way to a tied tree. In lowest terms its
-// parts are 3, 2 and 1, and its draw has the ends 3, 5 and 6, over numbers of three bits.
+// The program `choose { 6: { x := 1; } | 4: { x := 2; } | 2: { x := 3; } } return x;`, on its way to a tied tree. In lowest terms
+// its parts are 3, 2 and 1, and its draw has the ends 3, 5 and 6, over numbers of three bits.
 
 ghost use Rattle.std.specs.Prelude.{◌≡◌, pos, IfOk};
 ghost use Rattle.gcl_core.specs.meaning.Syntax.{Num, Set, Choose, done, ◌▸◌, no_arm, arm};
@@ -15,7 +15,9 @@ use std::alloc::{AllocError, Global};
 use std::test::Fail;
 
 fn choose(alloc: Global) -> Result<Stmt, AllocError>
-    ensures { IfOk result (λ s. statement_of s ≡ Choose (arm 6 (Set 0 (Num (pos 1)) ▸ done) (arm 4 (Set 0 (Num (pos 2)) ▸ done) (arm 2 (Set 0 (Num (pos 3)) ▸ done) no_arm)))) }
+    ensures { IfOk result (λ s. statement_of s
+        ≡ Choose (arm 6 (Set 0 (Num (pos 1)) ▸ done)
+        (arm 4 (Set 0 (Num (pos 2)) ▸ done) (arm 2 (Set 0 (Num (pos 3)) ▸ done) no_arm)))) }
 {
     let first = set(alloc, 1)?;
     let second = set(alloc, 2)?;

@@ -1,6 +1,6 @@
 -- What a choice-fix tree does from a state on a list of bits, by the same cases as a block: a row is a block, a test an `if`, a
--- repetition a loop, and the tree that fails a failed observation. A choice among several arms goes on with the arm whose number is the
--- class of its draw.
+-- repetition a loop, and the tree that fails a failed observation. A choice among several arms goes on with the arm whose number
+-- is the class of its draw.
 use Rattle.std.specs.Prelude.{ℕ, zero, suc, Bool, List, slice_set}
 use Rattle.gcl_core.specs.meaning.Value.{State, value_of}
 use Rattle.gcl_core.specs.meaning.Reading.{Reading, gives}
@@ -17,7 +17,8 @@ module _ (n r : ℕ) where
     choice_tree_on Fail s w = gives failed w
     choice_tree_on (Set x e) s w = value_on (value_of e s) w (λ v. gives (on (slice_set s x v)) w)
     choice_tree_on (Test e a c) s w = value_on (value_of e s) w (λ v. by_truth v (choice_tree_on a s w) (choice_tree_on c s w))
-    choice_tree_on (Choice p a c) s w = class_on (draw_on (choice_ends p) r w) (λ i rest. by_side i (choice_tree_on a s rest) (choice_tree_on c s rest))
+    choice_tree_on (Choice p a c) s w =
+        class_on (draw_on (choice_ends p) r w) (λ i rest. by_side i (choice_tree_on a s rest) (choice_tree_on c s rest))
     choice_tree_on (Choose ps ts) s w = class_on (draw_on (partial_sums ps) r w) (λ i rest. choice_arm_on ts i s rest)
     choice_tree_on (Uniform x e) s w = value_on (value_of e s) w (λ v. uniform_on r x v s w)
     choice_tree_on (Row ts) s w = choice_row_on ts s w

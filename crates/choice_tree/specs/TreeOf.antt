@@ -1,4 +1,5 @@
--- The tree of a block: a row of the trees of its statements, in their order. A choice among several has the parts and the trees of its arms.
+-- The tree of a block: a row of the trees of its statements, in their order. A choice among several has the parts and the trees
+-- of its arms.
 use Rattle.std.specs.Prelude.{Option, Some, None}
 use Rattle.gcl_core.specs.meaning.Arms.{parts_of}
 use Rattle.gcl_core.specs.meaning.Syntax.{Statement, Statements, done, ◌▸◌, ArmList, no_arm, arm}

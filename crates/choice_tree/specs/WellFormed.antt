@@ -1,4 +1,5 @@
--- Well-formed trees: each weight is at most 1 over a number in range, and a choice among several arms has such parts, one for each arm.
+-- Well-formed trees: each weight is at most 1 over a number in range, and a choice among several arms has such parts, one for
+-- each arm.
 use Rattle.std.specs.Prelude.{◌≡◌, length}
 use Rattle.gcl_core.specs.meaning.Bounds.{IsWeight}
 use Rattle.gcl_core.specs.meaning.Parts.{AreParts}

@@ -107,8 +107,8 @@ fn member(alloc: Global, s: &Stmt) -> Result<Option<Cf>, AllocError>
     }
 }
 
-/// The choice-fix tree of a program's body: a row of the trees of its statements, in their order. It means on bits what the body does,
-/// from every state and under all limits, and is well formed. It refuses where memory runs out.
+/// The choice-fix tree of a program's body: a row of the trees of its statements, in their order. It means on bits what the body
+/// does, from every state and under all limits, and is well formed. It refuses where memory runs out.
 pub fn to_tree(alloc: Global, p: &Checked) -> Result<Cf, AllocError>
     ensures tree { IfOk result (λ t. choice_tree_of t ≡ tree_of (statements_of p.now.body)) }
     ensures meaning { IfOk result (λ t. (n r : ℕ) (s : State) (w : List Bool) →

@@ -10,7 +10,8 @@ ghost use Rattle.draw_cost.specs.inner.Undecided.{undecided_at};
 use draw_tree::bits_for;
 use gcl_core::{Weight, draws};
 
-// The stretches of 2^depth numbers from `first` on, and of their halves, that have more than one class, each as often as it has numbers.
+// The stretches of 2^depth numbers from `first` on, and of their halves, that have more than one class, each as often as it has
+// numbers.
 fn undecided(depth: u32, ends: &[u64], first: u64) -> u128
     requires depth { depth ≤ 63 }
     requires fits { first + 2 ^ depth ≤ 2 ^ 63 }
@@ -31,8 +32,8 @@ fn undecided(depth: u32, ends: &[u64], first: u64) -> u128
     }
 }
 
-/// The bits that one attempt of a choice reads on average, times 2^k for numbers of k bits: the first number of `attempt_bits`, whose
-/// second number is 2^k. It is at most k * 2^k.
+/// The bits that one attempt of a choice reads on average, times 2^k for numbers of k bits: the first number of `attempt_bits`,
+/// whose second number is 2^k. It is at most k * 2^k.
 pub fn choice_bits(p: Weight) -> u128
     requires { IsWeight p }
     ensures value { result ≡ (attempt_bits (choice_ends p)).0 }
@@ -43,8 +44,8 @@ pub fn choice_bits(p: Weight) -> u128
 }
 
 /// The bits that one attempt of a draw with these ends reads on average, times 2^k for numbers of k bits: the first number of
-/// `attempt_bits`, whose second number is 2^k. It is at most k * 2^k. A choice among several arms draws with the partial sums of its
-/// parts as ends. It takes no memory.
+/// `attempt_bits`, whose second number is 2^k. It is at most k * 2^k. A choice among several arms draws with the partial sums of
+/// its parts as ends. It takes no memory.
 pub fn arms_bits(ends: &[u64]) -> u128
     requires { last_end ends.now ≤ GREATEST_DENOMINATOR }
     ensures value { result ≡ (attempt_bits ends.now).0 }

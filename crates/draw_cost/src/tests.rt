@@ -14,8 +14,8 @@ const CHOICES: [(u64, u64, u128); 6] = [
     (3, 8, 14),
 ];
 
-// The parts 1, 2 and 3: the empty string, 0, 1, 00 and 01, so 8 + 4 + 4 + 2 + 2. The parts 2, 0 and 3: the empty string, 0, 1 and 10,
-// so 8 + 4 + 4 + 2. The parts 2, 1 and 0: those of 2/3. One part alone: a number has no bits.
+// The parts 1, 2 and 3: the empty string, 0, 1, 00 and 01, so 8 + 4 + 4 + 2 + 2. The parts 2, 0 and 3: the empty string, 0, 1 and
+// 10, so 8 + 4 + 4 + 2. The parts 2, 1 and 0: those of 2/3. One part alone: a number has no bits.
 const ARMS: [([u64; 3], u128); 4] = [
     ([1, 3, 6], 20),
     ([2, 2, 5], 18),
@@ -23,7 +23,8 @@ const ARMS: [([u64; 3], u128); 4] = [
     ([0, 1, 1], 0),
 ];
 
-// A die: the empty string, 0, 1, 00, 01 and 10, so 8 + 4 + 4 + 2 + 2 + 2. Five sides: the same, since 10 has 4 and what is rejected.
+// A die: the empty string, 0, 1, 00, 01 and 10, so 8 + 4 + 4 + 2 + 2 + 2. Five sides: the same, since 10 has 4 and what is
+// rejected.
 const SIDES: [(u64, u128); 6] = [(1, 0), (2, 2), (3, 8), (4, 8), (5, 22), (6, 22)];
 
 fn choices_are() -> bool {

@@ -29,8 +29,8 @@ fn undecided(depth: u32, rest: u64) -> u128
     }
 }
 
-/// The bits that one attempt of a uniform draw reads on average, times 2^k for numbers of k bits: the first number of `attempt_bits`,
-/// whose second number is 2^k. It is at most k * 2^k.
+/// The bits that one attempt of a uniform draw reads on average, times 2^k for numbers of k bits: the first number of
+/// `attempt_bits`, whose second number is 2^k. It is at most k * 2^k.
 pub fn uniform_bits(bound: u64) -> u128
     requires some { 1 ≤ bound }
     requires fits { bound < 2 ^ 63 }

@@ -45,9 +45,10 @@ fn decided(alloc: Global, depth: u32, ends: &[u64], first: u64) -> Result<Draw, 
     Ok(Draw::Flip(Box::new(alloc, left)?, Box::new(alloc, right)?))
 }
 
-/// The decided draw of some ends, at most [`gcl_core::MOST_ARMS`], of which the last is at most 2^62: the one draw without a flip of two equal leaves in
-/// which each number leads to its class. It is built from the ends, without the perfect draw, which coalesces to it, and has at most
-/// m * k flips for m ends and numbers of k bits. An attempt at it is the attempt among the classes. It refuses where memory runs out.
+/// The decided draw of some ends, at most [`gcl_core::MOST_ARMS`], of which the last is at most 2^62: the one draw without a flip
+/// of two equal leaves in which each number leads to its class. It is built from the ends, without the perfect draw, which
+/// coalesces to it, and has at most m * k flips for m ends and numbers of k bits. An attempt at it is the attempt among the
+/// classes. It refuses where memory runs out.
 pub fn direct(alloc: Global, ends: &[u64]) -> Result<Draw, AllocError>
     requires few { length ends.now ≤ MOST_ARMS }
     requires low { last_end ends.now ≤ GREATEST_DENOMINATOR }

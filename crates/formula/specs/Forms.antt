@@ -92,5 +92,6 @@ abbrev pub FormOf : Form → Expression → Type 0
 FormOf (form.Num n) e = TermOf (One (Num n)) e × IsTrue (fits_64 n)
 FormOf (form.Var x) e = TermOf (One (Var x)) e
 FormOf (On op x a) e = TermOf (on op x a) e
-FormOf (Joined op t u) e = (settling op 0 ≡ []) × IsTerm t × IsTerm u × (e ≡ source.Bin op (term_expression t) (term_expression u))
+FormOf (Joined op t u) e =
+    (settling op 0 ≡ []) × IsTerm t × IsTerm u × (e ≡ source.Bin op (term_expression t) (term_expression u))
 FormOf (Long steps n) e = (steps.items ≡ steps_of e) × (n ≡ depth e)

@@ -48,7 +48,8 @@ steps_at (source.Var x) i = Load x ∷ []
 steps_at (source.Neg a) i = steps_at a i ++ Neg ∷ []
 steps_at (source.Not a) i = steps_at a i ++ Not ∷ []
 steps_at (source.Bin op a b) i =
-    steps_at a i ++ (settling op (i + (step_count a + steps_between op + step_count b + 1)) ++ (steps_at b (i + (step_count a + steps_between op)) ++ joining op ∷ []))
+    steps_at a i ++ (settling op (i + (step_count a + steps_between op + step_count b + 1))
+    ++ (steps_at b (i + (step_count a + steps_between op)) ++ joining op ∷ []))
 
 abbrev pub steps_of : Expression → List Op
 steps_of e = steps_at e 0

@@ -63,7 +63,8 @@ fn over_common(num: u128, den: u128, o_num: u128, o_den: u128) -> Option<(u128, 
     Some((multiple, left, right))
 }
 
-/// The product in lowest terms. Each numerator is reduced with the other's denominator first, so that what is multiplied is no wider than the answer.
+/// The product in lowest terms. Each numerator is reduced with the other's denominator first, so that what is multiplied is no
+/// wider than the answer.
 #[tactic(auto, using(crate::proofs::Terms::product_result, crate::proofs::Terms::product_lowest, std::proofs::lemmas::Bool::Decides::nat_tests))]
 fn reduced_product(num: u128, den: u128, o_num: u128, o_den: u128) -> Option<(u128, u128)>
     requires first { InLowest (num, den) }
@@ -118,7 +119,8 @@ impl Frac {
         let _ = &self.num;
     }
 
-    /// The sum. `None` exactly where the least common multiple of the denominators, one of the two numerators over it, or their sum is above 2^128 − 1.
+    /// The sum. `None` exactly where the least common multiple of the denominators, one of the two numerators over it, or their
+    /// sum is above 2^128 − 1.
     pub fn add(&self, o: &Frac) -> Option<Frac>
         ensures { result ≡ sum_of self.now o.now }
     {
@@ -127,8 +129,8 @@ impl Frac {
         Some(Frac::of(num, den))
     }
 
-    /// The difference. `None` exactly where it is below 0, or the least common multiple of the denominators or one of the two numerators over it is above 2^128 − 1.
-    /// Only tests and users of the crate call it.
+    /// The difference. `None` exactly where it is below 0, or the least common multiple of the denominators or one of the two
+    /// numerators over it is above 2^128 − 1. Only tests and users of the crate call it.
     pub fn sub(&self, o: &Frac) -> Option<Frac>
         ensures { result ≡ difference_of self.now o.now }
     {

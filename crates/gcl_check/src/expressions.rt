@@ -56,7 +56,8 @@ fn reads_marked(e: &Expr, targets: &[bool]) -> bool
 // Checks an expression of the statement with this number: its kind, and that it reads targets alone.
 pub fn check_expression(e: &Expr, kind: Kind, targets: &[bool], stmt: u32) -> Result<(), CheckError>
     requires { ExpressionBelow (expression_of e.now) (length targets.now) }
-    ensures refusal { refusal_answered result ≡ first_refusal stmt (expression_flaw (marked targets.now) kind (expression_of e.now) ∷ []) }
+    ensures refusal { refusal_answered result
+        ≡ first_refusal stmt (expression_flaw (marked targets.now) kind (expression_of e.now) ∷ []) }
     ensures fits { OnOk result (ExpressionFits (expression_of e.now)) }
 {
     if !has_kind(e, kind) {

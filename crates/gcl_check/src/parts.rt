@@ -24,7 +24,8 @@ fn are_zero(arms: &Arms) -> bool
     true
 }
 
-// The sum of the parts in lowest terms is above the greatest denominator. It is never formed, since it may have more than 64 bits.
+// The sum of the parts in lowest terms is above the greatest denominator. It is never formed, since it may have more than 64
+// bits.
 fn are_too_fine(arms: &Arms) -> bool
     requires { 1 ≤ sum (parts_of (list_of_arms arms.now)) }
     ensures { result ≡ nat_lt GREATEST_DENOMINATOR (sum (lowest_parts (parts_of (list_of_arms arms.now)))) }

@@ -49,7 +49,8 @@ fn choose(
     first: Block,
     second: Block,
 ) -> Result<Stmt, AllocError>
-    ensures { IfOk result (λ s. statement_of s ≡ Choose (arm parts.0 (statements_of first) (arm parts.1 (statements_of second) (arm parts.2 done no_arm)))) }
+    ensures { IfOk result (λ s. statement_of s
+        ≡ Choose (arm parts.0 (statements_of first) (arm parts.1 (statements_of second) (arm parts.2 done no_arm)))) }
 {
     let (a, b, c) = parts;
     let last = none(alloc);

@@ -49,8 +49,8 @@ pub fn lex(alloc: Global, text: &[u8]) -> Result<Vec<Token>, LexError>
     }
 }
 
-/// Each list of bytes has exactly one list of tokens, or is refused for exactly one reason at one place, and never both. It is cut
-/// into pieces in at most one way.
+/// Each list of bytes has exactly one list of tokens, or is refused for exactly one reason at one place, and never both. It is
+/// cut into pieces in at most one way.
 pub fn one_answer()
     ensures some { (text : List ℕ) → ((ts : List TheToken) × IsLexed text ts) ⊎ ((r : LexRefusal) × IsRefused text r) }
     ensures pieces { (text : List ℕ) (ps qs : List Piece) → Pieces text ps → Pieces text qs → ps ≡ qs }

@@ -33,8 +33,10 @@ pub fn program_or_refused()
 pub fn one_program()
     ensures program { (text : List ℕ) (tokens : List Token) (p q : SourceProgram) (at places : List ℕ)
         → Derives text tokens p at → Derives text tokens q places → (q ≡ p) × (places ≡ at) }
-    ensures written { (text : List ℕ) (tokens : List Token) (p : SourceProgram) (at : List ℕ) → Derives text tokens p at → HasNoNegative p }
-    ensures arms { (text : List ℕ) (tokens : List Token) (p : SourceProgram) (at : List ℕ) → Derives text tokens p at → BlockCounted p.body }
+    ensures written { (text : List ℕ) (tokens : List Token) (p : SourceProgram) (at : List ℕ) → Derives text tokens p at
+        → HasNoNegative p }
+    ensures arms { (text : List ℕ) (tokens : List Token) (p : SourceProgram) (at : List ℕ) → Derives text tokens p at
+        → BlockCounted p.body }
 {}
 
 /// The program that a text spells is a checked program.
@@ -43,8 +45,8 @@ pub fn spelled_programs_are_checked()
 {}
 
 /// Each list of bytes is read in exactly one way. As it is written, it has one program, with the places of its statements, or is
-/// refused with one code at one place, and never both. As it is checked, it spells one accepted program, or is refused with one code
-/// at one place, and never both.
+/// refused with one code at one place, and never both. As it is checked, it spells one accepted program, or is refused with one
+/// code at one place, and never both.
 pub fn one_reading()
     ensures written { (text : List ℕ) → HasOneReadingAsWritten text }
     ensures checked { (text : List ℕ) → HasOneReading text }

@@ -1,4 +1,5 @@
--- The draws that a table meets on its way through a block, each with the weight with which it is reached, in step with the tables.
+-- The draws that a table meets on its way through a block, each with the weight with which it is reached, in step with the
+-- tables.
 use Rattle.std.specs.Prelude.{ℕ, zero, suc, ◌-◌, List, [], ◌∷◌, ◌++◌, map, Option, length}
 use Rattle.std.specs.List.{sum}
 use Rattle.gcl_core.specs.meaning.Arms.{parts_of}
@@ -22,12 +23,14 @@ drawn_each ends I = map (λ e. (e.0, ends)) I
 -- one uniform draw for each entry that an expression's value bounds
 abbrev pub drawn_bound : (State → Value) → Table → ReachedDraws
 drawn_bound bound [] = []
-drawn_bound bound (e ∷ I) = by_value (bound e.1) (λ f. []) (λ v. by_bound v [] (λ m. (e.0, uniform_ends m) ∷ [])) ++ drawn_bound bound I
+drawn_bound bound (e ∷ I) =
+    by_value (bound e.1) (λ f. []) (λ v. by_bound v [] (λ m. (e.0, uniform_ends m) ∷ [])) ++ drawn_bound bound I
 
 -- at most t turns of a loop, from the table J on
 abbrev pub loop_draws : (State → Value) → (Table → ReachedDraws) → (Table → Flow) → ℕ → Table → ReachedDraws
 loop_draws guard draws body zero J = []
-loop_draws guard draws body (suc t) J = draws (only (holds guard) J) ++ loop_draws guard draws body t (body (only (holds guard) J)).next
+loop_draws guard draws body (suc t) J =
+    draws (only (holds guard) J) ++ loop_draws guard draws body t (body (only (holds guard) J)).next
 
 -- under a limit of n turns, and of r attempts or none
 module _ (n : ℕ) (r : Option ℕ) where
@@ -39,7 +42,8 @@ module _ (n : ℕ) (r : Option ℕ) where
     statement_draws (Uniform x e) I = drawn_bound (value_of e) I
     statement_draws (If e a c) I = block_draws a (only (holds (value_of e)) I) ++ block_draws c (only (fails (value_of e)) I)
     statement_draws (Choice p a c) I =
-        drawn_each (choice_ends p) I ++ (block_draws a (scaled (class_weight p.den r p.num) I) ++ block_draws c (scaled (class_weight p.den r (p.den - p.num)) I))
+        drawn_each (choice_ends p) I ++ (block_draws a (scaled (class_weight p.den r p.num) I)
+        ++ block_draws c (scaled (class_weight p.den r (p.den - p.num)) I))
     statement_draws (Choose arms) I = drawn_each (partial_sums (parts_of arms)) I ++ arms_draws (sum (parts_of arms)) arms I
     statement_draws (While e a) I = loop_draws (value_of e) (block_draws a) (block_flow n r a) n I
 

@@ -18,7 +18,8 @@ use Rattle.gcl_core.specs.weighing.WeightedEnds.{Weighted, sure, scaled, taken_o
 abbrev pub Table : Type 0
 Table = Weighted State
 
--- what becomes of a table in a block: the table after it, the entries that ended, all tables on the way, and the weights of the draws made
+-- what becomes of a table in a block: the table after it, the entries that ended, all tables on the way, and the weights of the
+-- draws made
 pub record Flow : Type 0 where
   pub next : Table
   pub ended : Weighted End
@@ -86,7 +87,8 @@ each step draws I = record { next = going_on (taken_on I step); ended = gone (ta
 
 -- both results together
 abbrev pub both : Weighted End → Flow → Flow → Flow
-both ended f g = record { next = f.next ++ g.next; ended = ended ++ (f.ended ++ g.ended); tables = f.tables ++ g.tables; draws = f.draws ++ g.draws }
+both ended f g = record
+    { next = f.next ++ g.next; ended = ended ++ (f.ended ++ g.ended); tables = f.tables ++ g.tables; draws = f.draws ++ g.draws }
 
 -- no table, and nothing that ended
 abbrev pub no_flow : Flow
@@ -118,14 +120,22 @@ module _ (n : ℕ) (r : Option ℕ) where
     statement_flow (Set x e) I = each (statement_weighted n r (Set x e)) [] I
     statement_flow (Observe e) I = each (statement_weighted n r (Observe e)) [] I
     statement_flow (Uniform x e) I = each (statement_weighted n r (Uniform x e)) (bound_draws (value_of e) r I) I
-    statement_flow (If e a c) I = both (faults (value_of e) I) (block_flow a (only (holds (value_of e)) I)) (block_flow c (only (fails (value_of e)) I))
+    statement_flow (If e a c) I =
+        both (faults (value_of e) I) (block_flow a (only (holds (value_of e)) I)) (block_flow c (only (fails (value_of e)) I))
     statement_flow (Choice p a c) I =
-        let f = both (all_end (limit Attempts) (scaled (no_class_weight p.den r) I)) (block_flow a (scaled (class_weight p.den r p.num) I)) (block_flow c (scaled (class_weight p.den r (p.den - p.num)) I)) in
+        let f = both (all_end (limit Attempts) (scaled (no_class_weight p.den r) I)) (block_flow a
+        (scaled (class_weight p.den r p.num) I)) (block_flow c (scaled (class_weight p.den r (p.den - p.num)) I)) in
         record { next = f.next; ended = f.ended; tables = f.tables; draws = draws_each (draw_weights p.den r) I ++ f.draws }
     statement_flow (Choose arms) I =
         let b = sum (parts_of arms) in
         let f = arms_flow b arms I in
-        record { next = f.next; ended = all_end (limit Attempts) (scaled (no_class_weight b r) I) ++ f.ended; tables = f.tables; draws = draws_each (draw_weights b r) I ++ f.draws }
+        record {
+          next = f.next;
+          ended = all_end (limit Attempts) (scaled (no_class_weight b r) I)
+              ++ f.ended;
+          tables = f.tables;
+          draws = draws_each (draw_weights b r) I ++ f.draws;
+        }
     statement_flow (While e a) I = loop_flow (value_of e) (block_flow a) n I
 
     pub block_flow : Statements → Table → Flow

@@ -13,7 +13,8 @@ pub record Follows (t : TiedTree) (c : Assembled) : Type 0 where
   pub answers : (l : Limits) → InRange l → IsRunOf c l (tied_on t l)
   pub only : ReachesOne c
 
--- it is the code of some tied tree, in which each draw is coalesced, each label has its arm, variables are in place and numbers have 64 bits
+-- it is the code of some tied tree, in which each draw is coalesced, each label has its arm, variables are in place and numbers
+-- have 64 bits
 pub record IsCode (c : Assembled) : Type 0 where
   pub tree : TiedTree
   pub sampleable : TiedIsSampleable tree

@@ -109,7 +109,8 @@ fn emit_pick(
     requires labels { ClassesBelow (count (bit_trees_of arms.now)) (flips_of draw.now) }
     requires arms { RowHasArms (bit_trees_of arms.now) }
     requires low { next.old ≤ length code.old }
-    ensures code { OnOk result (code.new ≡ code.old ++ tree_code (Pick (flips_of draw.now) (bit_trees_of arms.now)) (length code.old) next.old) }
+    ensures code { OnOk result
+        (code.new ≡ code.old ++ tree_code (Pick (flips_of draw.now) (bit_trees_of arms.now)) (length code.old) next.old) }
     ensures loops { OnOk result (next.new ≡ next.old + row_loops (bit_trees_of arms.now)) }
     ensures low { OnOk result (next.new ≤ length code.new) }
     ensures fits { OnOk result (RowFits (bit_trees_of arms.now)) }
@@ -135,7 +136,9 @@ fn emit_arms(
     requires arms { RowHasArms (bit_trees_of arms.now) }
     requires low { next.old ≤ length code.old }
     requires none { starts.old.items ≡ [] }
-    ensures code { OnOk result (code.new ≡ code.old ++ arms_code (bit_trees_of arms.now) (length code.old) next.old (length code.old + arms_size (bit_trees_of arms.now))) }
+    ensures code { OnOk result (code.new
+        ≡ code.old ++ arms_code (bit_trees_of arms.now) (length code.old) next.old
+        (length code.old + arms_size (bit_trees_of arms.now))) }
     ensures loops { OnOk result (next.new ≡ next.old + row_loops (bit_trees_of arms.now)) }
     ensures starts { OnOk result (starts.new.items ≡ starts_of (bit_trees_of arms.now) (length code.old)) }
     ensures low { OnOk result (next.new ≤ length code.new) }
@@ -176,9 +179,11 @@ fn emit_open(
 // Writes the jumps before all arms from the i-th on but that one.
 fn close(code: &mut Instructions, starts: &[usize], i: usize, end: usize)
     requires within { i ≤ length starts.now }
-    requires arms { (before : List Instruction) × (ts : BitTrees) × (c : ℕ) × (code.old ≡ before ++ arms_code ts (length before) c 0) × (drop i starts.now ≡ starts_of ts (length before)) }
+    requires arms { (before : List Instruction) × (ts : BitTrees) × (c : ℕ)
+        × (code.old ≡ before ++ arms_code ts (length before) c 0) × (drop i starts.now ≡ starts_of ts (length before)) }
     ensures size { length code.new ≡ length code.old }
-    ensures code { (before : List Instruction) (ts : BitTrees) (c : ℕ) → code.old ≡ before ++ arms_code ts (length before) c 0 → drop i starts.now ≡ starts_of ts (length before) →
+    ensures code { (before : List Instruction) (ts : BitTrees) (c : ℕ) → code.old ≡ before ++ arms_code ts (length before) c 0
+        → drop i starts.now ≡ starts_of ts (length before) →
         code.new ≡ before ++ arms_code ts (length before) c end }
 {
     if i + 1 < starts.len() {

@@ -22,7 +22,8 @@ pub enum Instr {
     Goto(usize),
     /// Sets this counter of turns to its limit.
     Arm(usize),
-    /// Goes on where the value is 0. Else takes one from this counter of turns and goes back to the target; where none is left, ends.
+    /// Goes on where the value is 0. Else takes one from this counter of turns and goes back to the target; where none is left,
+    /// ends.
     Loop(usize, usize, Formula),
     /// Sets the counter of attempts to its limit.
     Tries,

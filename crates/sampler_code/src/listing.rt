@@ -26,7 +26,9 @@ fn numbered(text: &mut Text, word: &[u8], n: usize) -> Result<(), AllocError>
 fn stored(text: &mut Text, names: &Names, word: &[u8], x: u32, e: &Expr) -> Result<(), AllocError>
     requires place { x < length names.now }
     requires reads { ExpressionBelow (expression_of e.now) (length names.now) }
-    ensures { OnOk result (text.new ≡ text.old ++ (word.now ++ (slice_index_or names.now x [] ++ (codes " " ++ expression_text names.now (expression_of e.now))))) }
+    ensures { OnOk result (text.new
+        ≡ text.old ++ (word.now
+        ++ (slice_index_or names.now x [] ++ (codes " " ++ expression_text names.now (expression_of e.now))))) }
 {
     text.push(word)?;
     text.name(names, x)?;
@@ -36,7 +38,9 @@ fn stored(text: &mut Text, names: &Names, word: &[u8], x: u32, e: &Expr) -> Resu
 
 fn unless(text: &mut Text, names: &Names, e: &Expr, target: usize) -> Result<(), AllocError>
     requires { ExpressionBelow (expression_of e.now) (length names.now) }
-    ensures { OnOk result (text.new ≡ text.old ++ (codes "unless " ++ (expression_text names.now (expression_of e.now) ++ (codes " goto " ++ decimal target)))) }
+    ensures { OnOk result (text.new
+        ≡ text.old ++ (codes "unless "
+        ++ (expression_text names.now (expression_of e.now) ++ (codes " goto " ++ decimal target)))) }
 {
     text.push(b"unless ")?;
     text.expression(names, e)?;
@@ -52,7 +56,8 @@ fn repeated(
 ) -> Result<(), AllocError>
     requires { ExpressionBelow (expression_of e.now) (length names.now) }
     ensures { OnOk result (text.new ≡ text.old
-        ++ (codes "loop " ++ (decimal counter ++ (codes " " ++ (decimal target ++ (codes " " ++ expression_text names.now (expression_of e.now))))))) }
+        ++ (codes "loop " ++ (decimal counter
+        ++ (codes " " ++ (decimal target ++ (codes " " ++ expression_text names.now (expression_of e.now))))))) }
 {
     numbered(text, b"loop ", counter)?;
     numbered(text, b" ", target)?;

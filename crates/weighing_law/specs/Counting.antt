@@ -28,7 +28,8 @@ pub record CountsStrings (run : List Bool → Answer) : Type 0 where
   pub just_read : (x : Outcome) (L : ℕ) → outcome_weight run x L ≡ just_read_weight run x L
   pub ended : (x : Outcome) (L : ℕ) → outcome_weight run x L ≡ ended_in run x L
 
--- The strings of L bits that end in an outcome are never more than 2 ^ L times its mass, and exactly that many at every length that suffices.
+-- The strings of L bits that end in an outcome are never more than 2 ^ L times its mass, and exactly that many at every length
+-- that suffices.
 pub record CountsMasses (run : List Bool → Answer) (p : SourceProgram) (l : Limits) : Type 0 where
   pub within : (x : Outcome) (L : ℕ) → IsWithinShare (ended_in run x L) (2 ^ L) (limited_mass p l x)
   pub exact : (x : Outcome) (L : ℕ) → Suffices run L → IsShare (ended_in run x L) (2 ^ L) (limited_mass p l x)

@@ -1,5 +1,5 @@
--- Where a string of bits is just read to an end: the run ends on it, and needs more bits on each shorter front of it. Samplers on fair
--- bits read so, bit by bit and no further than to their end.
+-- Where a string of bits is just read to an end: the run ends on it, and needs more bits on each shorter front of it. Samplers on
+-- fair bits read so, bit by bit and no further than to their end.
 use Rattle.std.specs.Prelude.{◌≡◌, ℕ, ◌≤◌, Bool, true, false, ◌&&◌, List, [], ◌∷◌, ◌++◌, length, take, IsTrue}
 use Rattle.gcl_core.specs.declared.answers.Answer.{Answer}
 use Rattle.gcl_core.specs.declared.answers.Answer.TheVariants.{Ended, MoreBits}
@@ -27,8 +27,9 @@ is_just_read run x w = each_shorter_front (λ u. needs_more (run u)) w && has_en
 abbrev pub IsReadTo : (List Bool → Answer) → Outcome → ℕ → List Bool → Type 0
 IsReadTo run x read w = (k : ℕ) × (k ≤ length w) × (read ≡ capped k) × IsTrue (is_just_read run x (take k w))
 
--- A run that has ended stays as it is on every longer string, its count of bits included, and the bits that it has read are a string that
--- is just read to its end. One that needs more has read all bits. No string that is just read to an end is the front of another that is.
+-- A run that has ended stays as it is on every longer string, its count of bits included, and the bits that it has read are a
+-- string that is just read to its end. One that needs more has read all bits. No string that is just read to an end is the front
+-- of another that is.
 pub record ReadsInOrder (run : List Bool → Answer) : Type 0 where
   pub stays : (x : Outcome) (read : ℕ) (u v : List Bool) → run u ≡ Ended x read → run (u ++ v) ≡ Ended x read
   pub just_read : (x : Outcome) (read : ℕ) (w : List Bool) → run w ≡ Ended x read → IsReadTo run x read w

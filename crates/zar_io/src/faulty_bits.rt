@@ -19,9 +19,9 @@ pub struct FaultyBits {
 impl FaultyBits {
     ghost use Rattle.zar_io.specs.FaultyBits.{bits_to_come, bits_faults, has_ended, has_failed, bits_fails, bits_number};
 
-    /// The bits of the list, for which it takes the memory here, as it does for the numbers that are to fail. Its calls of `next` are
-    /// numbered from 0 on. One whose number is in `fails` fails and takes no bit, unless a call before it found none left. Each other
-    /// call is answered as by [`ListBits`].
+    /// The bits of the list, for which it takes the memory here, as it does for the numbers that are to fail. Its calls of `next`
+    /// are numbered from 0 on. One whose number is in `fails` fails and takes no bit, unless a call before it found none left.
+    /// Each other call is answered as by [`ListBits`].
     pub fn new(alloc: Global, bits: &[bool], fails: &[u64]) -> Result<FaultyBits, AllocError>
         ensures told { IsTrue ⟦<FaultyBits as Bits>⟧.told }
         ensures left { IfOk result (λ source. bits_to_come source ≡ bits.now) }

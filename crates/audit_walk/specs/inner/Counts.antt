@@ -7,7 +7,8 @@ use Rattle.sampler_run.specs.Held.{Held, IsRestOf}
 use Rattle.audit_walk.specs.Audited.{undecided_by}
 use Rattle.audit_walk.specs.Rows.{Rows, row_count, sum_of_counts}
 
--- the rows are the weights of outcomes over the strings of at most h bits, and on `undecided` strings of h bits the run needs more
+-- the rows are the weights of outcomes over the strings of at most h bits, and on `undecided` strings of h bits the run needs
+-- more
 pub record IsCountOf (run : List Bool → Answer) (h : ℕ) (rows : Rows) (undecided : ℕ) : Type 0 where
   pub weights : (x : Outcome) → row_count x rows ≡ outcome_weight run x h
   pub undecided_is : undecided ≡ undecided_by run h

@@ -1,5 +1,5 @@
--- How steps run on a stack of values, the top first. They are stuck where a value or a variable is missing, the stack is full, or a
--- target does not lie further on.
+-- How steps run on a stack of values, the top first. They are stuck where a value or a variable is missing, the stack is full, or
+-- a target does not lie further on.
 use Rattle.std.specs.Prelude.{◌≡◌, ◌≤◌, ℕ, zero, suc, ◌+◌, ◌-◌, ℤ, pos, neg_ℤ, not, List, [], ◌∷◌, length, Option, Some, None, Result, Ok, Err, nat_lt, slice_index_or, if◌then◌else◌}
 use Rattle.gcl_core.specs.declared.answers.Fault.{Fault}
 use Rattle.gcl_core.specs.meaning.Value.{State, Value, truth_number, is_zero, within_64, applied}

@@ -10,7 +10,8 @@ returns-in_err-top-clause-value c =
 pub returns-in_err-bottom-clause-value : goal.returns-in_err-bottom-clause-value
 returns-in_err-bottom-clause-value c =
     c.from_residual-in_err-bottom.ensures
-    ∙ sym (product_result c.args.num c.args.den c.args.o_num c.args.o_den c.gcd-left.result c.gcd-right.result c.requires.first c.requires.second c.gcd-left.ensures.value c.gcd-right.ensures.value ∙ none_den (c.args.num / c.gcd-left.result * (c.args.o_num / c.gcd-right.result)) _ c.in_err-bottom.ensures)
+    ∙ sym (product_result c.args.num c.args.den c.args.o_num c.args.o_den c.gcd-left.result c.gcd-right.result c.requires.first c.requires.second c.gcd-left.ensures.value c.gcd-right.ensures.value
+    ∙ none_den (c.args.num / c.gcd-left.result * (c.args.o_num / c.gcd-right.result)) _ c.in_err-bottom.ensures)
 
 pub returns-clause-value : goal.returns-clause-value
 returns-clause-value c =

@@ -1,5 +1,5 @@
--- What a block does from a state. Its statements say it once, for whatever it is done in: on a list of bits, as the end of this page has
--- it, or by weight, as WeightedEnds has it. The statements are those of cpGCL; the limits are this project's own rule.
+-- What a block does from a state. Its statements say it once, for whatever it is done in: on a list of bits, as the end of this
+-- page has it, or by weight, as WeightedEnds has it. The statements are those of cpGCL; the limits are this project's own rule.
 use Rattle.std.specs.Prelude.{ℕ, zero, suc, ℤ, pos, negsuc, Bool, List, Option, Some, None, Ok, Err, if◌then◌else◌, slice_set}
 use Rattle.gcl_core.specs.declared.answers.Fault.{Fault}
 use Rattle.gcl_core.specs.declared.answers.Fault.TheVariants.{BadBound}

@@ -1,6 +1,5 @@
--- Facts of all that a program names: its variables lie below a count, its numbers have 64 bits, and a fact of each weight and of the
--- parts of each choice among several.
--- Programs of the code have numbers of 64 bits by their type.
+-- Facts of all that a program names: its variables lie below a count, its numbers have 64 bits, and a fact of each weight and of
+-- the parts of each choice among several. Programs of the code have numbers of 64 bits by their type.
 use Rattle.std.specs.Prelude.{ℕ, ◌<◌, ◌≤◌, ℤ, IsTrue, List, length}
 use Rattle.gcl_core.specs.declared.rules.TheConstants.{GREATEST_DENOMINATOR}
 use Rattle.gcl_core.specs.declared.syntax.Weight.{Weight}

@@ -77,7 +77,8 @@ attempt_on ends w = attempt_from ends (bits_for (last_end ends)) [] w
 -- At most r attempts, until one gives a class; none, where each of them was rejected.
 abbrev pub attempts_with : (List Bool → Reading (Option ℕ)) → ℕ → List Bool → Reading (Option ℕ)
 attempts_with attempt zero w = gives None w
-attempts_with attempt (suc r) w = after (attempt w) (λ class rest. elim class [ Some i ↦ gives (Some i) rest | None ↦ attempts_with attempt r rest ])
+attempts_with attempt (suc r) w =
+    after (attempt w) (λ class rest. elim class [ Some i ↦ gives (Some i) rest | None ↦ attempts_with attempt r rest ])
 
 abbrev pub draw_on : List ℕ → ℕ → List Bool → Reading (Option ℕ)
 draw_on ends r w = attempts_with (attempt_on ends) r w
@@ -97,8 +98,9 @@ class_size ends i = class_size_from 0 ends i
 abbrev pub rejected_numbers : ℕ → ℕ
 rejected_numbers b = 2 ^ bits_for b - b
 
--- Of the strings of k * r bits, how many r attempts read to one given number that has a class, where q numbers of k bits are rejected:
--- either the first attempt gives the number and the other bits are free, or it is rejected and a later one gives it. It is the sum over j < r of 2 ^ (k * (r - 1 - j)) * q ^ j.
+-- Of the strings of k * r bits, how many r attempts read to one given number that has a class, where q numbers of k bits are
+-- rejected: either the first attempt gives the number and the other bits are free, or it is rejected and a later one gives it. It
+-- is the sum over j < r of 2 ^ (k * (r - 1 - j)) * q ^ j.
 abbrev pub strings_to_a_number : ℕ → ℕ → ℕ → ℕ
 strings_to_a_number k q zero = 0
 strings_to_a_number k q (suc r) = 2 ^ (k * r) + q * strings_to_a_number k q r

@@ -1,5 +1,5 @@
--- The order of outcomes: values ascend and come first, then the faults, then the limits; and that of what a tally counts, where the
--- runs that needed more bits come last. This project's own order.
+-- The order of outcomes: values ascend and come first, then the faults, then the limits; and that of what a tally counts, where
+-- the runs that needed more bits come last. This project's own order.
 use Rattle.std.specs.Prelude.{ℕ, ℤ, pos, Bool, true, false, nat_lt, int_lt, ◌==◌, ◌&&◌, ◌||◌}
 use Rattle.gcl_core.specs.declared.answers.Fault.TheVariants.{Overflow, ZeroDivisor, BadBound}
 use Rattle.gcl_core.specs.declared.answers.Limit.TheVariants.{Turns, Attempts, Rounds}

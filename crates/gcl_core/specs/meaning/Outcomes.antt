@@ -1,5 +1,5 @@
--- Outcomes: whether two are the same, two keys of a tally too; the state in which a round begins, and the outcome of a result. This
--- project's own outcomes are values, faults and limits.
+-- Outcomes: whether two are the same, two keys of a tally too; the state in which a round begins, and the outcome of a result.
+-- This project's own outcomes are values, faults and limits.
 use Rattle.std.specs.Prelude.{ℕ, pos, Bool, true, false, Ok, Err, replicate}
 use Rattle.std.specs.Ordering.{int_eq}
 use Rattle.gcl_core.specs.declared.answers.Fault.{Fault}

@@ -23,7 +23,8 @@ by_round (limit l) result stop again = stop (outcome.Limit l)
 -- At most R rounds of a body, until one ends the run in an outcome.
 abbrev pub rounds_with : (List Bool → Reading End) → Expression → ℕ → List Bool → Reading Outcome
 rounds_with body result zero w = gives (outcome.Limit Rounds) w
-rounds_with body result (suc R) w = after (body w) (λ e rest. by_round e result (λ x. gives x rest) (rounds_with body result R rest))
+rounds_with body result (suc R) w =
+    after (body w) (λ e rest. by_round e result (λ x. gives x rest) (rounds_with body result R rest))
 
 abbrev pub rounds_on : SourceProgram → ℕ → ℕ → ℕ → List Bool → Reading Outcome
 rounds_on p n r R w = rounds_with (block_on n r p.body (zeros (length p.names))) p.result R w

@@ -8,8 +8,8 @@ use Rattle.gcl_core.specs.declared.answers.Fault.{Fault}
 use Rattle.gcl_core.specs.declared.answers.Fault.TheVariants.{Overflow, ZeroDivisor}
 use Rattle.gcl_core.specs.meaning.Syntax.{Expression, Num, Truth, Var, Neg, Not, Bin}
 
--- A number for each name. A variable beyond the state would read as 0: that of a checked program lies below the count of the names, and
--- the numbers of its runs have 64 bits.
+-- A number for each name. A variable beyond the state would read as 0: that of a checked program lies below the count of the
+-- names, and the numbers of its runs have 64 bits.
 abbrev pub State : Type 0
 State = List ℤ
 
@@ -62,7 +62,8 @@ applied Ge x y = Ok (truth_number (int_le y x))
 applied And x y = Ok (truth_number (not (is_zero x) && not (is_zero y)))
 applied Or x y = Ok (truth_number (not (is_zero x) || not (is_zero y)))
 
--- The left side is evaluated first. Where it settles `and` or `or`, the right side is not evaluated, and none of its faults counts.
+-- The left side is evaluated first. Where it settles `and` or `or`, the right side is not evaluated, and none of its faults
+-- counts.
 abbrev pub value_of : Expression → State → Value
 value_of (Num z) s = Ok z
 value_of (Truth b) s = Ok (truth_number b)

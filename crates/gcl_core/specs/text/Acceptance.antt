@@ -1,5 +1,6 @@
 -- Which programs are accepted, and the first refusal of one that is not. That weights are fractions up to 1, that parts are not
--- all 0, that numbers are no truths, that a name which is read is set somewhere, the two bounds and the order of refusals are this project's own rule.
+-- all 0, that numbers are no truths, that a name which is read is set somewhere, the two bounds and the order of refusals are
+-- this project's own rule.
 use Rattle.std.specs.Prelude.{◌≡◌, ℕ, ◌+◌, Bool, true, ◌&&◌, ◌==◌, nat_lt, if◌then◌else◌, List, [], ◌∷◌, ◌++◌, map, length, Option, Some, None}
 use Rattle.std.specs.List.{sum}
 use Rattle.gcl_core.specs.declared.rules.TheConstants.{GREATEST_DENOMINATOR, MOST_NAMES}

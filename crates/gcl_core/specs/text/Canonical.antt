@@ -111,7 +111,8 @@ opening k e = around (key_mark k ∷ a_space ∷ []) e (a_space ∷ symbol_mark 
 -- `choice NUM/NUM {`
 abbrev pub choice_opening : Weight → List Mark
 choice_opening w =
-    key_mark key.Choice ∷ a_space ∷ digits_mark w.num ∷ symbol_mark sym.Slash ∷ digits_mark w.den ∷ a_space ∷ symbol_mark sym.LeftBrace ∷ []
+    key_mark key.Choice ∷ a_space ∷ digits_mark w.num ∷ symbol_mark sym.Slash ∷ digits_mark w.den ∷ a_space
+    ∷ symbol_mark sym.LeftBrace ∷ []
 
 -- `choose {`
 abbrev pub choose_opening : List Mark
@@ -143,7 +144,8 @@ else_lines n (s ▸ b) lines = line n (between key.Else) ++ lines
 abbrev mutual
   pub statement_lines : ℕ → Statement → List Mark
   statement_lines n Skip = line n (key_mark key.Skip ∷ symbol_mark sym.Semicolon ∷ [])
-  statement_lines n (Set x e) = line n (around (name_mark x ∷ a_space ∷ symbol_mark sym.Assign ∷ a_space ∷ []) e (symbol_mark sym.Semicolon ∷ []))
+  statement_lines n (Set x e) =
+      line n (around (name_mark x ∷ a_space ∷ symbol_mark sym.Assign ∷ a_space ∷ []) e (symbol_mark sym.Semicolon ∷ []))
   statement_lines n (Uniform x e) =
       line n
       (around
@@ -155,7 +157,8 @@ abbrev mutual
       line n (opening key.If e) ++ (block_lines (suc n) a ++ (else_lines n c (block_lines (suc n) c) ++ line n closing))
   statement_lines n (While e a) = line n (opening key.While e) ++ (block_lines (suc n) a ++ line n closing)
   statement_lines n (Choice w a c) =
-      line n (choice_opening w) ++ (block_lines (suc n) a ++ (line n (between key.Or) ++ (block_lines (suc n) c ++ line n closing)))
+      line n (choice_opening w)
+      ++ (block_lines (suc n) a ++ (line n (between key.Or) ++ (block_lines (suc n) c ++ line n closing)))
   statement_lines n (Choose arms) = line n choose_opening ++ (arm_lines (suc n) [] arms ++ line n closing)
 
   pub block_lines : ℕ → Statements → List Mark

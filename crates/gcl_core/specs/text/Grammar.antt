@@ -62,22 +62,28 @@ mutual
     in_brackets : {ts rest : List Word} {e : Expression} → ReadsPhrase level.Or ts e (word.Sym sym.RightParen ∷ rest)
         → ReadsPhrase level.Atom (word.Sym sym.LeftParen ∷ ts) e rest
     -- `-` sign, or an atom
-    with_sign : {ts rest : List Word} {e : Expression} → ReadsPhrase level.Sign ts e rest → ReadsPhrase level.Sign (word.Sym sym.Minus ∷ ts) (Neg e) rest
+    with_sign : {ts rest : List Word} {e : Expression} → ReadsPhrase level.Sign ts e rest
+        → ReadsPhrase level.Sign (word.Sym sym.Minus ∷ ts) (Neg e) rest
     without_sign : {ts rest : List Word} {e : Expression} → ReadsPhrase level.Atom ts e rest → ReadsPhrase level.Sign ts e rest
     -- sum [ (`=` | `!=` | `<` | `<=` | `>` | `>=`) sum ]
-    a_comparison : {ts mid rest : List Word} {v : Word} {o : BinOp} {a b : Expression} → ReadsPhrase level.Sum ts a (v ∷ mid) → operator v ≡ Some o
+    a_comparison : {ts mid rest : List Word} {v : Word} {o : BinOp} {a b : Expression} → ReadsPhrase level.Sum ts a (v ∷ mid)
+        → operator v ≡ Some o
         → level_of o ≡ level.Compare → ReadsPhrase level.Sum mid b rest → ReadsPhrase level.Compare ts (Bin o a b) rest
     no_comparison : {ts rest : List Word} {e : Expression} → ReadsPhrase level.Sum ts e rest → ReadsPhrase level.Compare ts e rest
     -- `not` not, or a comparison
-    with_not : {ts rest : List Word} {e : Expression} → ReadsPhrase level.Not ts e rest → ReadsPhrase level.Not (word.Key key.Not ∷ ts) (Not e) rest
+    with_not : {ts rest : List Word} {e : Expression} → ReadsPhrase level.Not ts e rest
+        → ReadsPhrase level.Not (word.Key key.Not ∷ ts) (Not e) rest
     without_not : {ts rest : List Word} {e : Expression} → ReadsPhrase level.Compare ts e rest → ReadsPhrase level.Not ts e rest
-    -- or = and { `or` and }, and = not { `and` not }, sum = product { (`+` | `-`) product }, product = sign { (`*` | `/` | `%`) sign }
-    a_row : {l : Level} {ts mid rest : List Word} {a e : Expression} → IsRow l → ReadsPhrase (above l) ts a mid → ReadsMore l a mid e rest → ReadsPhrase l ts e rest
+    -- or = and { `or` and }, and = not { `and` not }, sum = product { (`+` | `-`) product }, product = sign { (`*` | `/` | `%`)
+    -- sign }
+    a_row : {l : Level} {ts mid rest : List Word} {a e : Expression} → IsRow l → ReadsPhrase (above l) ts a mid
+        → ReadsMore l a mid e rest → ReadsPhrase l ts e rest
 
   -- where a was read so far, the rest of a row of this level makes e of it
   pub data ReadsMore : Level → Expression → List Word → Expression → List Word → Type 0 where
     no_more : {l : Level} {a : Expression} {ts : List Word} → ReadsMore l a ts a ts
-    one_more : {l : Level} {ts mid rest : List Word} {v : Word} {o : BinOp} {a b e : Expression} → operator v ≡ Some o → level_of o ≡ l
+    one_more : {l : Level} {ts mid rest : List Word} {v : Word} {o : BinOp} {a b e : Expression} → operator v ≡ Some o
+        → level_of o ≡ l
         → ReadsPhrase (above l) ts b mid → ReadsMore l (Bin o a b) mid e rest → ReadsMore l a (v ∷ ts) e rest
 
 -- an expression is a phrase of the loosest level
@@ -98,39 +104,48 @@ mutual
     an_assignment : {x : ℕ} {ts rest : List Word} {e : Expression} → ReadsExpression ts e (word.Sym sym.Semicolon ∷ rest)
         → ReadsStatement (word.Name x ∷ word.Sym sym.Assign ∷ ts) (Set x e) rest
     -- `NAME ~ uniform ( expr ) ;`
-    a_uniform : {x : ℕ} {ts rest : List Word} {e : Expression} → ReadsExpression ts e (word.Sym sym.RightParen ∷ word.Sym sym.Semicolon ∷ rest)
-        → ReadsStatement (word.Name x ∷ word.Sym sym.Tilde ∷ word.Key key.Uniform ∷ word.Sym sym.LeftParen ∷ ts) (Uniform x e) rest
+    a_uniform : {x : ℕ} {ts rest : List Word} {e : Expression}
+        → ReadsExpression ts e (word.Sym sym.RightParen ∷ word.Sym sym.Semicolon ∷ rest)
+        → ReadsStatement (word.Name x ∷ word.Sym sym.Tilde ∷ word.Key key.Uniform ∷ word.Sym sym.LeftParen ∷ ts)
+        (Uniform x e) rest
     -- `observe expr ;`
     an_observation : {ts rest : List Word} {e : Expression} → ReadsExpression ts e (word.Sym sym.Semicolon ∷ rest)
         → ReadsStatement (word.Key key.Observe ∷ ts) (Observe e) rest
     -- `if expr block [ else block ]`
-    an_if : {ts mid after rest : List Word} {e : Expression} {a c : Statements} → ReadsExpression ts e mid → ReadsBlock mid a after → ReadsElse after c rest
+    an_if : {ts mid after rest : List Word} {e : Expression} {a c : Statements} → ReadsExpression ts e mid
+        → ReadsBlock mid a after → ReadsElse after c rest
         → ReadsStatement (word.Key key.If ∷ ts) (If e a c) rest
     -- `while expr block`
     a_while : {ts mid rest : List Word} {e : Expression} {a : Statements} → ReadsExpression ts e mid → ReadsBlock mid a rest
         → ReadsStatement (word.Key key.While ∷ ts) (While e a) rest
     -- `choice NUMBER / NUMBER block or block`
-    a_choice : {ts mid rest : List Word} {n d : ℕ} {a c : Statements} → ReadsBlock ts a (word.Key key.Or ∷ mid) → ReadsBlock mid c rest
-        → ReadsStatement (word.Key key.Choice ∷ word.Number n ∷ word.Sym sym.Slash ∷ word.Number d ∷ ts) (Choice (written_weight n d) a c) rest
+    a_choice : {ts mid rest : List Word} {n d : ℕ} {a c : Statements} → ReadsBlock ts a (word.Key key.Or ∷ mid)
+        → ReadsBlock mid c rest
+        → ReadsStatement (word.Key key.Choice ∷ word.Number n ∷ word.Sym sym.Slash ∷ word.Number d ∷ ts)
+        (Choice (written_weight n d) a c) rest
     -- `choose { NUMBER : block | NUMBER : block .. }`, with at most MOST_ARMS arms
     a_choose : {ts mid rest : List Word} {n : ℕ} {b : Statements} {arms : ArmList} → ReadsBlock ts b (word.Sym sym.Bar ∷ mid)
         → ReadsArms (MOST_ARMS - 1) mid arms (word.Sym sym.RightBrace ∷ rest)
-        → ReadsStatement (word.Key key.Choose ∷ word.Sym sym.LeftBrace ∷ word.Number n ∷ word.Sym sym.Colon ∷ ts) (Choose (arm n b arms)) rest
+        → ReadsStatement (word.Key key.Choose ∷ word.Sym sym.LeftBrace ∷ word.Number n ∷ word.Sym sym.Colon ∷ ts)
+        (Choose (arm n b arms)) rest
 
   -- one arm or more, at most as many as the number says
   pub data ReadsArms : ℕ → List Word → ArmList → List Word → Type 0 where
     last_arm : {k n : ℕ} {ts rest : List Word} {b : Statements} → ReadsBlock ts b rest
         → ReadsArms (suc k) (word.Number n ∷ word.Sym sym.Colon ∷ ts) (arm n b no_arm) rest
-    one_more_arm : {k n : ℕ} {ts mid rest : List Word} {b : Statements} {arms : ArmList} → ReadsBlock ts b (word.Sym sym.Bar ∷ mid) → ReadsArms k mid arms rest
+    one_more_arm : {k n : ℕ} {ts mid rest : List Word} {b : Statements} {arms : ArmList}
+        → ReadsBlock ts b (word.Sym sym.Bar ∷ mid) → ReadsArms k mid arms rest
         → ReadsArms (suc k) (word.Number n ∷ word.Sym sym.Colon ∷ ts) (arm n b arms) rest
 
   pub data ReadsStatements : List Word → Statements → List Word → Type 0 where
     no_statement : {ts : List Word} → ReadsStatements ts done ts
-    a_statement : {ts mid rest : List Word} {s : Statement} {b : Statements} → ReadsStatement ts s mid → ReadsStatements mid b rest → ReadsStatements ts (s ▸ b) rest
+    a_statement : {ts mid rest : List Word} {s : Statement} {b : Statements} → ReadsStatement ts s mid
+        → ReadsStatements mid b rest → ReadsStatements ts (s ▸ b) rest
 
   -- `{` statements `}`
   pub data ReadsBlock : List Word → Statements → List Word → Type 0 where
-    in_braces : {ts rest : List Word} {b : Statements} → ReadsStatements ts b (word.Sym sym.RightBrace ∷ rest) → ReadsBlock (word.Sym sym.LeftBrace ∷ ts) b rest
+    in_braces : {ts rest : List Word} {b : Statements} → ReadsStatements ts b (word.Sym sym.RightBrace ∷ rest)
+        → ReadsBlock (word.Sym sym.LeftBrace ∷ ts) b rest
 
   -- where there is no `else`, the block is empty
   pub data ReadsElse : List Word → Statements → List Word → Type 0 where

@@ -44,6 +44,9 @@ pub record PiecesReach (text : List ℕ) (at : ℕ) (rest : List ℕ) : Type 0 w
 -- the text is refused: for its length, or at the first place where no piece begins, a number is too wide or a name is too long
 pub data IsRefused : List ℕ → LexRefusal → Type 0 where
   long_text : {text : List ℕ} → LONGEST_TEXT < length text → IsRefused text text_too_long
-  no_piece : {text rest : List ℕ} {at : ℕ} → PiecesReach text at rest → 0 < length rest → NoPiece rest → IsRefused text (bad_byte at)
-  wide_number : {text rest : List ℕ} {at n : ℕ} → PiecesReach text at rest → Longest kind.Number rest n → GREATEST_LITERAL < digits_value 10 (take n rest) → IsRefused text (number_too_wide at)
-  long_name : {text rest : List ℕ} {at n : ℕ} → PiecesReach text at rest → Longest kind.Name rest n → LONGEST_NAME < n → IsRefused text (name_too_long at)
+  no_piece : {text rest : List ℕ} {at : ℕ} → PiecesReach text at rest → 0 < length rest → NoPiece rest
+      → IsRefused text (bad_byte at)
+  wide_number : {text rest : List ℕ} {at n : ℕ} → PiecesReach text at rest → Longest kind.Number rest n
+      → GREATEST_LITERAL < digits_value 10 (take n rest) → IsRefused text (number_too_wide at)
+  long_name : {text rest : List ℕ} {at n : ℕ} → PiecesReach text at rest → Longest kind.Name rest n → LONGEST_NAME < n
+      → IsRefused text (name_too_long at)

@@ -1,5 +1,5 @@
--- Marks, of which a canonical text is written: words and blanks. A mark's bytes are a token, a space or a line feed. This project's
--- own rule.
+-- Marks, of which a canonical text is written: words and blanks. A mark's bytes are a token, a space or a line feed. This
+-- project's own rule.
 use Rattle.std.specs.Prelude.{ℕ, List, [], ◌∷◌, flat_map, codes, decimal, slice_index_or}
 use Rattle.gcl_core.specs.declared.tokens.Key.{Key}
 use Rattle.gcl_core.specs.declared.tokens.Sym.{Sym}

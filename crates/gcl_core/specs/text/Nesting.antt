@@ -39,11 +39,13 @@ count_behind (token.Key key.Or) c = c + 1
 count_behind (token.Key key.Not) c = c + 1
 count_behind _ c = c
 
--- from this level and this count on, the index of the first token that makes the level more than DEEPEST_NESTING or the count more than MOST_OPERATORS
+-- from this level and this count on, the index of the first token that makes the level more than DEEPEST_NESTING or the count
+-- more than MOST_OPERATORS
 unfoldable pub breaks_from : ℕ → ℕ → List TokenKind → Option ℕ
 breaks_from n c [] = None
 breaks_from n c (k ∷ ks) =
-    if nat_lt DEEPEST_NESTING (level_behind k n) || nat_lt MOST_OPERATORS (count_behind k c) then Some 0 else option_map (λ i. i + 1) (breaks_from (level_behind k n) (count_behind k c) ks)
+    if nat_lt DEEPEST_NESTING (level_behind k n) || nat_lt MOST_OPERATORS (count_behind k c) then Some 0
+    else option_map (λ i. i + 1) (breaks_from (level_behind k n) (count_behind k c) ks)
 
 -- the index of the first token that breaks one of the two rules
 abbrev pub nesting_break : List TokenKind → Option ℕ

@@ -70,7 +70,8 @@ pub record Piece : Type 0 where
 -- these pieces, each the longest, lead from the front of the text to its rest
 pub data Leads : List ℕ → List Piece → List ℕ → Type 0 where
   no_piece_more : {text : List ℕ} → Leads text [] text
-  one_piece_more : {text rest : List ℕ} {k : PieceKind} {n : ℕ} {ps : List Piece} → Longest k text n → Leads (drop n text) ps rest → Leads text (record { kind = k; bytes = take n text } ∷ ps) rest
+  one_piece_more : {text rest : List ℕ} {k : PieceKind} {n : ℕ} {ps : List Piece} → Longest k text n → Leads (drop n text) ps rest
+      → Leads text (record { kind = k; bytes = take n text } ∷ ps) rest
 
 -- the text is cut into these pieces
 abbrev pub Pieces : List ℕ → List Piece → Type 0

@@ -33,5 +33,6 @@ abbrev mutual
   places_in_else no_else = []
   places_in_else (an_else b) = places_in_block b
 
-abbrev pub places_in_program : {ts rest : List Word} {body : Statements} {result : Expression} → ReadsProgram ts body result rest → List ℕ
+abbrev pub places_in_program : {ts rest : List Word} {body : Statements} {result : Expression} → ReadsProgram ts body result rest
+    → List ℕ
 places_in_program p = places_in p.statements ++ suc (length p.middle) ∷ []

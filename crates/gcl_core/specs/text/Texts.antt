@@ -1,5 +1,5 @@
--- What a text is read as: a program, or the first refusal, with its code and its place in the text. The order is this project's own
--- rule: the text's pieces, the nesting of its tokens, the grammar, and then the rules of acceptance.
+-- What a text is read as: a program, or the first refusal, with its code and its place in the text. The order is this project's
+-- own rule: the text's pieces, the nesting of its tokens, the grammar, and then the rules of acceptance.
 use Rattle.std.specs.Prelude.{◌≡◌, ℕ, List, Option, Some, None}
 use Rattle.std.specs.List.{slice_get}
 use Rattle.gcl_core.specs.declared.refusals.TheConstants.{TEXT_TOO_LONG, BAD_BYTE, NUMBER_TOO_WIDE, NAME_TOO_LONG, UNEXPECTED, TOO_DEEP, KIND_MISMATCH, UNKNOWN_NAME, TOO_MANY_NAMES, ZERO_DENOMINATOR, WEIGHT_ABOVE_ONE, TOO_FINE}
@@ -28,8 +28,10 @@ pub data IsRefusedText (text : List ℕ) : ℕ → Option ℕ → Type 0 where
   no_piece : {at : ℕ} → IsRefused text (bad_byte at) → IsRefusedText text BAD_BYTE (Some at)
   wide_number : {at : ℕ} → IsRefused text (number_too_wide at) → IsRefusedText text NUMBER_TOO_WIDE (Some at)
   long_name : {at : ℕ} → IsRefused text (name_too_long at) → IsRefusedText text NAME_TOO_LONG (Some at)
-  unexpected : {at : ℕ} {tokens : List Token} → IsLexed text tokens → Nests (kinds_of tokens) → IsUnexpected text tokens at → IsRefusedText text UNEXPECTED (Some at)
-  too_deep : {at : ℕ} {tokens : List Token} → IsLexed text tokens → IsTooDeep text tokens at → IsRefusedText text TOO_DEEP (Some at)
+  unexpected : {at : ℕ} {tokens : List Token} → IsLexed text tokens → Nests (kinds_of tokens) → IsUnexpected text tokens at
+      → IsRefusedText text UNEXPECTED (Some at)
+  too_deep : {at : ℕ} {tokens : List Token} → IsLexed text tokens → IsTooDeep text tokens at
+      → IsRefusedText text TOO_DEEP (Some at)
 
 -- ---- as it is checked
 
@@ -43,7 +45,8 @@ flaw_code too_fine = TOO_FINE
 -- a program with these places is not accepted, for the reason of this code, at the place of the statement that has the flaw
 pub data IsRefusedProgram (p : SourceProgram) (places : List ℕ) : ℕ → Option ℕ → Type 0 where
   many_names : refusal_of p ≡ Some too_many_names → IsRefusedProgram p places TOO_MANY_NAMES None
-  has_flaw : {flaw : Flaw} {n at : ℕ} → refusal_of p ≡ Some (flawed flaw n) → slice_get places n ≡ Some at → IsRefusedProgram p places (flaw_code flaw) (Some at)
+  has_flaw : {flaw : Flaw} {n at : ℕ} → refusal_of p ≡ Some (flawed flaw n) → slice_get places n ≡ Some at
+      → IsRefusedProgram p places (flaw_code flaw) (Some at)
 
 -- the text spells this program: it has an accepted program, whose weights are in lowest terms here
 pub record Spells (text : List ℕ) (p : SourceProgram) : Type 0 where
@@ -56,4 +59,5 @@ pub record Spells (text : List ℕ) (p : SourceProgram) : Type 0 where
 -- the text spells no program
 pub data SpellsNone (text : List ℕ) : ℕ → Option ℕ → Type 0 where
   as_text : {code : ℕ} {at : Option ℕ} → IsRefusedText text code at → SpellsNone text code at
-  as_program : {p : SourceProgram} {places : List ℕ} {code : ℕ} {at : Option ℕ} → IsWrittenIn text p places → IsRefusedProgram p places code at → SpellsNone text code at
+  as_program : {p : SourceProgram} {places : List ℕ} {code : ℕ} {at : Option ℕ} → IsWrittenIn text p places
+      → IsRefusedProgram p places code at → SpellsNone text code at

@@ -1,4 +1,5 @@
--- The tokens of pieces: a token for each piece that is no blank and no comment, with the bytes that it spans. This project's own rule.
+-- The tokens of pieces: a token for each piece that is no blank and no comment, with the bytes that it spans. This project's own
+-- rule.
 use Rattle.std.specs.Prelude.{ℕ, ◌+◌, Bool, List, [], ◌∷◌, length, Option, Some, None, option_map, map}
 use Rattle.std.specs.List.{cons_option}
 use Rattle.std.specs.Str.Parse.{digits_value}

@@ -1,5 +1,5 @@
--- Fractions, as two whole numbers with a second of at least 1, but for a division by a rest of nothing. They have no width and no lowest terms: two are equal where their
--- cross products are.
+-- Fractions, as two whole numbers with a second of at least 1, but for a division by a rest of nothing. They have no width and no
+-- lowest terms: two are equal where their cross products are.
 use Rattle.std.specs.Prelude.{◌≡◌, ℕ, zero, suc, ◌+◌, ◌*◌, ◌-◌, ◌≤◌, ◌<◌}
 
 abbrev pub Fraction : Type 0

@@ -41,11 +41,13 @@ module _ (p : SourceProgram) (n : ℕ) (r : Option ℕ) where
 
   -- ---- all rounds
 
-  -- The outcomes that are meant, in one of R rounds, and the limit of rounds where it is meant and all have failed. Without a limit of
-  -- rounds, where a round fails with probability below 1, what a round gives is divided by the probability that it does not fail.
+  -- The outcomes that are meant, in one of R rounds, and the limit of rounds where it is meant and all have failed. Without a
+  -- limit of rounds, where a round fails with probability below 1, what a round gives is divided by the probability that it does
+  -- not fail.
   abbrev pub mass_of_those : Option ℕ → (Outcome → Bool) → Fraction
   mass_of_those (Some R) meant =
-      plus (times (round_mass meant) (power_sum failed_mass R)) (if meant (outcome.Limit Rounds) then power failed_mass R else zero_share)
+      plus (times (round_mass meant) (power_sum failed_mass R))
+      (if meant (outcome.Limit Rounds) then power failed_mass R else zero_share)
   mass_of_those None meant = divided_by_rest (round_mass meant) failed_mass
 
   abbrev pub mass_of : Option ℕ → Outcome → Fraction

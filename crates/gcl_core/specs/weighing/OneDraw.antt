@@ -15,8 +15,8 @@ Ascends c (d ∷ ends) = (c ≤ d) × Ascends d ends
 abbrev pub draw_weight : List ℕ → ℕ → Option ℕ → ℕ → ℕ
 draw_weight ends r class L = string_weight (λ w. reading_to (λ c. option_eq ◌==◌ c class) (draw_on ends r w)) L
 
--- The law, at every length L that has the bits of all r attempts, k * r: a class weighs 2 ^ L by its numbers' share of the strings of
--- k * r bits, the limit of attempts what is left, and no string of that length needs more bits.
+-- The law, at every length L that has the bits of all r attempts, k * r: a class weighs 2 ^ L by its numbers' share of the
+-- strings of k * r bits, the limit of attempts what is left, and no string of that length needs more bits.
 module _ (ends : List ℕ) (r : ℕ) where
   abbrev pub attempt_bits : ℕ
   attempt_bits = bits_for (last_end ends)

@@ -13,7 +13,8 @@ weight_at (Some true) here longer = here
 weight_at (Some false) here longer = 0
 weight_at None here longer = longer
 
--- the sum of 2 ^ (h - length v) over the strings v of at most h bits such that u ++ v, and no shorter one, is read to an end that is meant
+-- the sum of 2 ^ (h - length v) over the strings v of at most h bits such that u ++ v, and no shorter one, is read to an end that
+-- is meant
 abbrev pub string_weight_from : (List Bool → Option Bool) → ℕ → List Bool → ℕ
 string_weight_from read zero u = weight_at (read u) 1 0
 string_weight_from read (suc h) u =

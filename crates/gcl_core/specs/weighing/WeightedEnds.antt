@@ -1,5 +1,5 @@
--- The ends of a block, each with its weight, by the same statements as on bits, of which none is seen. It is the weighted sum by which
--- cpGCL says what a program means, cut off at the limits; all paths are listed, and none of weight 0.
+-- The ends of a block, each with its weight, by the same statements as on bits, of which none is seen. It is the weighted sum by
+-- which cpGCL says what a program means, cut off at the limits; all paths are listed, and none of weight 0.
 use Rattle.std.specs.Prelude.{ℕ, zero, suc, ◌+◌, ◌-◌, ◌*◌, ◌^◌, List, [], ◌∷◌, ◌++◌, map, Option, Some, None}
 use Rattle.gcl_core.specs.declared.answers.Limit.TheVariants.{Attempts}
 use Rattle.gcl_core.specs.meaning.Syntax.{Statement, Statements}

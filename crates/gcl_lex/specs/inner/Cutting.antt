@@ -29,7 +29,8 @@ abbrev pub long : PieceKind → ℕ → Option Front
 long c n = Some (record { kind = c; len = n })
 
 abbrev pub symbol_front : ℕ → List ℕ → Option Front
-symbol_front b (c ∷ bs) = if is_some (two_bytes b c) then long kind.Symbol 2 else (if is_some (one_byte b) then long kind.Symbol 1 else None)
+symbol_front b (c ∷ bs) =
+    if is_some (two_bytes b c) then long kind.Symbol 2 else (if is_some (one_byte b) then long kind.Symbol 1 else None)
 symbol_front b [] = if is_some (one_byte b) then long kind.Symbol 1 else None
 
 abbrev pub front_as : Option PieceKind → ℕ → List ℕ → Option Front

@@ -87,7 +87,8 @@ pub record BehindPart (n : ℕ) (ts : List Word) : Type 0 where
   pub front : ts ≡ w.Number n ∷ w.Sym y.Colon ∷ rest
 
 abbrev pub ParsesArm : List Word → Result (ℕ × Block) Halt → List Word → Type 0
-ParsesArm old (Ok a) new = (f : BehindPart a.0 old) × ReadsBlock f.rest (statements_of a.1) new × Passes one_arm old new × (length new < length old)
+ParsesArm old (Ok a) new =
+    (f : BehindPart a.0 old) × ReadsBlock f.rest (statements_of a.1) new × Passes one_arm old new × (length new < length old)
 ParsesArm old (Err e) new = Fails one_arm old e new
 
 -- these arms, and then those
@@ -104,7 +105,8 @@ ParsesArms n found old (Err e) new = Fails (arm_and_more n) old e new
 
 -- a statement whose first tokens are taken already, where these symbols are what is still expected of it
 abbrev pub ParsesAs : List Symbol → List Word → List Word → Result Stmt Halt → List Word → Type 0
-ParsesAs xs taken old (Ok x) new = ReadsStatement (taken ++ old) (statement_of x) new × Passes xs old new × (length new < length old)
+ParsesAs xs taken old (Ok x) new =
+    ReadsStatement (taken ++ old) (statement_of x) new × Passes xs old new × (length new < length old)
 ParsesAs xs taken old (Err e) new = Fails xs old e new
 
 abbrev pub ParsesRest : Start → List Word → Result Stmt Halt → List Word → Type 0

@@ -96,7 +96,8 @@ at_number _ s = None
 abbrev pub at_target : Word → List Symbol → Option (List Symbol)
 at_target v s =
     if is_sym y.Assign v then Some (phrase l.Or ∷ sym y.Semicolon ∷ s)
-    else (if is_sym y.Tilde v then Some (key k.Uniform ∷ sym y.LeftParen ∷ phrase l.Or ∷ sym y.RightParen ∷ sym y.Semicolon ∷ s) else None)
+    else (if is_sym y.Tilde v then Some (key k.Uniform ∷ sym y.LeftParen ∷ phrase l.Or ∷ sym y.RightParen ∷ sym y.Semicolon ∷ s)
+    else None)
 
 abbrev pub at_arms : ℕ → Word → List Symbol → Option (List Symbol)
 at_arms zero v s = if is_sym y.RightBrace v then Some s else None

@@ -103,4 +103,5 @@ read_back (Bin op a b) rest s =
 
 abbrev pub expression_code : Coded Expression
 expression_code =
-    code_by (List Mark) (coded_list (coded× coded_ℕ coded_ℤ)) (λ e. marks e []) (λ ms. first (read ms [])) (λ e. ap first (read_back e [] []))
+    code_by (List Mark) (coded_list (coded× coded_ℕ coded_ℤ))
+    (λ e. marks e []) (λ ms. first (read ms [])) (λ e. ap first (read_back e [] []))

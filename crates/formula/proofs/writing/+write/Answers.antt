@@ -14,7 +14,8 @@ returns-in_ok-push-in-And-2-clause-steps t c =
     let a = expression_of c.deref-in-Bin.result.now in
     let b = expression_of c.deref-in-And.result.now in
     let h = written_skip And AndSkip a b s0 c.write-in-Bin.new.steps.items c.push-in-And.new.self.items c.write-in-And.new.steps.items c.push-in-And-2.new.self.items _ c.len-skip.result c.len-end.result refl refl (λ t. refl)
-    c.in_ok-left-in-Bin.ensures.steps (let l = c.len-skip.ensures in let k = c.write-in-Bin.new.steps.ok.0 in omega (arith, l, k)) c.in_ok-push-in-And.ensures.items c.in_ok-right-in-And.ensures.steps c.in_ok-push-in-And-2.ensures.items (let l = c.len-end.ensures in let k = c.push-in-And-2.new.self.ok.0 in omega (arith, l, k)) refl in
+    c.in_ok-left-in-Bin.ensures.steps (let l = c.len-skip.ensures in let k = c.write-in-Bin.new.steps.ok.0 in omega (arith, l, k))
+    c.in_ok-push-in-And.ensures.items c.in_ok-right-in-And.ensures.steps c.in_ok-push-in-And-2.ensures.items (let l = c.len-end.ensures in let k = c.push-in-And-2.new.self.ok.0 in omega (arith, l, k)) refl in
     let o = c.in-And.is in
     let e = c.in-Bin.is in
     h ∙ ap (λ op. s0 ++ steps_at (Bin op a b) (length s0)) (sym o)
@@ -28,7 +29,8 @@ returns-in_ok-push-in-Or-2-clause-steps t c =
     let a = expression_of c.deref-in-Bin.result.now in
     let b = expression_of c.deref-in-Or.result.now in
     let h = written_skip Or OrSkip a b s0 c.write-in-Bin.new.steps.items c.push-in-Or.new.self.items c.write-in-Or.new.steps.items c.push-in-Or-2.new.self.items _ c.len-skip.result c.len-end-in-Or.result refl refl (λ t. refl)
-    c.in_ok-left-in-Bin.ensures.steps (let l = c.len-skip.ensures in let k = c.write-in-Bin.new.steps.ok.0 in omega (arith, l, k)) c.in_ok-push-in-Or.ensures.items c.in_ok-right-in-Or.ensures.steps c.in_ok-push-in-Or-2.ensures.items (let l = c.len-end-in-Or.ensures in let k = c.push-in-Or-2.new.self.ok.0 in omega (arith, l, k)) refl in
+    c.in_ok-left-in-Bin.ensures.steps (let l = c.len-skip.ensures in let k = c.write-in-Bin.new.steps.ok.0 in omega (arith, l, k))
+    c.in_ok-push-in-Or.ensures.items c.in_ok-right-in-Or.ensures.steps c.in_ok-push-in-Or-2.ensures.items (let l = c.len-end-in-Or.ensures in let k = c.push-in-Or-2.new.self.ok.0 in omega (arith, l, k)) refl in
     let o = c.in-Or.is in
     let e = c.in-Bin.is in
     h ∙ ap (λ op. s0 ++ steps_at (Bin op a b) (length s0)) (sym o)

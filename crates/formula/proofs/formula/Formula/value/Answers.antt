@@ -49,7 +49,8 @@ value-requires c =
     }
 
 pub returns-in-Num-clause-value : goal.returns-in-Num-clause-value
-returns-in-Num-clause-value c = ap Ok (num_back c.self.inside.form c.self.invariant.tree c.self.invariant.form c.args.self.now c.self.view_is c.in-Num.n c.in-Num.is) ∙ short_value c.self.inside.form c.self.invariant.tree c.self.invariant.form c.args.self.now c.self.view_is (One (Num c.in-Num.n)) c.args.vars.now (ap term_in c.in-Num.is)
+returns-in-Num-clause-value c = ap Ok (num_back c.self.inside.form c.self.invariant.tree c.self.invariant.form c.args.self.now c.self.view_is c.in-Num.n c.in-Num.is)
+    ∙ short_value c.self.inside.form c.self.invariant.tree c.self.invariant.form c.args.self.now c.self.view_is (One (Num c.in-Num.n)) c.args.vars.now (ap term_in c.in-Num.is)
 
 pub returns-in-Var-clause-value : goal.returns-in-Var-clause-value
 returns-in-Var-clause-value c =
