@@ -5,8 +5,8 @@ use Rattle.gcl_core.specs.declared.answers.Answer.TheVariants.{Ended, MoreBits}
 use Rattle.gcl_core.specs.declared.answers.Outcome.{Outcome}
 use Rattle.gcl_core.specs.meaning.Reading.{Reading, gives, more_bits, after}
 use Rattle.gcl_core.specs.meaning.Runs.{left_by}
+use Rattle.many_runs.specs.InARow.{in_a_row}
 use Rattle.sampler_run.specs.Leaving.{HasRead}
-use Rattle.embedding.specs.InARow.{in_a_row}
 
 -- what is left is what the reading leaves
 pub left_read : (a : Answer) (left : List Bool) (r : Reading Outcome) → HasRead a left r → left ≡ left_by r

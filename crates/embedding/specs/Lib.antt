@@ -1,2 +1,1 @@
 pub mod Chance
-pub mod InARow

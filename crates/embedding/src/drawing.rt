@@ -5,16 +5,16 @@ ghost use Rattle.gcl_core.specs.meaning.LimitRange.{InRange};
 ghost use Rattle.gcl_core.specs.meaning.Reading.{gives, more_bits};
 ghost use Rattle.gcl_core.specs.meaning.Runs.{run_on, reads, left_by};
 ghost use Rattle.gcl_core.specs.meaning.Views.{source_of};
+ghost use Rattle.many_runs.specs.InARow.{runs_in_a_row};
 ghost use Rattle.sampler_run.specs.Sampled.{CountsRun};
-ghost use Rattle.embedding.specs.InARow.{runs_in_a_row};
 
 use gcl_core::{Answer, Checked, Limits, Outcome};
 use sampler_run::{RunError, compile, go_on, runs_leave_the_rest, sample};
 use std::alloc::Global;
 use zar_io::Bits;
 
-/// The answer of the program's run on the bits that are left, under these limits: how it ended, and how many bits it read; or that it
-/// needs a bit beyond them. The bits that it read are gone. `Read` comes only where a read of the bits failed.
+/// The answer of the program's run on the bits that are left, under these limits: how it ended, and how many bits it read; or
+/// that it needs a bit beyond them. The bits that it read are gone. `Read` comes only where a read of the bits failed.
 pub fn draw<B: Bits>(
     alloc: Global,
     p: &Checked,
@@ -23,7 +23,8 @@ pub fn draw<B: Bits>(
 ) -> Result<Answer, RunError>
     requires limits { InRange l.now }
     ensures answer { IfOk result (λ answer. IsTrue B.told → answer ≡ run_on (source_of p.now) l.now (B.left bits.old)) }
-    ensures left { IfOk result (λ answer. IsTrue B.told → B.left bits.new ≡ left_by (reads (source_of p.now) l.now (B.left bits.old))) }
+    ensures left { IfOk result
+        (λ answer. IsTrue B.told → B.left bits.new ≡ left_by (reads (source_of p.now) l.now (B.left bits.old))) }
     ensures count { CountsRun result (B.faults bits.old) (B.faults bits.new) }
 {
     runs_leave_the_rest();
@@ -32,8 +33,9 @@ pub fn draw<B: Bits>(
     Ok(stop.answer)
 }
 
-/// The outcomes of `count` runs in a row, each on the bits that those before it left, or `None` where a run needs a bit beyond them. One
-/// sampler and one state serve all runs, so a run takes no memory but for its outcome. `Read` comes only where a read of the bits failed.
+/// The outcomes of `count` runs in a row, each on the bits that those before it left, or `None` where a run needs a bit beyond
+/// them. One sampler and one state serve all runs, so a run takes no memory but for its outcome. `Read` comes only where a read
+/// of the bits failed.
 pub fn draw_row<B: Bits>(
     alloc: Global,
     p: &Checked,
@@ -44,7 +46,8 @@ pub fn draw_row<B: Bits>(
     requires limits { InRange l.now }
     ensures row { IfOk result (λ row. IfSome row (λ xs. IsTrue B.told →
         runs_in_a_row (source_of p.now) l.now count (B.left bits.old) ≡ gives xs.items (B.left bits.new))) }
-    ensures none { IfOk result (λ row. IfNone row (IsTrue B.told → runs_in_a_row (source_of p.now) l.now count (B.left bits.old) ≡ more_bits)) }
+    ensures none { IfOk result
+        (λ row. IfNone row (IsTrue B.told → runs_in_a_row (source_of p.now) l.now count (B.left bits.old) ≡ more_bits)) }
     ensures count { CountsRun result (B.faults bits.old) (B.faults bits.new) }
 {
     runs_leave_the_rest();

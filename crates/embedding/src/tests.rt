@@ -21,8 +21,8 @@ fn is_fraction(f: Option<Frac>, num: u128, den: u128) -> bool {
     }
 }
 
-// The string 11 is rejected, and 0 takes the first block. With two attempts that has 1/2 + 1/4 * 1/2, the second block 1/4 + 1/4 * 1/4,
-// and both attempts are rejected with 1/16.
+// The string 11 is rejected, and 0 takes the first block. With two attempts that has 1/2 + 1/4 * 1/2, the second block 1/4 + 1/4
+// * 1/4, and both attempts are rejected with 1/16.
 #[test]
 fn draws_and_weighs(rt: HostRuntime) -> Result<(), Fail> {
     let alloc = rt.alloc();

@@ -29,9 +29,9 @@ fn find(rows: &FracRows, x: Outcome) -> Option<Frac>
     None
 }
 
-/// The chance of an outcome under these limits, as a fraction in lowest terms, or `None` where it is 0. The strings of bits on which the
-/// program's run ends in the outcome weigh exactly that. `TooWide` and `TooManyStates` come only where the masses of the program under
-/// these limits are too wide, or of too many states, and `AllFailed` never.
+/// The chance of an outcome under these limits, as a fraction in lowest terms, or `None` where it is 0. The strings of bits on
+/// which the program's run ends in the outcome weigh exactly that. `TooWide` and `TooManyStates` come only where the masses of
+/// the program under these limits are too wide, or of too many states, and `AllFailed` never.
 pub fn chance(alloc: Global, p: &Checked, l: &Limits, x: Outcome) -> Result<Option<Frac>, MassError>
     requires limits { InRange l.now }
     ensures mass { IfOk result (λ f. IsChance f (limited_mass (source_of p.now) l.now x)) }

@@ -35,7 +35,7 @@ fallen : (v v' M M' d : ℕ) → v' + d ≤ v → v' ≤ M' → M ≡ M' + d →
 fallen v v' M M' d p q e = let x = mul-le-mul_right M' p in let y = mul-le-mul_left d q in rw e (omega arith)
 
 -- ---- fractions
-share_below_one : (N F f0 f1 : ℕ) → f1 * F ≡ f0 * N → F < N → 0 < f1 → f0 < f1
+pub share_below_one : (N F f0 f1 : ℕ) → f1 * F ≡ f0 * N → F < N → 0 < f1 → f0 < f1
 share_below_one N F f0 f1 e lt some = by_order (cases_lt f0 f1)
   where
     by_order : (f0 < f1) ⊎ (f1 ≤ f0) → f0 < f1

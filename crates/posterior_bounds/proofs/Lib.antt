@@ -9,3 +9,6 @@ pub mod OneLimit
 pub mod BoundsLaw
 pub mod EqualFractions
 pub mod WorkedBounds
+pub mod Between
+pub mod StringBounds
+pub mod ComingTogether

@@ -1,11 +1,10 @@
 -- Rows of masses that are read one by one.
-use Rattle.std.proofs.Common.{◌≡◌, ◌∙◌, ℕ, suc, zero, ◌+◌, ◌*◌, ◌<◌, ◌≤◌, Bool, true, false, List, [], ◌∷◌, ◌++◌, length, drop, Some, sym, ap, arith, append_assoc}
+use Rattle.std.proofs.Common.{◌≡◌, ◌∙◌, ℕ, suc, zero, ◌+◌, ◌*◌, ◌<◌, Bool, true, false, List, [], ◌∷◌, ◌++◌, drop, Some, sym, ap, arith, append_assoc}
 use Rattle.std.specs.List.{slice_get}
 use Rattle.std.specs.Prelude.{if◌then◌else◌}
-use Rattle.std.proofs.lemmas.List.{append-nil, at_drop_all}
 use Rattle.frac128.specs.Fraction.{lowest, InLowest, sum_of}
 use Rattle.gcl_core.specs.declared.answers.Outcome.{Outcome}
-use Rattle.gcl_core.specs.weighing.Fractions.{Fraction, zero_share, plus}
+use Rattle.gcl_core.specs.weighing.Fractions.{Fraction, plus}
 use Rattle.gcl_core.specs.meaning.Outcomes.{same_outcome}
 use Rattle.mass_fold.specs.Rows as masses
 use Rattle.mass_fold.proofs.OutcomeRows.{lowest_is}

@@ -1,4 +1,5 @@
--- The law of the bounds: they hold for every greater limit of turns, and lie within those of every lesser one. This project's own rule.
+-- The law of the bounds: they hold for every greater limit of turns, and lie within those of every lesser one. This project's own
+-- rule.
 use Rattle.std.specs.Prelude.{◌≡◌, ℕ, ◌≤◌, Bool, true, false, None}
 use Rattle.frac128.specs.Fraction.{IsEqual}
 use Rattle.gcl_core.specs.declared.answers.Limit.TheVariants.{Turns}
@@ -16,9 +17,9 @@ pub record AreBounds (p : SourceProgram) (n : ℕ) (meant : Outcome → Bool) : 
   pub upper_fraction : 1 ≤ (upper_of_those p n meant).1
   pub width : IsEqual (plus (lower_of_those p n meant) (upper_of_others p n)) (upper_of_those p n meant)
 
--- The outcomes that are meant have at n' turns a mass between their bounds at n turns, both included. Where a round gave them nothing
--- at n turns, it is at most the bound of all others, and so is their upper bound at n'. Their bounds at n' lie within those at n: the lower
--- one at n' is the mass there.
+-- The outcomes that are meant have at n' turns a mass between their bounds at n turns, both included. Where a round gave them
+-- nothing at n turns, it is at most the bound of all others, and so is their upper bound at n'. Their bounds at n' lie within
+-- those at n: the lower one at n' is the mass there.
 pub record IsBounded (p : SourceProgram) (n n' : ℕ) (meant : Outcome → Bool) : Type 0 where
   pub fraction : 1 ≤ (mass_of_those p n' None None meant).1
   pub from_below : AtMost (lower_of_those p n meant) (mass_of_those p n' None None meant)
@@ -29,9 +30,9 @@ pub record IsBounded (p : SourceProgram) (n n' : ℕ) (meant : Outcome → Bool)
   pub before : AreBounds p n meant
   pub after : AreBounds p n' meant
 
--- So it is for each value and each fault, and for whatever outcomes are meant, where the limit of turns is not among them: all to which a
--- round gave nothing have together at most the bound of all others. That bound does not rise. At n turns too a round fails with less than
--- all weight.
+-- So it is for each value and each fault, and for whatever outcomes are meant, where the limit of turns is not among them: all to
+-- which a round gave nothing have together at most the bound of all others. That bound does not rise. At n turns too a round
+-- fails with less than all weight.
 pub record BoundsHold (p : SourceProgram) (n n' : ℕ) : Type 0 where
   pub outcomes : (x : Outcome) → is_settled x ≡ true → IsBounded p n n' (same_outcome x)
   pub events : (meant : Outcome → Bool) → meant (outcome.Limit Turns) ≡ false → IsBounded p n n' meant

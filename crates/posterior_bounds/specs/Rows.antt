@@ -1,5 +1,5 @@
--- Rows of bounds: values and faults ascend, each with its two bounds in lowest terms, and what the rows promise for every greater limit of
--- turns. This project's own rule.
+-- Rows of bounds: values and faults ascend, each with its two bounds in lowest terms, and what the rows promise for every greater
+-- limit of turns. This project's own rule.
 use Rattle.std.specs.Prelude.{◌≡◌, ℕ, ◌≤◌, ◌<◌, true, None, List, map, AllPairs, Contains}
 use Rattle.frac128.specs.Fraction.{lowest}
 use Rattle.gcl_core.specs.declared.answers.Outcome.{Outcome}
@@ -24,15 +24,16 @@ pub record AreBoundsOf (p : SourceProgram) (n : ℕ) (rows : Rows) : Type 0 wher
   pub above_zero : (x : Outcome) (low high : Fraction) → Contains rows (x, low, high) → 0 < (given p n (same_outcome x)).0
   pub lower : (x : Outcome) (low high : Fraction) → Contains rows (x, low, high) → low ≡ lowest (lower_of p n x)
   pub upper : (x : Outcome) (low high : Fraction) → Contains rows (x, low, high) → high ≡ lowest (upper_of p n x)
-  pub all : (x : Outcome) → is_settled x ≡ true → 0 < (given p n (same_outcome x)).0 → Contains rows (x, lowest (lower_of p n x), lowest (upper_of p n x))
+  pub all : (x : Outcome) → is_settled x ≡ true → 0 < (given p n (same_outcome x)).0
+      → Contains rows (x, lowest (lower_of p n x), lowest (upper_of p n x))
 
 abbrev pub HasNone : Outcome → Rows → Type 0
 HasNone x rows = (low high : Fraction) → Contains rows (x, low, high) → ⊥
 
--- At n' turns the mass of an outcome that has a row, which is its lower bound there, is at least its lower bound, and its upper bound there
--- at most its upper bound; the upper bound there of a value or fault that has no row is at most the bound of all others, which does not
--- rise. So the mass lies between the bounds, both included, since no mass is above its upper bound at the same limit (`from_above` of the
--- law, with one limit for both).
+-- At n' turns the mass of an outcome that has a row, which is its lower bound there, is at least its lower bound, and its upper
+-- bound there at most its upper bound; the upper bound there of a value or fault that has no row is at most the bound of all
+-- others, which does not rise. So the mass lies between the bounds, both included, since no mass is above its upper bound at the
+-- same limit (`from_above` of the law, with one limit for both).
 pub record HoldAt (p : SourceProgram) (n' : ℕ) (rows : Rows) (other : Fraction) : Type 0 where
   pub fraction : (x : Outcome) → is_settled x ≡ true → 1 ≤ (mass_of p n' None None x).1
   pub from_below : (x : Outcome) (low high : Fraction) → Contains rows (x, low, high) → AtMost low (mass_of p n' None None x)

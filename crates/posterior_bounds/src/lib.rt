@@ -9,5 +9,7 @@ mod rows;
 mod tests;
 
 pub use bounding::bounds;
-pub use laws::more_turns_stay_within_the_bounds;
+pub use laws::{
+    more_turns_stay_within_the_bounds, runs_come_together, strings_lie_between_the_bounds,
+};
 pub use rows::{BoundRows, Bounds};

@@ -1,5 +1,5 @@
--- The main theorem's statement: what makes some code the sampler of a program. The theorem is that of the compiler of Bagnall, Stewart
--- and Banerjee (PLDI 2023), under limits and with the bits counted.
+-- The main theorem's statement: what makes some code the sampler of a program. The theorem is that of the compiler of Bagnall,
+-- Stewart and Banerjee (PLDI 2023), under limits and with the bits counted.
 use Rattle.std.specs.Prelude.{◌≡◌, Bool, List}
 use Rattle.gcl_core.specs.declared.answers.Answer.{Answer}
 use Rattle.gcl_core.specs.declared.answers.Limits.{Limits}
@@ -8,6 +8,8 @@ use Rattle.gcl_core.specs.meaning.Runs.{run_on}
 use Rattle.gcl_core.specs.meaning.Syntax.{SourceProgram}
 use Rattle.weighing_law.specs.LimitsCost.{LimitsCost, MayPass}
 use Rattle.weighing_law.specs.Weighing.{WeighsExactly}
+use Rattle.many_runs.specs.Fronts.{FollowsFronts}
+use Rattle.many_runs.specs.RowWeights.{RowsWeighExactly}
 use Rattle.bit_tree.specs.Debiased.{tied_tree}
 use Rattle.sampler_code.specs.Assembled.{Assembled, assembled, CodeReaches, IsRunOf, ReachesOne}
 use Rattle.sampler_code.specs.Running.{Reached}
@@ -25,3 +27,7 @@ pub record IsSamplerOf (p : SourceProgram) (s : Assembled) : Type 0 where
   pub weighs : (l : Limits) → InRange l → (run : List Bool → Answer) → IsRunOf s l run → WeighsExactly run p l
   -- what the limits of attempts and of rounds cost is no more than they weigh
   pub cost : (l : Limits) → MayPass p l → LimitsCost p l
+  -- the strings on which runs in a row end in some outcomes weigh the product of their masses
+  pub rows : (l : Limits) → RowsWeighExactly p l
+  -- on streams of bits its runs end in an outcome as often as these begin with the strings just read to it
+  pub fronts : (l : Limits) → InRange l → (run : List Bool → Answer) → IsRunOf s l run → FollowsFronts run p l

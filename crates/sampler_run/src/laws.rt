@@ -7,8 +7,8 @@ ghost use Rattle.sampler_code.specs.Assembled.{Assembled};
 ghost use Rattle.sampler_run.specs.Leaving.{LeavesTheRest};
 ghost use Rattle.sampler_run.specs.SamplerOf.{IsSamplerOf};
 
-/// It does nothing: its clause says, of each sampler of a program under limits in range, that its runs read a source of bits as the
-/// definition of the program's run does. So they leave what that leaves, and each of several in a row begins there.
+/// It does nothing: its clause says, of each sampler of a program under limits in range, that its runs read a source of bits as
+/// the definition of the program's run does. So they leave what that leaves, and each of several in a row begins there.
 pub fn runs_leave_the_rest()
     ensures { (p : SourceProgram) (l : Limits) (s : Assembled) → IsSamplerOf p s → InRange l → LeavesTheRest p l s }
 {}

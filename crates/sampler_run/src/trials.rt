@@ -8,8 +8,8 @@ ghost use Rattle.sampler_run.specs.inner.Tried.{CameTo, HasTried, SpellsOut};
 
 use draw_tree::bits_for;
 
-// An attempt: how many more bits it needs, and the number that those read so far spell. With it the attempts that are left, this one among
-// them, the bits that the run has read, and how many bits of the word are left.
+// An attempt: how many more bits it needs, and the number that those read so far spell. With it the attempts that are left, this
+// one among them, the bits that the run has read, and how many bits of the word are left.
 #[derive(Clone, Copy, PartialEq, Eq, Debug)]
 pub struct Trial {
     pub need: u32,
@@ -38,8 +38,8 @@ fn is_below(bound: u64, need: u32, low: u64) -> bool
     low <= (bound - 1) >> need
 }
 
-// The number that the first `need` of the lowest `left` bits of a word spell. Where `need` is 0 and `left` is 64 the shift is by 0, and the
-// answer 0 all the same.
+// The number that the first `need` of the lowest `left` bits of a word spell. Where `need` is 0 and `left` is 64 the shift is by
+// 0, and the answer 0 all the same.
 #[inline(always)]
 fn first_bits(need: u32, word: u64, left: u32) -> u64
     requires need { need < 64 }
@@ -80,7 +80,8 @@ fn spelled(word: u64, trial: Trial) -> (u64, u32)
     }
 }
 
-// How many bits of a number are left where those before show that it is not below the bound, as those before the last `need` do not.
+// How many bits of a number are left where those before show that it is not below the bound, as those before the last `need` do
+// not.
 #[inline(always)]
 fn first_above(bound: u64, number: u64, need: u32) -> u32
     requires above { bound ≤ number }
@@ -115,7 +116,8 @@ fn read_to(trial: Trial, number: u64, need: u32) -> Trial
     }
 }
 
-// An attempt below a bound, on the lowest bits of a word: it takes those that it needs, and no more once they show that it is rejected.
+// An attempt below a bound, on the lowest bits of a word: it takes those that it needs, and no more once they show that it is
+// rejected.
 #[inline(always)]
 fn attempt(bound: u64, word: u64, trial: Trial) -> (Trial, Came)
     requires bound { (bound < 2 ^ 63) × (0 < bound) }

@@ -1,12 +1,11 @@
 // Draws below a bound, through the bits of a word.
 
-ghost use Rattle.std.specs.Prelude.{◌≡◌, ◌+◌, ◌^◌, ◌<◌, pos, length, slice_get, Some};
+ghost use Rattle.std.specs.Prelude.{◌≡◌, ◌+◌, ◌^◌, ◌<◌, ◌≤◌, pos, length, slice_get, Some};
 ghost use Rattle.formula.specs.ReadBack.{expression_in};
 ghost use Rattle.sampler_code.specs.Instruction.{Range};
 ghost use Rattle.sampler_code.specs.Machine.{below, stored};
-ghost use Rattle.sampler_run.specs.inner.Ran.{CanRun, HasMoved};
+ghost use Rattle.sampler_run.specs.inner.Ran.{CanRun, HasMoved, DrawMoves};
 ghost use Rattle.sampler_run.specs.inner.Shape.{SameShape};
-ghost use Rattle.sampler_run.specs.inner.Tried.{HasBegun};
 ghost use Rattle.sampler_run.specs.Views.{drawing_of, machine_of};
 
 use crate::drawing::{Attempt, Drawing};
@@ -45,24 +44,23 @@ fn under_way(bound: u64, trial: Trial) -> Drawing
     })
 }
 
-// A draw below a bound from an attempt on, to where it is done, or the bits are used up and it needs one more, or no attempt is left.
+// A draw below a bound from an attempt on, to where it is done, or the bits are used up and it needs one more, or no attempt is
+// left.
 #[inline(always)]
 fn draw_from(
-    code: &Code,
+    bound: u64,
+    trial: Trial,
     x: u32,
-    e: &Formula,
-    limits: &Limits,
     m: &mut Registers,
     word: u64,
     left: &mut u32,
-    bound: u64,
-    trial: Trial,
 ) -> (Pace, usize)
-    requires at { slice_get code.now.instrs m.old.index ≡ Some (Range x (expression_in e.now)) }
+    requires bound { (bound < 2 ^ 63) × (0 < bound) }
+    requires need { trial.need < 64 }
+    requires left { trial.left ≤ 64 }
+    requires place { x < length m.old.vars.items }
     requires within { m.old.index + 1 < 2 ^ 64 }
-    requires can { CanRun code.now.instrs limits.now m.old left.old }
-    requires begun { HasBegun code.now.instrs limits.now (machine_of m.old) word left.old bound trial }
-    ensures moved { HasMoved code.now.instrs limits.now m.old m.new word left.old left.new result.0 }
+    ensures moved { DrawMoves bound trial x m.old m.new word left.old left.new result.0 }
     ensures next { result.1 ≡ m.new.index }
 {
     let (trial, came) = attempts(bound, word, trial);
@@ -112,7 +110,7 @@ pub(crate) fn draw(
                     used: m.used,
                     left: *left,
                 };
-                draw_from(code, x, e, limits, m, word, left, bound, trial)
+                draw_from(bound, trial, x, m, word, left)
             }
             Err(outcome) => (Pace::Ended(outcome), m.index),
         },
@@ -124,7 +122,7 @@ pub(crate) fn draw(
                 used: m.used,
                 left: *left,
             };
-            draw_from(code, x, e, limits, m, word, left, attempt.bound, trial)
+            draw_from(attempt.bound, trial, x, m, word, left)
         }
     }
 }

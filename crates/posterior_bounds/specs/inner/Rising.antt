@@ -17,7 +17,8 @@ mass_in x (row ∷ rows) = if same_outcome x row.0 then row.1 else mass_in x row
 
 abbrev pub raised : Fraction → masses.Rows → Rows
 raised other [] = []
-raised other (row ∷ rows) = if is_settled row.0 then (row.0, row.1, lowest (plus row.1 other)) ∷ raised other rows else raised other rows
+raised other (row ∷ rows) =
+    if is_settled row.0 then (row.0, row.1, lowest (plus row.1 other)) ∷ raised other rows else raised other rows
 
 -- the mass of a value or fault and the other have no sum that fits
 pub record IsTooWide (other : Fraction) (rows : masses.Rows) : Type 0 where

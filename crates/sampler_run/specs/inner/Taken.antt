@@ -18,8 +18,8 @@ abbrev pub Needs : (List Bool → Option Reached) → List Bool → Type 0
 Needs run [] = Unit {0}
 Needs run (b ∷ u) = NeedsMore (run []) × Needs (λ v. run (b ∷ v)) u
 
--- Some first bits were taken, each of which the run needs after those before it; and the rest of the run is what the run does after
--- them.
+-- Some first bits were taken, each of which the run needs after those before it; and the rest of the run is what the run does
+-- after them.
 pub record Takes (run rest : List Bool → Option Reached) (old new : List Bool) : Type 0 where
   pub taken : List Bool
   pub split : old ≡ taken ++ new
@@ -28,6 +28,7 @@ pub record Takes (run rest : List Bool → Option Reached) (old new : List Bool)
 
 -- from old to new by one instruction, which may take a bit
 abbrev pub LedBy : Next → Machine → Machine → Pace → List Bool → List Bool → Type 0
-LedBy x old new pace.On before after = ((x ≡ goes new) × (after ≡ before)) ⊎ ((b : Bool) × Asks x × (new ≡ side x b old) × (before ≡ b ∷ after))
+LedBy x old new pace.On before after =
+    ((x ≡ goes new) × (after ≡ before)) ⊎ ((b : Bool) × Asks x × (new ≡ side x b old) × (before ≡ b ∷ after))
 LedBy x old new pace.NeedBit before after = Asks x × (new ≡ old) × (before ≡ []) × (after ≡ before)
 LedBy x old new (pace.Ended o) before after = (x ≡ ends o) × (new ≡ old) × (after ≡ before)

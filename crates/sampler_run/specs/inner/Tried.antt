@@ -41,10 +41,12 @@ pub record HasBegun (code : List Instruction) (l : Limits) (m : Machine) (word l
 
 -- any draw below b goes from the one attempt to the other on the bits of a word
 abbrev pub HasTried : ℕ → ℕ → Trial → Trial → Type 0
-HasTried b word t u = (code : List Instruction) (l : Limits) (x : ℕ) (e : Expression) (m : Machine) → slice_get code m.index ≡ Some (Range x e) →
+HasTried b word t u =
+    (code : List Instruction) (l : Limits) (x : ℕ) (e : Expression) (m : Machine) → slice_get code m.index ≡ Some (Range x e) →
     Answered code l (at_trial m b t) → Went code l (at_trial m b t) (at_trial m b u) word t.left u.left
 
--- what an attempt came to: a number below b; where a bit is needed and none is left; or where it is not below b, whatever bits follow
+-- what an attempt came to: a number below b; where a bit is needed and none is left; or where it is not below b, whatever bits
+-- follow
 abbrev pub CameTo : ℕ → Trial → Came → Type 0
 CameTo b t (Number v) = (t.need ≡ 0) × (t.low ≡ v) × (v < b)
 CameTo b t NeedBit = (0 < t.need) × (t.low * 2 ^ t.need < b) × (t.left ≡ 0)

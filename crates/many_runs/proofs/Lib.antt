@@ -1,0 +1,5 @@
+pub mod Rows
+pub mod StringSums
+pub mod AllStrings
+pub mod Undecided
+pub mod Fronts
