@@ -3,11 +3,11 @@ use Rattle.std.proofs.Common.{◌≡◌, ℕ, zero, suc, ◌+◌, ◌<◌, ◌�
 use mathlib.Core.Logic.{dite}
 use native.Mathlib.Decide.{dec_le, ℕ_discrete}
 use Rattle.std.proofs.lemmas.Bool.Decides.{nat_tests}
-use Rattle.number_lists.specs.Total.{total}
-use Rattle.number_lists.specs.Numbers.{times, once_below, ascends}
+use Rattle.passes.specs.Total.{total}
+use Rattle.passes.specs.Numbers.{times, once_below, ascends}
 use Rattle.claim_board.specs.Deal.{Worker, Deal, fresh, start, worker_at, after_draw, Claims, Runs, AreDealt, DealsFairly}
-use Rattle.number_lists.proofs.Totals.{total_put, total_get}
-use Rattle.number_lists.proofs.Times.{times-append, once_more, once_inside, once_outside, above_all, ascends-snoc}
+use Rattle.passes.proofs.Totals.{total_put, total_get}
+use Rattle.passes.proofs.Times.{times-append, once_more, once_inside, once_outside, above_all, ascends-snoc}
 
 abbrev WorkerFair : ℕ → ℕ → Worker → Type 0
 WorkerFair blocks next k = (ascends k.dealt ≡ true) × (k.ended ≡ true → blocks ≤ next)

@@ -1,5 +1,5 @@
 -- Lists of passes, while a board is made and closed.
-use Rattle.std.proofs.Common.{◌≡◌, ℕ, ◌+◌, ◌<◌, Bool, true, cond, min, List, [], ◌∷◌, ◌++◌, length, get_or, set, All, Any, sym, refl, ap, ◌∙◌, subst, arith}
+use Rattle.std.proofs.Common.{◌≡◌, ℕ, ◌<◌, Bool, true, cond, min, List, [], ◌∷◌, length, get_or, set, All, Any, sym, refl, ap, ◌∙◌, subst, arith}
 use mathlib.Core.Option.{some}
 use lib.ListN.{get_elem?}
 use Rattle.std.proofs.lemmas.List.Elements.{All-set, AllZip-get_or}
@@ -8,35 +8,21 @@ use Rattle.std.specs.List.{AllZip}
 use Rattle.atomic_table.specs.Seated.{TableId}
 use Rattle.claim_board.specs.declared.pass.Pass.{Pass}
 use Rattle.claim_board.specs.declared.hand.Hand.{Hand}
-use Rattle.number_lists.specs.Total.{total}
-use Rattle.number_lists.specs.Numbers.{times, once_below}
+use Rattle.passes.specs.Total.{total}
+use Rattle.passes.specs.Numbers.{times, once_below}
 use Rattle.claim_board.specs.Rule.{Kept}
 use Rattle.claim_board.specs.declared.hand.Terms.{Terms}
 use Rattle.claim_board.specs.declared.pass.Board.{Board}
 use Rattle.claim_board.specs.Board.{numbers_of, dealt_to, had_none, IsPassOf, IsSamePass, AreAllPasses}
 use Rattle.claim_board.proofs.Keeps.{all_dealt}
-use Rattle.number_lists.proofs.Totals.{total_put, total_snoc, total_get}
-use Rattle.number_lists.proofs.Times.{once_more}
+use Rattle.passes.proofs.Totals.{total_put, total_get}
 
 abbrev pub IsAt : TableId → ℕ → Pass → Type 0
 IsAt id blocks p = (p.seat.table_id ≡ id) × (p.seat.me.0.blocks ≡ blocks)
 
--- one pass more, with the next number
-pub numbers_more : (items after : List Pass) (p : Pass) (n x : ℕ) → after ≡ items ++ p ∷ [] → numbers_of p ≡ n ∷ []
-    → total (λ (q : Pass). times x (numbers_of q)) items + times x (0 ∷ []) ≡ once_below x n → total (λ (q : Pass). times x (numbers_of q)) after + times x (0 ∷ []) ≡ once_below x (n + 1)
-numbers_more items after p n x is one all = let s = total_snoc (λ (q : Pass). times x (numbers_of q)) items p in let here : times x (numbers_of p) ≡ times x (n ∷ []) = ap (times x) one in
-    let same : total (λ (q : Pass). times x (numbers_of q)) after ≡ total (λ (q : Pass). times x (numbers_of q)) (items ++ p ∷ []) = ap (total (λ (q : Pass). times x (numbers_of q))) is in
-    let more = once_more x n in omega arith
-
--- the first pass, put behind the others
-pub numbers_all : (items after : List Pass) (p : Pass) (n x : ℕ) → after ≡ items ++ p ∷ [] → numbers_of p ≡ 0 ∷ []
-    → total (λ (q : Pass). times x (numbers_of q)) items + times x (0 ∷ []) ≡ once_below x n → total (λ (q : Pass). times x (numbers_of q)) after ≡ once_below x n
-numbers_all items after p n x is one all = let s = total_snoc (λ (q : Pass). times x (numbers_of q)) items p in let here : times x (numbers_of p) ≡ times x (0 ∷ []) = ap (times x) one in
-    let same : total (λ (q : Pass). times x (numbers_of q)) after ≡ total (λ (q : Pass). times x (numbers_of q)) (items ++ p ∷ []) = ap (total (λ (q : Pass). times x (numbers_of q))) is in omega arith
-
 -- a pass that had None has one number in the list of the ended
 pub ended_once : (p : Pass) → had_none p ≡ true → 0 < length p.seat.me.0.ended
-ended_once p h = subst (λ (xs : List ℕ). 0 < length xs) (sym (p.ended ∙ ap (λ (b : Bool). cond b p.seat.me.0.numbers []) h ∙ p.single)) (omega arith)
+ended_once p h = subst (λ (xs : List ℕ). 0 < length xs) (sym (p.ended ∙ ap (λ (b : Bool). cond b p.seat.me.0.passes.numbers []) h ∙ p.single)) (omega arith)
 
 -- where one of the passes had None, some number stands in their lists of the ended
 pub some_ended : (items : List Pass) → Any (λ (p : Pass). had_none p ≡ true) items → 0 < total (λ (p : Pass). length p.seat.me.0.ended) items
@@ -45,7 +31,7 @@ some_ended items any = let p : Pass = any.1 in let one = ended_once p any.4 in l
 
 -- What is known of the last seat. It stands for all passes, so that what was dealt to it was dealt to all
 pub gathered : (t : Terms) (n : ℕ) (views : List Hand) (id : ℕ) (v : Hand) (passes : List Pass) → Kept t.blocks t.workers n views → get_elem? views id ≡ some v
-    → ((x : ℕ) → times x v.numbers ≡ once_below x t.workers)
+    → ((x : ℕ) → times x v.passes.numbers ≡ once_below x t.workers)
     → ((x : ℕ) → times x v.dealt ≡ total (λ (p : Pass). times x (dealt_to p)) passes)
     → length v.ended ≡ total (λ (p : Pass). length p.seat.me.0.ended) passes
     → ((x : ℕ) → total (λ (p : Pass). times x (dealt_to p)) passes ≡ once_below x (min n t.blocks)) × (Any (λ (p : Pass). had_none p ≡ true) passes → min n t.blocks ≡ t.blocks)

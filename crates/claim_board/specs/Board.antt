@@ -3,7 +3,7 @@ use Rattle.std.specs.Prelude.{ℕ, ◌≡◌, Bool, false, nat_lt, List, [], Opt
 use Rattle.claim_board.specs.declared.pass.Board.{Board}
 use Rattle.claim_board.specs.declared.pass.Pass.{Pass}
 use Rattle.claim_board.specs.declared.hand.Hand.{Hand}
-use Rattle.number_lists.specs.Numbers.{EachOnce}
+use Rattle.passes.specs.Numbers.{EachOnce}
 use Rattle.claim_board.specs.Views.{Draws}
 
 abbrev pub blocks_of : Board → ℕ
@@ -24,7 +24,7 @@ had_none p = p.had_none
 
 -- the number of the pass, alone in a list
 abbrev pub numbers_of : Pass → List ℕ
-numbers_of p = (view_of p).numbers
+numbers_of p = (view_of p).passes.numbers
 
 abbrev pub IsPassOf : Board → Pass → Type 0
 IsPassOf b p = (p.seat.table_id ≡ b.table.shared.table_id) × ((view_of p).blocks ≡ b.blocks)

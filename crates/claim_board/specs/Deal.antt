@@ -1,6 +1,8 @@
--- The dealing of blocks to workers, a machine over events, which is this project's own. An event is the number of the worker that claims.
-use Rattle.std.specs.Prelude.{ℕ, ◌+◌, ◌<◌, ◌≡◌, Bool, true, false, List, [], ◌∷◌, ◌++◌, length, replicate, min, nat_lt, slice_index_or, slice_set, if◌then◌else◌}
-use Rattle.number_lists.specs.Numbers.{EachOnce, ascends}
+-- The dealing of blocks to workers, a machine over events, which is this project's own. An event is the number of the worker that
+-- claims.
+use Rattle.std.specs.Prelude.{ℕ, ◌+◌, ◌<◌, ◌≡◌, Bool, true, false, List, [], ◌∷◌, ◌++◌, length, replicate, min, nat_lt}
+use Rattle.std.specs.Prelude.{slice_index_or, slice_set, if◌then◌else◌}
+use Rattle.passes.specs.Numbers.{EachOnce, ascends}
 
 -- what was dealt to a worker, and whether it drew a number that is no block
 pub record Worker : Type 0 where
@@ -23,7 +25,8 @@ worker_at ws w = slice_index_or ws w fresh
 
 -- a worker that has drawn the number n
 abbrev pub after_draw : ℕ → ℕ → Worker → Worker
-after_draw blocks n k = if nat_lt n blocks then record { dealt = k.dealt ++ n ∷ []; ended = k.ended } else record { dealt = k.dealt; ended = true }
+after_draw blocks n k =
+    if nat_lt n blocks then record { dealt = k.dealt ++ n ∷ []; ended = k.ended } else record { dealt = k.dealt; ended = true }
 
 -- one event: the worker w, which has not ended, draws the next number
 abbrev pub Claims : ℕ → Deal → ℕ → Deal → Type 0

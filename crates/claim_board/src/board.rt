@@ -1,8 +1,9 @@
 //! Making a board, claiming and closing.
 ghost use Rattle.std.specs.Prelude.{◌≡◌, ◌<◌, ◌≤◌, true, false, [], ◌∷◌, ◌++◌, All, Any, None, IfOk, IfSome, vec_len};
-ghost use Rattle.number_lists.specs.Numbers.{is_above, ascends};
+ghost use Rattle.passes.specs.Numbers.{is_above, ascends};
 ghost use Rattle.claim_board.specs.declared.pass.TheConstants.{MOST_BLOCKS, MOST_PASSES};
-ghost use Rattle.claim_board.specs.Board.{blocks_of, workers_of, dealt_to, had_none, numbers_of, IsPassOf, IsSamePass, IsNew, AreAllPasses, AreDealtTo, Claimed};
+ghost use Rattle.claim_board.specs.Board.{blocks_of, workers_of, dealt_to, had_none, numbers_of};
+ghost use Rattle.claim_board.specs.Board.{IsPassOf, IsSamePass, IsNew, AreAllPasses, AreDealtTo, Claimed};
 
 use crate::hand::{Claiming, Joining, Making, Terms};
 use crate::pass::{Board, Dealt, Pass};
@@ -10,7 +11,8 @@ use atomic_table::Table;
 use std::alloc::{AllocError, Global};
 
 impl Board {
-    /// A board of the blocks 0 to `blocks - 1`, and a pass for each worker, which was dealt nothing yet. An `Err` comes only where memory runs out.
+    /// A board of the blocks 0 to `blocks - 1`, and a pass for each worker, which was dealt nothing yet. An `Err` comes only
+    /// where memory runs out.
     pub fn new(alloc: Global, blocks: u64, workers: u32) -> Result<(Board, Vec<Pass>), AllocError>
         requires blocks { blocks ≤ MOST_BLOCKS }
         requires workers { (0 < workers) × (workers ≤ MOST_PASSES) }
@@ -44,12 +46,15 @@ impl Board {
         Ok((board, passes))
     }
 
-    /// Draws the next number, by one atomic step, and returns it if it is a block. `None` comes exactly where the number is no block, or where the pass had `None` before. Then nothing is drawn, and the pass stays as it was. It takes no memory.
+    /// Draws the next number, by one atomic step, and returns it if it is a block. `None` comes exactly where the number is no
+    /// block, or where the pass had `None` before. Then nothing is drawn, and the pass stays as it was. It takes no memory.
     pub fn claim(&self, pass: &mut Pass) -> Option<u64>
         requires { IsPassOf self.now pass.old }
         ensures pass { IsSamePass pass.old pass.new }
         ensures draws { had_none pass.old ≡ false → Claimed self.now pass.old result pass.new }
-        ensures some { IfSome result (λ i. (i < blocks_of self.now) × (is_above i (dealt_to pass.old) ≡ true) × (dealt_to pass.new ≡ dealt_to pass.old ++ i ∷ []) × (had_none pass.new ≡ false)) }
+        ensures some { IfSome result (λ i.
+            (i < blocks_of self.now) × (is_above i (dealt_to pass.old) ≡ true)
+            × (dealt_to pass.new ≡ dealt_to pass.old ++ i ∷ []) × (had_none pass.new ≡ false)) }
         ensures none { result ≡ None → (dealt_to pass.new ≡ dealt_to pass.old) × (had_none pass.new ≡ true) }
         ensures after_none { had_none pass.old ≡ true → (result ≡ None) × (pass.new ≡ pass.old) }
     {
@@ -68,7 +73,8 @@ impl Board {
         }
     }
 
-    /// Ends the board, with all its passes. The numbers dealt to them are those below the answer, each to one pass and once. Where one of them had `None`, these are all blocks.
+    /// Ends the board, with all its passes. The numbers dealt to them are those below the answer, each to one pass and once.
+    /// Where one of them had `None`, these are all blocks.
     pub fn close(self, mut passes: Vec<Pass>) -> Dealt
         requires { AreAllPasses self passes.items }
         ensures dealt { AreDealtTo result.dealt passes.items }

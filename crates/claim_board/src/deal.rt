@@ -7,7 +7,8 @@ pub fn deals_fairly()
     ensures { DealsFairly }
 {}
 
-/// It does nothing: its clause is what the rule of the board says of every state that keeps it, and the rule is kept between any two steps.
+/// It does nothing: its clause is what the rule of the board says of every state that keeps it, and the rule is kept between
+/// any two steps.
 pub fn board_shows_a_dealing()
     ensures { RuleSays }
 {}

@@ -3,6 +3,7 @@ ghost use Rattle.claim_board.specs.Views.{first_hand, makes, made_by, joined, sp
 ghost use Rattle.claim_board.specs.Rule.{Holds};
 
 use atomic_table::{Join, Play, Split, TableRule};
+use passes::Numbering;
 use std::collections::LinkedList;
 
 /// What the board is told when it is made.
@@ -12,13 +13,13 @@ pub struct Terms {
     pub workers: u64,
 }
 
-/// The view of a pass: the numbers of the passes that it stands for, the blocks dealt to them, which of them had `None`, and, where it stands for the number 0, how many passes were made. Contracts alone speak of it, and no value of it is made.
+/// The view of a pass: the numbers of the passes that it stands for, the blocks dealt to them, and which of them had `None`.
+/// Contracts alone speak of it, and no value of it is made.
 pub struct Hand {
     pub blocks: u64,
-    pub numbers: LinkedList<u64>,
+    pub passes: Numbering,
     pub dealt: LinkedList<u64>,
     pub ended: LinkedList<u64>,
-    pub made: u64,
 }
 
 /// The rule of the board's word and of all views.

@@ -4,9 +4,9 @@ use Rattle.std.proofs.Common.{◌≡◌, ℕ, ◌+◌, ◌-◌, ◌/◌, ◌<◌
 use Rattle.std.specs.List.{AllZip}
 use Rattle.std.proofs.lemmas.Bool.{cases_lt}
 use Rattle.std.proofs.lemmas.List.Elements.{All-head, All-tail}
-use Rattle.number_lists.specs.Total.{total}
-use Rattle.number_lists.specs.Numbers.{times}
-use Rattle.number_lists.proofs.Times.{once_inside, once_there}
+use Rattle.passes.specs.Total.{total}
+use Rattle.passes.specs.Numbers.{times}
+use Rattle.passes.proofs.Times.{once_inside, once_there}
 use Rattle.gcl_core.specs.declared.answers.Answer.{Answer}
 use Rattle.gcl_core.specs.declared.answers.Limits.{Limits}
 use Rattle.gcl_core.specs.declared.answers.TallyKey.{TallyKey}

@@ -2,11 +2,11 @@
 use Rattle.std.proofs.Common.{◌≡◌, ℕ, ◌+◌, ◌<◌, false, List, [], ◌∷◌, ◌++◌, length, All, sym, refl, ap, ◌∙◌, subst, arith}
 use Rattle.std.specs.List.{AllZip}
 use Rattle.std.proofs.lemmas.List.Elements.{All-nil, All-cons, All-head, All-tail}
-use Rattle.number_lists.specs.Total.{total}
-use Rattle.number_lists.specs.Numbers.{times, once_below}
-use Rattle.number_lists.proofs.Totals.{total_empty, total_pop}
-use Rattle.number_lists.proofs.Times.{once_there}
-use Rattle.number_lists.proofs.Elements.{all_push, all_pop, length_push}
+use Rattle.passes.specs.Total.{total}
+use Rattle.passes.specs.Numbers.{times, once_below}
+use Rattle.passes.proofs.Totals.{total_empty, total_pop}
+use Rattle.passes.proofs.Times.{once_there}
+use Rattle.passes.proofs.Elements.{all_push, all_pop, length_push}
 use Rattle.claim_board.specs.declared.pass.Board.{Board}
 use Rattle.claim_board.specs.declared.pass.Pass.{Pass}
 use Rattle.claim_board.specs.Board as claim

@@ -4,8 +4,8 @@ use Rattle.std.proofs.lemmas.Bool.{cases_lt, true≢false}
 use Rattle.std.proofs.lemmas.Bool.Decides.{nat_tests}
 use mathlib.Core.Logic.{dite}
 use native.Mathlib.Decide.{ℕ_discrete}
-use Rattle.number_lists.specs.Numbers.{times, top, is_above}
-use Rattle.number_lists.proofs.Times.{times-append, times_here, top_above, top-snoc}
+use Rattle.passes.specs.Numbers.{times, top, is_above}
+use Rattle.passes.proofs.Times.{times-append, times_here, top_above, top-snoc}
 use Rattle.gcl_core.specs.declared.answers.Answer.{Answer}
 use Rattle.gcl_core.specs.declared.answers.Limits.{Limits}
 use Rattle.gcl_core.specs.declared.answers.TallyKey.{TallyKey}

@@ -61,8 +61,10 @@ fn close_both<G: Gate>(
     requires job { IsReadyJob job.now.limits.now job.now.range.now }
     requires fits { BelongTogether board least job.now.range.now }
     requires all { AreAll board least hunters.items }
-    requires hunted { All (λ h. h.failed ≡ false → HasHuntedRuns job.now.sampler.now job.now.limits.now job.now.range.now want.now h.pass h.bid) hunters.items }
-    ensures { IfOk result (λ found. (run : List Bool → Answer) → IsRunOf job.now.sampler.now job.now.limits.now run → LeastWanted (sought_of run job.now.range.now want.now) found) }
+    requires hunted { All (λ h. h.failed ≡ false
+        → HasHuntedRuns job.now.sampler.now job.now.limits.now job.now.range.now want.now h.pass h.bid) hunters.items }
+    ensures { IfOk result (λ found. (run : List Bool → Answer) → IsRunOf job.now.sampler.now job.now.limits.now run
+        → LeastWanted (sought_of run job.now.range.now want.now) found) }
 {
     let mut passes = Vec::with_capacity(alloc, hunters.len())?;
     let mut bids = Vec::with_capacity(alloc, hunters.len())?;
@@ -82,10 +84,10 @@ fn close_both<G: Gate>(
     Ok(None)
 }
 
-/// The least stream of the range on which the run of the sampler has this key: it ends in this outcome, or needs more bits than the budget.
-/// `None` comes exactly where there is none. The answer is the same for any number of threads and any gate. Streams go in blocks of
-/// [`STREAMS_OF_A_BLOCK`], and the gate is told of each block before its first stream; blocks behind a stream that was found may be left out. An error comes only where
-/// memory runs out.
+/// The least stream of the range on which the run of the sampler has this key: it ends in this outcome, or needs more bits than
+/// the budget. `None` comes exactly where there is none. The answer is the same for any number of threads and any gate. Streams
+/// go in blocks of [`STREAMS_OF_A_BLOCK`], and the gate is told of each block before its first stream; blocks behind a stream
+/// that was found may be left out. An error comes only where memory runs out.
 pub fn hunt<R: Threads + Sync, G: Gate>(
     rt: &R,
     alloc: Global,
@@ -98,7 +100,8 @@ pub fn hunt<R: Threads + Sync, G: Gate>(
     requires limits { InRange l.now }
     requires range { IsRange range.now }
     requires workers { IsWorkers range.now.workers }
-    ensures { IfOk result (λ found. (run : List Bool → Answer) → IsRunOf s.now l.now run → LeastWanted (sought_of run range.now want.now) found) }
+    ensures { IfOk result
+        (λ found. (run : List Bool → Answer) → IsRunOf s.now l.now run → LeastWanted (sought_of run range.now want.now) found) }
 {
     let job = Job {
         sampler: s,

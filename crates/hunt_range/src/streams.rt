@@ -29,7 +29,8 @@ pub fn first_wanted<'s>(
     requires home { IsHome home.now state.old }
     requires range { IsRange range.now }
     requires inside { first < range.now.to }
-    ensures first { (run : List Bool → Answer) → IsRestOf (set_back state.old) run → FirstWanted (sought_of run range.now want.now) first range.now.to result }
+    ensures first { (run : List Bool → Answer) → IsRestOf (set_back state.old) run
+        → FirstWanted (sought_of run range.now want.now) first range.now.to result }
     ensures within { IfSome result (λ x. (first ≤ x) × (x < range.now.to)) }
     ensures same_start { set_back state.new ≡ set_back state.old }
 {

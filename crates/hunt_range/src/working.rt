@@ -14,9 +14,9 @@ use std::thread::{Threads, for_each_mut};
 use stream_runs::{Job, MOST_WORKERS};
 use zar_io::Gate;
 
-/// Claims blocks, and offers of each the first stream that is wanted. It stops where no block is left, or where a number was looked at
-/// that the block claimed last does not begin below. The gate is told of each block before its first stream. An error comes only where
-/// memory runs out.
+/// Claims blocks, and offers of each the first stream that is wanted. It stops where no block is left, or where a number was
+/// looked at that the block claimed last does not begin below. The gate is told of each block before its first stream. An error
+/// comes only where memory runs out.
 pub fn work<G: Gate>(
     alloc: Global,
     board: &Board,
@@ -29,7 +29,8 @@ pub fn work<G: Gate>(
     requires fits { BelongTogether board.now least.now job.now.range.now }
     requires ready { IsReadyHunter board.now least.now hunter.old }
     ensures same { IsSameHunter hunter.old hunter.new }
-    ensures hunted { IfOk result (λ _. HasHuntedRuns job.now.sampler.now job.now.limits.now job.now.range.now want.now hunter.new.pass hunter.new.bid) }
+    ensures hunted { IfOk result
+        (λ _. HasHuntedRuns job.now.sampler.now job.now.limits.now job.now.range.now want.now hunter.new.pass hunter.new.bid) }
 {
     let home = job.sampler.start(alloc, job.limits)?;
     let mut state = home.fork(alloc)?;
@@ -75,15 +76,19 @@ pub fn run_all<R: Threads + Sync, G: Gate>(
     requires job { IsReadyJob job.now.limits.now job.now.range.now }
     requires fits { BelongTogether board.now least.now job.now.range.now }
     requires ready { All (IsReadyHunter board.now least.now) hunters.old }
-    ensures { AllZip (HasWorked (HasHuntedRuns job.now.sampler.now job.now.limits.now job.now.range.now want.now)) hunters.old hunters.new }
+    ensures { AllZip (HasWorked
+        (HasHuntedRuns job.now.sampler.now job.now.limits.now job.now.range.now want.now)) hunters.old hunters.new }
 {
     for_each_mut(
         rt,
         hunters,
         MOST_WORKERS as usize,
         &|_, h: &mut Hunter|
-            requires { IsReadyJob job.now.limits.now job.now.range.now × BelongTogether board.now least.now job.now.range.now × IsReadyHunter board.now least.now h.now }
-            ensures { HasWorked (HasHuntedRuns job.entry.now.sampler.now job.entry.now.limits.now job.entry.now.range.now want.entry.now) h.entry.now h.exit.now }
+            requires { IsReadyJob job.now.limits.now job.now.range.now × BelongTogether board.now least.now job.now.range.now
+                × IsReadyHunter board.now least.now h.now }
+            ensures { HasWorked
+                (HasHuntedRuns job.entry.now.sampler.now job.entry.now.limits.now job.entry.now.range.now want.entry.now)
+                h.entry.now h.exit.now }
         { work_for(alloc, board, least, job, want, h) },
     );
 }

@@ -3,7 +3,7 @@ use Rattle.std.proofs.Common.{◌≡◌, ℕ, zero, suc, ◌+◌, ◌<◌, Bool,
 use Rattle.std.specs.Prelude.{nat_lt, ◌&&◌, if◌then◌else◌}
 use Rattle.std.proofs.lemmas.Bool.Decides.{nat_tests}
 use Rattle.gcl_core.specs.declared.answers.TallyKey.{TallyKey}
-use Rattle.number_lists.specs.Total.{total}
+use Rattle.passes.specs.Total.{total}
 use Rattle.gcl_core.specs.meaning.Order.{is_key_before}
 use Rattle.tally_range.specs.Rows.{Rows, counted_at, is_before_all, counts_are_above_zero}
 use Rattle.gcl_core.proofs.Booleans.{both}

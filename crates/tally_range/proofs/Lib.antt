@@ -7,3 +7,4 @@ pub mod Tallied
 pub mod Exact
 pub mod Entries
 pub mod SmallRows
+pub mod Fronts

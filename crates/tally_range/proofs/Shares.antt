@@ -7,8 +7,8 @@ use Rattle.gcl_core.specs.declared.answers.Answer.{Answer}
 use Rattle.gcl_core.specs.declared.answers.Limits.{Limits}
 use Rattle.gcl_core.specs.declared.answers.TallyKey.{TallyKey}
 use Rattle.sampler_code.specs.Assembled.{Assembled, IsRunOf}
-use Rattle.number_lists.specs.Total.{total}
-use Rattle.number_lists.specs.Numbers.{times, once_below}
+use Rattle.passes.specs.Total.{total}
+use Rattle.passes.specs.Numbers.{times, once_below}
 use Rattle.claim_board.specs.declared.pass.Board.{Board}
 use Rattle.claim_board.specs.declared.pass.Pass.{Pass}
 use Rattle.claim_board.specs.Board.{blocks_of, workers_of, numbers_of, dealt_to, had_none, IsPassOf, IsNew, AreAllPasses}

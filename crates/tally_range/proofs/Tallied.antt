@@ -6,9 +6,9 @@ use Rattle.gcl_core.specs.declared.answers.Limits.{Limits}
 use Rattle.gcl_core.specs.declared.answers.TallyKey.{TallyKey}
 use Rattle.sampler_code.specs.Assembled.{Assembled, CodeReaches, IsRunOf}
 use Rattle.sampler_code.specs.Running.{Reached}
-use Rattle.number_lists.specs.Total.{total, total_below}
-use Rattle.number_lists.proofs.Spread.{all_spread}
-use Rattle.number_lists.proofs.Times.{once_there}
+use Rattle.passes.specs.Total.{total, total_below}
+use Rattle.passes.proofs.Spread.{all_spread}
+use Rattle.passes.proofs.Times.{once_there}
 use Rattle.claim_board.specs.declared.pass.Board.{Board}
 use Rattle.claim_board.specs.declared.pass.Pass.{Pass}
 use Rattle.claim_board.specs.Board.{blocks_of, workers_of, dealt_to, had_none, AreAllPasses, AreDealtTo}

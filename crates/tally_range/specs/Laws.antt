@@ -21,4 +21,5 @@ RangesAddUp = (run : List Bool → Answer) (seed budget a b c : ℕ) (key : Tall
 -- where the runs of the program are runs of the code, any runs of the code count what those of the program do
 abbrev pub CodeCountsAsProgram : Type 0
 CodeCountsAsProgram = (code : Assembled) (p : SourceProgram) (l : Limits) → IsRunOf code l (run_on p l) →
-    (run : List Bool → Answer) → IsRunOf code l run → (r : SeedRange) (key : TallyKey) → count_range run r key ≡ count_on p l r key
+    (run : List Bool → Answer) → IsRunOf code l run → (r : SeedRange) (key : TallyKey)
+    → count_range run r key ≡ count_on p l r key

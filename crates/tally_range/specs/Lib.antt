@@ -4,4 +4,5 @@ pub mod Counts
 pub mod Blocks
 pub mod Shares
 pub mod Laws
+pub mod Fronts
 pub mod inner

@@ -7,7 +7,7 @@ use Rattle.sampler_code.specs.Assembled.{Assembled, IsRunOf}
 use Rattle.claim_board.specs.declared.pass.Board.{Board}
 use Rattle.claim_board.specs.declared.pass.Pass.{Pass}
 use Rattle.claim_board.specs.Board.{blocks_of, dealt_to, had_none, IsPassOf, IsNew}
-use Rattle.number_lists.specs.Total.{total}
+use Rattle.passes.specs.Total.{total}
 use Rattle.stream_runs.specs.declared.range.SeedRange.{SeedRange}
 use Rattle.tally_range.specs.declared.share.Share.{Share}
 use Rattle.tally_range.specs.Rows.{Rows}
@@ -31,4 +31,5 @@ pub record IsReady (b : Board) (r : SeedRange) (s : Share) : Type 0 where
 -- the pass had None, and the table counts the runs of the code on the streams of the blocks dealt to it
 pub record IsCounted (c : Assembled) (l : Limits) (r : SeedRange) (s : Share) : Type 0 where
   pub ended : had_none (pass_of s) ≡ true
-  pub counts : (run : List Bool → Answer) → IsRunOf c l run → (key : TallyKey) → count_in (table_of s) key ≡ total (count_block run r key) (dealt_to (pass_of s))
+  pub counts : (run : List Bool → Answer) → IsRunOf c l run → (key : TallyKey)
+      → count_in (table_of s) key ≡ total (count_block run r key) (dealt_to (pass_of s))

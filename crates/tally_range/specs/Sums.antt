@@ -1,7 +1,7 @@
 -- What rows count of a key, whether they are a tally or not.
 use Rattle.std.specs.Prelude.{ℕ}
 use Rattle.gcl_core.specs.declared.answers.TallyKey.{TallyKey}
-use Rattle.number_lists.specs.Total.{total}
+use Rattle.passes.specs.Total.{total}
 use Rattle.tally_range.specs.Rows.{Rows, counted_at}
 
 -- what the rows of a key count, added up

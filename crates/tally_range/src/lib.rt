@@ -10,7 +10,7 @@ mod table;
 mod tallying;
 mod working;
 
-pub use laws::{code_counts_as_program, ranges_add_up};
+pub use laws::{code_counts_as_program, ranges_add_up, tallies_follow_the_fronts};
 pub use share::Share;
 pub use table::Tally;
 pub use tallying::tally;

@@ -2,7 +2,7 @@
 
 ghost use Rattle.std.specs.Prelude.{◌≡◌, ◌<◌, ◌^◌, [], false, map, reverse, All, IfOk};
 ghost use Rattle.gcl_core.specs.declared.answers.TallyKey.{TallyKey};
-ghost use Rattle.number_lists.specs.Total.{total};
+ghost use Rattle.passes.specs.Total.{total};
 ghost use Rattle.tally_range.specs.Rows.{IsTally};
 ghost use Rattle.tally_range.specs.Sums.{count_in};
 ghost use Rattle.tally_range.specs.Shares.{pass_of, table_of};

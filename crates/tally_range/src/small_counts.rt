@@ -71,7 +71,8 @@ impl SmallCounts {
     #[inline]
     pub(crate) fn count(&mut self, key: TallyKey) -> bool
         requires { count_in self.old key + 1 < 2 ^ 64 }
-        ensures counted { IsTrue result → (other : TallyKey) → count_in self.new other ≡ count_in self.old other + counted_at key 1 other }
+        ensures counted { IsTrue result → (other : TallyKey)
+            → count_in self.new other ≡ count_in self.old other + counted_at key 1 other }
         ensures unchanged { IsFalse result → self.new ≡ self.old }
     {
         match small_value(key) {
@@ -86,7 +87,8 @@ impl SmallCounts {
     // Adds the counts to a table. An error comes only where memory runs out.
     pub(crate) fn add_to(&self, table: &mut Tally) -> Result<(), AllocError>
         requires fits { (key : TallyKey) → count_in table.old key + count_in self.now key < 2 ^ 64 }
-        ensures counted { IfOk result (λ _. (key : TallyKey) → count_in table.new key ≡ count_in table.old key + count_in self.now key) }
+        ensures counted { IfOk result
+            (λ _. (key : TallyKey) → count_in table.new key ≡ count_in table.old key + count_in self.now key) }
     {
         for (value, count) in self.counts.iter().enumerate() {
             if *count > 0 {

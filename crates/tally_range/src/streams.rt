@@ -24,7 +24,8 @@ use stream_runs::{STREAMS_OF_A_BLOCK, SeedRange, run_on_stream};
 fn count_key(small: &mut SmallCounts, table: &mut Tally, key: TallyKey) -> Result<(), AllocError>
     requires { count_in table.old key + count_in small.old key + 1 < 2 ^ 64 }
     ensures { IfOk result (λ _. (other : TallyKey) →
-        count_in table.new other + count_in small.new other ≡ count_in table.old other + count_in small.old other + counted_at key 1 other) }
+        count_in table.new other + count_in small.new other
+        ≡ count_in table.old other + count_in small.old other + counted_at key 1 other) }
 {
     if small.count(key) {
         return Ok(());

@@ -66,7 +66,8 @@ impl Tally {
     pub(crate) fn add(&mut self, key: TallyKey, n: u64) -> Result<(), AllocError>
         requires some { 0 < n }
         requires fits { count_in self.old key + n < 2 ^ 64 }
-        ensures counted { IfOk result (λ _. (other : TallyKey) → count_in self.new other ≡ count_in self.old other + counted_at key n other) }
+        ensures counted { IfOk result
+            (λ _. (other : TallyKey) → count_in self.new other ≡ count_in self.old other + counted_at key n other) }
         ensures unchanged { OnErr result (self.new ≡ self.old) }
     {
         outcomes_are_ordered();
@@ -88,7 +89,8 @@ impl Tally {
     // Adds the counts of another table. An error comes only where memory runs out.
     pub(crate) fn add_all(&mut self, other: &Tally) -> Result<(), AllocError>
         requires fits { (key : TallyKey) → count_in self.old key + count_in other.now key < 2 ^ 64 }
-        ensures counted { IfOk result (λ _. (key : TallyKey) → count_in self.new key ≡ count_in self.old key + count_in other.now key) }
+        ensures counted { IfOk result
+            (λ _. (key : TallyKey) → count_in self.new key ≡ count_in self.old key + count_in other.now key) }
     {
         for (key, n) in &other.rows {
             self.add(*key, *n)?;

@@ -34,8 +34,8 @@ fn runs_answer(s: &Sampler)
     s.code().vars();
 }
 
-// Runs a worker for each pass, in a thread of its own, and gives back the passes and the tables of the workers. An error comes only
-// where memory runs out.
+// Runs a worker for each pass, in a thread of its own, and gives back the passes and the tables of the workers. An error comes
+// only where memory runs out.
 fn count_in_threads<R: Threads + Sync, G: Gate>(
     rt: &R,
     alloc: Global,
@@ -57,9 +57,10 @@ fn count_in_threads<R: Threads + Sync, G: Gate>(
     Ok((passes, tables))
 }
 
-/// How many of the streams of the range have runs of the sampler that end in each way: the outcomes, and the runs that need more bits
-/// than the budget. The rows are the same for any number of threads and any gate. Streams go in blocks of
-/// [`STREAMS_OF_A_BLOCK`], the last of which may be shorter, and the gate is told of each block before its first stream. An error comes only where memory runs out.
+/// How many of the streams of the range have runs of the sampler that end in each way: the outcomes, and the runs that need more
+/// bits than the budget. The rows are the same for any number of threads and any gate. Streams go in blocks of
+/// [`STREAMS_OF_A_BLOCK`], the last of which may be shorter, and the gate is told of each block before its first stream. An error
+/// comes only where memory runs out.
 pub fn tally<R: Threads + Sync, G: Gate>(
     rt: &R,
     alloc: Global,
@@ -71,8 +72,10 @@ pub fn tally<R: Threads + Sync, G: Gate>(
     requires limits { InRange l.now }
     requires range { IsRange range.now }
     requires workers { IsWorkers range.now.workers }
-    ensures rows { IfOk result (λ t. (run : List Bool → Answer) → IsRunOf s.now l.now run → IsTallyOf (count_range run range.now) t) }
-    ensures counts { IfOk result (λ t. (run : List Bool → Answer) → IsRunOf s.now l.now run → (key : TallyKey) → count_in t key ≡ count_range run range.now key) }
+    ensures rows { IfOk result
+        (λ t. (run : List Bool → Answer) → IsRunOf s.now l.now run → IsTallyOf (count_range run range.now) t) }
+    ensures counts { IfOk result (λ t. (run : List Bool → Answer) → IsRunOf s.now l.now run → (key : TallyKey)
+        → count_in t key ≡ count_range run range.now key) }
 {
     runs_answer(s);
     let job = Job {

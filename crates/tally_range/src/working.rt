@@ -20,8 +20,8 @@ use stream_runs::{Job, MOST_WORKERS, SeedRange};
 use zar_io::Gate;
 
 /// Claims blocks of streams, the last of which may be shorter, until there is none left, runs the sampler on the streams of each,
-/// and counts how the runs end. The gate is told of each block before its first stream. Whatever the answer, the share holds the same
-/// pass of the same board. An error comes only where memory runs out, and nothing is promised of the table then.
+/// and counts how the runs end. The gate is told of each block before its first stream. Whatever the answer, the share holds the
+/// same pass of the same board. An error comes only where memory runs out, and nothing is promised of the table then.
 pub fn work<G: Gate>(
     board: &Board,
     share: &mut Share,

@@ -11,4 +11,5 @@ block_start s j = first_in_block s.from j
 -- the first that is wanted of the streams of a block, which begins at `first`, below `to`
 abbrev pub FirstWanted : Sought → ℕ → ℕ → Option ℕ → Type 0
 FirstWanted s first to None = (i : ℕ) → first ≤ i → i < first + STREAMS_OF_A_BLOCK → i < to → s.wants i ≡ true → ⊥
-FirstWanted s first to (Some x) = (first ≤ x) × (x < first + STREAMS_OF_A_BLOCK) × (x < to) × (s.wants x ≡ true) × NoneWanted s first x
+FirstWanted s first to (Some x) =
+    (first ≤ x) × (x < first + STREAMS_OF_A_BLOCK) × (x < to) × (s.wants x ≡ true) × NoneWanted s first x

@@ -1,6 +1,6 @@
 -- What a worker's passes say before and after its work.
 use Rattle.std.specs.Prelude.{ℕ, ◌<◌, ◌≤◌, ◌≡◌, ◌⊎◌, ◌+◌, true, false, Bool, List, [], All}
-use Rattle.number_lists.specs.Numbers.{times, EachOnce}
+use Rattle.passes.specs.Numbers.{times, EachOnce}
 use Rattle.claim_board.specs.declared.pass.Board.{Board}
 use Rattle.claim_board.specs.declared.pass.Pass.{Pass}
 use Rattle.claim_board.specs.Board as claim
@@ -34,7 +34,8 @@ pub record IsReadyHunter (b : Board) (l : LeastBoard) (h : Hunter) : Type 0 wher
 
 -- each stream that is wanted, of these blocks, is at least what was seen
 abbrev pub Covers : Sought → List ℕ → ℕ → Type 0
-Covers s dealt seen = (j i : ℕ) → 0 < times j dealt → block_start s j ≤ i → i < block_start s j + STREAMS_OF_A_BLOCK → i < s.to → s.wants i ≡ true → seen ≤ i
+Covers s dealt seen = (j i : ℕ) → 0 < times j dealt → block_start s j ≤ i → i < block_start s j + STREAMS_OF_A_BLOCK → i < s.to
+    → s.wants i ≡ true → seen ≤ i
 
 -- each of these streams is wanted
 abbrev pub AreWanted : Sought → List ℕ → Type 0

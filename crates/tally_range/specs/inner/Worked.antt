@@ -4,7 +4,7 @@ use Rattle.gcl_core.specs.declared.answers.Answer.{Answer}
 use Rattle.gcl_core.specs.declared.answers.Limits.{Limits}
 use Rattle.gcl_core.specs.declared.answers.TallyKey.{TallyKey}
 use Rattle.sampler_code.specs.Assembled.{Assembled, IsRunOf}
-use Rattle.number_lists.specs.Total.{total}
+use Rattle.passes.specs.Total.{total}
 use Rattle.claim_board.specs.declared.pass.Pass.{Pass}
 use Rattle.claim_board.specs.Board.{dealt_to, IsSamePass}
 use Rattle.stream_runs.specs.declared.range.SeedRange.{SeedRange}

@@ -1,6 +1,6 @@
 use Rattle.std.proofs.Common.{◌++◌, List, sym, subst, rules}
 use Rattle.std.specs.List.{AllZip}
-use Rattle.number_lists.proofs.Elements.{all_zip_append}
+use Rattle.passes.proofs.Elements.{all_zip_append}
 use Rattle.claim_board.specs.declared.pass.Pass.{Pass}
 use Rattle.claim_board.specs.Board.{IsSamePass}
 use Rattle.claim_board.proofs.tests.+claim_in_threads+fn-claim_in_threads-join_mut+arg2+fn-claim_in_threads-join_mut+arg3.Goals as goal

@@ -1,6 +1,6 @@
 use Rattle.std.proofs.Common.{◌≡◌, ℕ, ◌+◌, max, List, ap, ◌∙◌, arith}
-use Rattle.number_lists.specs.Numbers.{top}
-use Rattle.number_lists.proofs.Times.{top_above, top-snoc}
+use Rattle.passes.specs.Numbers.{top}
+use Rattle.passes.proofs.Times.{top_above, top-snoc}
 use Rattle.claim_board.specs.Board.{dealt_to}
 use Rattle.claim_board.proofs.tests.claim_all.Goals as goal
 

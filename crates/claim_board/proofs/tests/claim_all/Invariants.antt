@@ -1,5 +1,5 @@
 use Rattle.std.proofs.Common.{◌≡◌, ◌-◌, ◌≤◌, false}
-use Rattle.number_lists.specs.Numbers.{top}
+use Rattle.passes.specs.Numbers.{top}
 use Rattle.claim_board.specs.Board.{blocks_of, dealt_to, had_none, IsPassOf, IsSamePass}
 use Rattle.claim_board.proofs.tests.claim_all.Given as goal
 

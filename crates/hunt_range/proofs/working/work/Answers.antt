@@ -46,7 +46,8 @@ loop-block-preserved g c =
     let some = c.in-Some.ensures.some in
     let e = c.look.ensures in
     let f = c.in_default-first_wanted.ensures in (
-      hunts_on c.args.board.now c.args.least.now (HasSearched c.args.job.now.sampler.now c.args.job.now.limits.now c.args.job.now.range.now c.args.want.now) c.args.hunter.now c.loop-block.hunter c.claim.new.pass c.look.new.pass c.in-Some.block c.loop-block.hunter.failed i c.in-Some.ensures.pass e.pass
+      hunts_on c.args.board.now c.args.least.now (HasSearched c.args.job.now.sampler.now c.args.job.now.limits.now c.args.job.now.range.now c.args.want.now)
+          c.args.hunter.now c.loop-block.hunter c.claim.new.pass c.look.new.pass c.in-Some.block c.loop-block.hunter.failed i c.in-Some.ensures.pass e.pass
           some.0 some.1 some.2 some.3
           (λ run is. goes_on (sought_of run c.args.job.now.range.now c.args.want.now) c.loop-block.hunter.pass c.claim.new.pass c.loop-block.hunter.bid c.look.new.pass c.in-Some.block (i.searched run is) some.2 (omega (arith, e.seen, e.below.0)) e.offers
           (subst (λ n. FirstWanted (sought_of run c.args.job.now.range.now c.args.want.now) n c.args.job.now.range.now.to None) c.first_stream-first.ensures.first

@@ -1,5 +1,5 @@
 use Rattle.std.proofs.Common.{◌≡◌, ◌-◌}
-use Rattle.number_lists.specs.Numbers.{top}
+use Rattle.passes.specs.Numbers.{top}
 use Rattle.claim_board.specs.Board.{blocks_of, dealt_to}
 use Rattle.sampler_run.specs.Held.{run_begun, set_back}
 use Rattle.hunt_range.proofs.Searching.{Hunting, HasSearched}

@@ -1,5 +1,5 @@
 use Rattle.std.proofs.Common.{◌≡◌, false}
-use Rattle.number_lists.proofs.Elements.{all_push}
+use Rattle.passes.proofs.Elements.{all_push}
 use Rattle.tally_range.specs.declared.share.Entry.{Entry}
 use Rattle.tally_range.specs.inner.Worked.{entry_pass, entry_table}
 use Rattle.tally_range.proofs.Backwards.{moved}

@@ -1,8 +1,8 @@
 use Rattle.std.proofs.Common.{◌≡◌, ℕ, ◌+◌, max, List, [], sym, ap, ◌∙◌, subst, arith}
-use Rattle.number_lists.specs.Total.{total}
-use Rattle.number_lists.specs.Numbers.{top}
-use Rattle.number_lists.proofs.Times.{top_above, top-snoc}
-use Rattle.number_lists.proofs.Totals.{total_snoc}
+use Rattle.passes.specs.Total.{total}
+use Rattle.passes.specs.Numbers.{top}
+use Rattle.passes.proofs.Times.{top_above, top-snoc}
+use Rattle.passes.proofs.Totals.{total_snoc}
 use Rattle.claim_board.specs.Board.{dealt_to}
 use Rattle.sampler_run.specs.Held.{Held, IsRestOf, StandsAfter}
 use Rattle.tally_range.specs.Blocks.{count_block}

@@ -1,8 +1,8 @@
 use Rattle.std.proofs.Common.{◌≡◌, ◌-◌, ◌*◌, ◌≤◌, Bool, List, false}
 use Rattle.gcl_core.specs.declared.answers.Answer.{Answer}
 use Rattle.gcl_core.specs.declared.answers.TallyKey.{TallyKey}
-use Rattle.number_lists.specs.Total.{total}
-use Rattle.number_lists.specs.Numbers.{top}
+use Rattle.passes.specs.Total.{total}
+use Rattle.passes.specs.Numbers.{top}
 use Rattle.claim_board.specs.Board.{blocks_of, dealt_to, had_none, IsPassOf, IsSamePass}
 use Rattle.sampler_code.specs.Assembled.{IsRunOf}
 use Rattle.sampler_run.specs.Held.{run_begun, set_back}

@@ -2,15 +2,15 @@ use Rattle.std.proofs.Common.{rules, ◌≡◌, ℕ, ◌+◌, true, List, length
 use Rattle.claim_board.specs.declared.pass.Pass.{Pass}
 use Rattle.claim_board.specs.declared.hand.Hand.{Hand}
 use Rattle.claim_board.specs.declared.hand.Terms.{Terms}
-use Rattle.number_lists.specs.Total.{total}
-use Rattle.number_lists.specs.Numbers.{times, once_below}
+use Rattle.passes.specs.Total.{total}
+use Rattle.passes.specs.Numbers.{times, once_below}
 use Rattle.claim_board.specs.Views.{joined}
 use Rattle.claim_board.specs.Board.{IsPassOf, numbers_of, dealt_to, had_none}
-use Rattle.number_lists.proofs.Times.{times-append, once_there}
+use Rattle.passes.proofs.Times.{once_there}
 use Rattle.claim_board.proofs.Keeps.{joins}
-use Rattle.number_lists.proofs.Totals.{total_empty, total_pop}
-use Rattle.number_lists.proofs.Elements.{all_pop}
-use Rattle.number_lists.proofs.Elements.{word_is}
+use Rattle.passes.proofs.Totals.{total_empty, total_pop}
+use Rattle.passes.proofs.Elements.{all_pop, word_is}
+use Rattle.passes.proofs.Gathers.{first_taken, next_taken, all_taken}
 use Rattle.claim_board.proofs.Passes.{gathered}
 use Rattle.claim_board.proofs.pass.Board.close.Goals as goal
 
@@ -24,8 +24,8 @@ loop-pass-init c = let is = c.in-Some.ensures.items in let p : Pass = c.in-Some.
   refl,
   a.1.0,
   a.0,
-  (λ x. let t = total_pop (λ (q : Pass). times x (numbers_of q)) c.args.passes.items c.pop.new.self.items p is in let all = c.requires.1 x in omega arith),
-  (λ x. let t = total_pop (λ (q : Pass). times x (dealt_to q)) c.args.passes.items c.pop.new.self.items p is in omega arith),
+  first_taken numbers_of (λ x. once_below x c.args.self.workers) c.args.passes.items c.pop.new.self.items p is c.requires.1,
+  first_taken dealt_to (λ x. total (λ (q : Pass). times x (dealt_to q)) c.args.passes.items) c.args.passes.items c.pop.new.self.items p is (λ x. refl),
   (let t = total_pop (λ (q : Pass). length q.seat.me.0.ended) c.args.passes.items c.pop.new.self.items p is in omega arith),
 )
 
@@ -48,8 +48,8 @@ loop-pass-preserved c = let i = c.loop-pass.invariant in let p : Pass = c.in-Som
       refl,
       c.join_seat.ensures.0 ∙ i.2,
       a.0,
-      (λ x. let t = total_pop (λ (q : Pass). times x (numbers_of q)) before after p is in let all = i.4 x in let b : times x c.join_seat.new.seat.me.0.numbers ≡ times x v.numbers + times x w.numbers = ap (λ (z : Hand). times x z.numbers) both ∙ times-append x v.numbers w.numbers in omega arith),
-      (λ x. let t = total_pop (λ (q : Pass). times x (dealt_to q)) before after p is in let all = i.5 x in let b : times x c.join_seat.new.seat.me.0.dealt ≡ times x v.dealt + times x w.dealt = ap (λ (z : Hand). times x z.dealt) both ∙ times-append x v.dealt w.dealt in omega arith),
+      next_taken numbers_of (λ x. once_below x c.args.self.workers) v.passes.numbers c.join_seat.new.seat.me.0.passes.numbers before after p is (ap (λ (z : Hand). z.passes.numbers) both) i.4,
+      next_taken dealt_to (λ x. total (λ (q : Pass). times x (dealt_to q)) c.args.passes.items) v.dealt c.join_seat.new.seat.me.0.dealt before after p is (ap (λ (z : Hand). z.dealt) both) i.5,
       (let t = total_pop (λ (q : Pass). length q.seat.me.0.ended) before after p is in let all = i.6 in let b : length c.join_seat.new.seat.me.0.ended ≡ length v.ended + length w.ended = ap (λ (z : Hand). length z.ended) both ∙ length-append v.ended w.ended in omega arith),
     )
 
@@ -64,8 +64,8 @@ ended : (c : goal.After-drop-passes) → Ended c
 ended c = let i = c.loop-pass.invariant in let last : length c.loop-pass.passes.items ≡ 0 = let e = c.in_default-pop.ensures.cases.0 in search rules in let f = c.close_with-closed.ensures.values.2 in let b = c.args.self in let t : Terms = b.table.shared.key in
     let v : Hand = c.loop-pass.seat.me.0 in
     let g = gathered t (get_or f.0.words 0 0) f.0.views c.loop-pass.seat.id v c.args.passes.items f.1.0.1 f.1.1
-    (λ x. let none_left = total_empty (λ (q : Pass). times x (numbers_of q)) c.loop-pass.passes.items last in let all = i.4 x in let told : once_below x t.workers ≡ once_below x b.workers = ap (once_below x) b.told.1 in omega arith)
-    (λ x. let none_left = total_empty (λ (q : Pass). times x (dealt_to q)) c.loop-pass.passes.items last in let all = i.5 x in omega arith)
+    (λ x. all_taken numbers_of (λ x. once_below x b.workers) v.passes.numbers c.loop-pass.passes.items last i.4 x ∙ sym (ap (once_below x) b.told.1))
+    (all_taken dealt_to (λ x. total (λ (q : Pass). times x (dealt_to q)) c.args.passes.items) v.dealt c.loop-pass.passes.items last i.5)
     (let none_left = total_empty (λ (q : Pass). length q.seat.me.0.ended) c.loop-pass.passes.items last in let all = i.6 in omega arith) in
     let word : get_or f.0.words 0 0 ≡ c.word-word.result = word_is f.0.words _ c.word-word.result f.2 c.word-word.ensures in
     let result : min (get_or f.0.words 0 0) t.blocks ≡ c.min.result = (λ k. min (word k) (b.told.0 k)) ∙ sym c.min.ensures in (
