@@ -1,344 +1,486 @@
--- The bits of the draws that a table reaches are those that the statements let expect.
+-- The bits of the draws that a table reaches, with those read after it in the table that it leaves, are those that the statements let
+-- expect.
 use Rattle.std.proofs.Common.{◌≡◌, ℕ, zero, suc, ◌+◌, ◌-◌, ◌*◌, ◌<◌, ℤ, pos, negsuc, Bool, true, false, cond, List, [], ◌∷◌, ◌++◌, Ok, Err, Option, Some, None, refl, sym, ap, ◌∙◌, subst, arith}
-use Rattle.gcl_core.specs.meaning.Syntax.{Statement, Skip, Set, If, While, Choice, Choose, Uniform, Observe, Statements, done, ◌▸◌, ArmList, no_arm, arm}
+use Rattle.std.specs.Prelude.{slice_set}
+use Rattle.std.proofs.Math.Path.{fun_ext}
 use Rattle.std.specs.List.{sum}
+use Rattle.gcl_core.specs.meaning.Syntax.{Statement, Skip, Set, If, While, Choice, Choose, Uniform, Observe, Statements, done, ◌▸◌, ArmList, no_arm, arm}
 use Rattle.gcl_core.specs.meaning.Arms.{parts_of}
 use Rattle.gcl_core.specs.meaning.Draw.{last_end, choice_ends, uniform_ends}
 use Rattle.gcl_core.specs.meaning.Parts.{sums_from, partial_sums}
 use Rattle.gcl_core.specs.meaning.Value.{State, Value, value_of, is_zero}
-use Rattle.gcl_core.specs.meaning.Blocks.{End, on, failed, fault, limit, by_value, by_truth, by_bound, by_class, by_end}
+use Rattle.gcl_core.specs.declared.answers.Fault.TheVariants.{BadBound}
+use Rattle.gcl_core.specs.declared.answers.Limit.TheVariants.{Turns, Attempts}
+use Rattle.gcl_core.specs.meaning.Blocks.{End, on, failed, fault, limit, by_value, by_truth, by_bound, by_class, statement_in, arm_in, loop_in, value_in, uniform_in}
 use Rattle.gcl_core.specs.meaning.Bounds.{StatementIsWeighed, BlockIsWeighed, ArmsAreWeighed}
 use Rattle.gcl_core.specs.weighing.Fractions.{Fraction, zero_share, plus, times}
-use Rattle.gcl_core.specs.weighing.WeightedEnds.{scaled, class_weight, no_class_weight, classes_from, weighted_classes, statement_weighted, weighted_ends}
-use Rattle.cost_law.specs.ExpectedBits.{draw_bits, on_average, loop_bits, statement_bits, block_bits, arm_bits}
+use Rattle.gcl_core.specs.weighing.WeightedEnds.{Weighted, sure, scaled, taken_on, class_weight, no_class_weight, classes_from, weighted_classes, end_weighted, draw_weighted, statement_weighted}
 use Rattle.gcl_core.proofs.PartialSums.{last_is}
+use Rattle.gcl_core.proofs.Plays.{Play, ended, drawing, block_play}
+use Rattle.cost_law.specs.ExpectedBits.{draw_bits, on_average, Bits, end_bits, then_bits, class_bits, block_bits}
+use Rattle.cost_law.proofs.BlockCosts.{play_bits, play_block}
 use Rattle.cost_law.proofs.DrawBits.{draw_bits_pos}
 use Rattle.frac128.specs.Fraction.{IsEqual}
 use Rattle.frac128.proofs.Divisors.{product_pos, equal_trans}
-use Rattle.mass_tables.specs.Tables.{Table, holds, fails, only, statement_flow, block_flow}
-use Rattle.mass_tables.specs.Reached.{drawn_each, drawn_bound, loop_draws, statement_draws, block_draws, arms_draws}
+use Rattle.mass_tables.specs.Tables.{Table, going_on, holds, fails, only, loop_flow, statement_flow, block_flow, arms_flow}
+use Rattle.mass_tables.specs.Reached.{ReachedDraws, drawn_each, drawn_bound, loop_draws, statement_draws, block_draws, arms_draws}
 use Rattle.mass_tables.proofs.Draws.{class_pos, no_class_pos}
-use Rattle.mass_tables.proofs.Paths.{statement_positive, ends_positive}
-use Rattle.mass_tables.proofs.Positive.{Positive, p_draw, p_scaled, p_only, p_one, p_all}
-use Rattle.mass_tables.proofs.EqualFractions.{equal_plus}
-use Rattle.cost_fold.proofs.Equal.{average_positive, average_append, average_equal, average_nothing, average_scaled, average_within, average_sum, average_guard, none_more}
-use Rattle.cost_fold.proofs.Transfer.{next_statement, next_block}
+use Rattle.mass_tables.proofs.Paths.{statement_positive}
+use Rattle.mass_tables.proofs.Positive.{Positive, p_taken, p_going, p_scaled, p_only, p_one, p_all}
+use Rattle.mass_tables.proofs.EqualFractions.{equal_plus, equal_times}
+use Rattle.weighing_law.proofs.Shares.{factor_pos}
+use Rattle.cost_fold.proofs.Equal.{plus_assoc, nothing_plus, average_positive, average_append, average_equal, average_nothing, average_scaled, average_within, average_taken, average_sum, average_going, average_guard}
 
 -- the bits of a draw
 abbrev pub cost_of : ℕ → List ℕ → Fraction
 cost_of r ends = draw_bits ends r
 
-zero_equal : (p q : Fraction) → p.0 ≡ 0 → q.0 ≡ 0 → IsEqual p q
-zero_equal p q a b = rw (a, b) (omega arith)
+-- ---- fractions of one value
+pub record Same (p q : Fraction) : Type 0 where
+  pub equal : IsEqual p q
+  pub left : 0 < p.1
+  pub right : 0 < q.1
 
--- ---- the draws of one statement
-average_each : (g : List ℕ → Fraction) (ends : List ℕ) (I : Table) → on_average (drawn_each ends I) g ≡ on_average I (λ s. g ends)
-average_each g ends [] = refl
-average_each g ends (e ∷ I) = ap (plus (times e.0 (g ends))) (average_each g ends I)
+same_self : (p : Fraction) → 0 < p.1 → Same p p
+same_self p h = record { equal = refl; left = h; right = h }
 
-average_bound : (g : List ℕ → Fraction) (v : State → Value) (I : Table) → IsEqual (on_average (drawn_bound v I) g) (on_average I (λ s. by_value (v s) (λ f. zero_share) (λ z. by_bound z zero_share (λ m. g (uniform_ends m)))))
-average_bound g v [] = refl
-average_bound g v (e ∷ I) = by_state (v e.1) (average_bound g v I)
+same_turn : (p q : Fraction) → Same p q → Same q p
+same_turn p q a = record { equal = sym a.equal; left = a.right; right = a.left }
+
+same_trans : (p q t : Fraction) → Same p q → Same q t → Same p t
+same_trans p q t a b = record { equal = equal_trans p q t a.right a.equal b.equal; left = a.left; right = b.right }
+
+same_plus : (p q s t : Fraction) → Same p q → Same s t → Same (plus p s) (plus q t)
+same_plus p q s t a b = record { equal = equal_plus p q s t a.equal b.equal; left = product_pos p.1 s.1 a.left b.left; right = product_pos q.1 t.1 a.right b.right }
+
+same_times : (w p q : Fraction) → 0 < w.1 → Same p q → Same (times w p) (times w q)
+same_times w p q h a = record { equal = equal_times w w p q refl a.equal; left = product_pos w.1 p.1 h a.left; right = product_pos w.1 q.1 h a.right }
+
+plus_left : (p q : Fraction) → 0 < (plus p q).1 → 0 < p.1
+plus_left p q h = factor_pos p.1 q.1 (p.1 * q.1) refl h
+
+plus_right : (p q : Fraction) → 0 < (plus p q).1 → 0 < q.1
+plus_right p q h = factor_pos q.1 p.1 (p.1 * q.1) (omega arith) h
+
+nothing_more : (p q : Fraction) → 0 < p.1 → 0 < q.1 → q.0 ≡ 0 → Same (plus p q) p
+nothing_more p q h k e = record { equal = none p.0 p.1 q.0 q.1 e; left = product_pos p.1 q.1 h k; right = h }
   where
-    X : Fraction
-    X = on_average (drawn_bound v I) g
+    none : (a b c d : ℕ) → c ≡ 0 → (a * d + c * b) * b ≡ a * (b * d)
+    none a b c d e = rw e (omega arith)
 
-    A : Fraction
-    A = on_average I (λ s. by_value (v s) (λ f. zero_share) (λ z. by_bound z zero_share (λ m. g (uniform_ends m))))
+pair_is : (a b c d : ℕ) → a ≡ c → b ≡ d → ◌≡◌ {A = Fraction} (a, b) (c, d)
+pair_is a b c d e f = ap (λ x. (x, b)) e ∙ ap (λ y. (c, y)) f
 
-    by_sign : (z : ℤ) → IsEqual X A → IsEqual (on_average (by_bound z [] (λ m. (e.0, uniform_ends m) ∷ []) ++ drawn_bound v I) g) (plus (times e.0 (by_bound z zero_share (λ m. g (uniform_ends m)))) A)
-    by_sign (pos zero) i = none_more e.0.0 e.0.1 X.0 X.1 A.0 A.1 i
-    by_sign (pos (suc m)) i = equal_plus (times e.0 (g (uniform_ends (suc m)))) (times e.0 (g (uniform_ends (suc m)))) X A refl i
-    by_sign (negsuc m) i = none_more e.0.0 e.0.1 X.0 X.1 A.0 A.1 i
+four : (a b x y : Fraction) → plus (plus a b) (plus x y) ≡ plus (plus a x) (plus b y)
+four a b x y = pair_is _ _ _ _ (omega arith) (omega arith)
 
-    by_state : (o : Value) → IsEqual X A → IsEqual (on_average (by_value o (λ f. []) (λ z. by_bound z [] (λ m. (e.0, uniform_ends m) ∷ [])) ++ drawn_bound v I) g) (plus (times e.0 (by_value o (λ f. zero_share) (λ z. by_bound z zero_share (λ m. g (uniform_ends m))))) A)
-    by_state (Ok z) i = by_sign z i
-    by_state (Err f) i = none_more e.0.0 e.0.1 X.0 X.1 A.0 A.1 i
+plus_turned : (p q : Fraction) → plus p q ≡ plus q p
+plus_turned p q = pair_is _ _ _ _ (omega arith) (omega arith)
+
+-- ---- averages
+module _ {A : Type 0} (m : Weighted A) (pm : Positive m) where
+  same_average : (f g : A → Fraction) → ((a : A) → Same (f a) (g a)) → Same (on_average m f) (on_average m g)
+  same_average f g h = record { equal = average_equal m f g (λ a. (h a).equal); left = average_positive m f pm (λ a. (h a).left); right = average_positive m g pm (λ a. (h a).right) }
+
+  same_sum : (f g : A → Fraction) → ((a : A) → 0 < (f a).1) → ((a : A) → 0 < (g a).1) → Same (plus (on_average m f) (on_average m g)) (on_average m (λ a. plus (f a) (g a)))
+  same_sum f g pf pg = record {
+    equal = sym (average_sum m f g);
+    left = product_pos (on_average m f).1 (on_average m g).1 (average_positive m f pm pf) (average_positive m g pm pg);
+    right = average_positive m (λ a. plus (f a) (g a)) pm (λ a. product_pos (f a).1 (g a).1 (pf a) (pg a));
+  }
+
+  same_scaled : (w : Fraction) → 0 < w.1 → (g : A → Fraction) → ((a : A) → 0 < (g a).1) → Same (on_average (scaled w m) g) (on_average m (λ a. times w (g a)))
+  same_scaled w h g pg =
+      let a = on_average m g in
+      let x = average_positive (scaled w m) g (p_scaled w m h pm) pg in
+      let y = average_positive m (λ a. times w (g a)) pm (λ a. product_pos w.1 (g a).1 h (pg a)) in
+      record {
+        equal = equal_trans (on_average (scaled w m) g) (times w a) (on_average m (λ a. times w (g a))) (product_pos w.1 a.1 h (average_positive m g pm pg)) (average_scaled w m g) (sym (average_within w m g));
+        left = x;
+        right = y;
+      }
 
 -- ---- second numbers
-by_value_positive : (v : Value) (go : ℤ → Fraction) → ((z : ℤ) → 0 < (go z).1) → 0 < (by_value v (λ f. zero_share) go).1
-by_value_positive (Ok z) go h = h z
-by_value_positive (Err f) go h = omega arith
+end_bits_pos : (e : End) (more : State → Fraction) → ((s : State) → 0 < (more s).1) → 0 < (end_bits e more).1
+end_bits_pos (on s) more h = h s
+end_bits_pos failed more h = omega arith
+end_bits_pos (fault f) more h = omega arith
+end_bits_pos (limit l) more h = omega arith
 
-by_truth_positive : (z : ℤ) (a c : Fraction) → 0 < a.1 → 0 < c.1 → 0 < (by_truth z a c).1
-by_truth_positive z a c h k = by_zero (is_zero z)
-  where
-    by_zero : (b : Bool) → 0 < (cond b c a).1
-    by_zero true = k
-    by_zero false = h
+classes_positive : (r : ℕ) (b i c : ℕ) (ends : List ℕ) → Positive (classes_from (class_weight b (Some r)) i c ends ++ (no_class_weight b (Some r), None) ∷ [])
+classes_positive r b i c [] = (no_class_pos b (Some r), tt)
+classes_positive r b i c (d ∷ ends) = (no_class_pos b (Some r), classes_positive r b (i + 1) d ends)
 
-by_bound_positive : (z : ℤ) (g : ℕ → Fraction) → ((m : ℕ) → 0 < (g m).1) → 0 < (by_bound z zero_share g).1
-by_bound_positive (pos zero) g h = omega arith
-by_bound_positive (pos (suc m)) g h = h (suc m)
-by_bound_positive (negsuc m) g h = omega arith
-
-by_end_positive : (e : End) (g : State → Fraction) → ((s : State) → 0 < (g s).1) → 0 < (by_end e (λ e. zero_share) g).1
-by_end_positive (on s) g h = h s
-by_end_positive failed g h = omega arith
-by_end_positive (fault f) g h = omega arith
-by_end_positive (limit l) g h = omega arith
-
-by_class_positive : (class : Option ℕ) (g : ℕ → Fraction) → ((i : ℕ) → 0 < (g i).1) → 0 < (by_class class zero_share g).1
-by_class_positive None g h = omega arith
-by_class_positive (Some i) g h = h i
-
-plus_positive : (p q : Fraction) → 0 < p.1 → 0 < q.1 → 0 < (plus p q).1
-plus_positive p q h k = product_pos p.1 q.1 h k
+play_positive : (r : ℕ) (p : Play) (more : State → Fraction) → ((s : State) → 0 < (more s).1) → 0 < (play_bits r p more).1
+play_positive r (ended e) more h = end_bits_pos e more h
+play_positive r (drawing cs k) more h =
+    let go = λ (class : Option ℕ). by_class class zero_share (λ i. play_bits r (k i) more) in
+    product_pos (draw_bits cs r).1 (on_average (weighted_classes cs (Some r)) go).1 (draw_bits_pos cs r)
+    (average_positive (weighted_classes cs (Some r)) go (classes_positive r (last_end cs) 0 0 cs) (elim [ None ↦ omega arith | Some i ↦ play_positive r (k i) more h ]))
 
 module _ (n r : ℕ) where
-  abbrev c : List ℕ → Fraction
-  c = cost_of r
+  block_positive : (b : Statements) (s : State) (more : State → Fraction) → ((s : State) → 0 < (more s).1) → 0 < (block_bits n r b s more).1
+  block_positive b s more h = subst (λ m. 0 < (m more).1) (play_block r n b s) (play_positive r (block_play n b s) more h)
 
-  turns_positive : (v : State → Value) (b : Statements) → BlockIsWeighed b → ((s : State) → 0 < (block_bits n r b s).1) → (t : ℕ) (s : State) → 0 < (loop_bits v (block_bits n r b) (weighted_ends n (Some r) b) t s).1
-  turns_positive v b w h zero s = omega arith
-  turns_positive v b w h (suc t) s =
-      let more = loop_bits v (block_bits n r b) (weighted_ends n (Some r) b) t in
-      let X = on_average (weighted_ends n (Some r) b s) (λ e. by_end e (λ e. zero_share) more) in
-      let pX = average_positive (weighted_ends n (Some r) b s) (λ e. by_end e (λ e. zero_share) more) (ends_positive n (Some r) b s w) (λ e. by_end_positive e more (turns_positive v b w h t)) in
-      by_value_positive (v s) (λ z. by_truth z (plus (block_bits n r b s) X) zero_share) (λ z. by_truth_positive z (plus (block_bits n r b s) X) zero_share (plus_positive (block_bits n r b s) X (h s) pX) (omega arith))
+  module _ (more : State → Fraction) (pm : (s : State) → 0 < (more s).1) where
+    guard_pos : (v : Value) (a c : Fraction) → 0 < a.1 → 0 < c.1 → 0 < (by_value v (λ f. zero_share) (λ z. by_truth z a c)).1
+    guard_pos (Err f) a c h k = omega arith
+    guard_pos (Ok z) a c h k = by_test (is_zero z)
+      where
+        by_test : (b : Bool) → 0 < (cond b c a).1
+        by_test true = k
+        by_test false = h
 
-  mutual
-    pub statement_bits_positive : (st : Statement) → StatementIsWeighed st → (s : State) → 0 < (statement_bits n r st s).1
-    statement_bits_positive Skip w s = omega arith
-    statement_bits_positive (Set x e) w s = omega arith
-    statement_bits_positive (Observe e) w s = omega arith
-    statement_bits_positive (If e a b) w s = by_value_positive (value_of e s) (λ z. by_truth z (block_bits n r a s) (block_bits n r b s)) (λ z. by_truth_positive z (block_bits n r a s) (block_bits n r b s) (block_bits_positive a w.0 s) (block_bits_positive b w.1 s))
-    statement_bits_positive (Choice p a b) w s =
-        let h : 0 < p.den = let o = w.0.positive in omega arith in
-        let x = block_bits_positive a w.1 s in
-        let y = block_bits_positive b w.2 s in
-        let u = times (class_weight p.den (Some r) (p.num - 0)) (block_bits n r a s) in
-        let k = times (class_weight p.den (Some r) (p.den - p.num)) (block_bits n r b s) in
-        let o = times (no_class_weight p.den (Some r)) zero_share in
-        plus_positive (c (choice_ends p)) (plus u (plus k (plus o zero_share))) (draw_bits_pos (choice_ends p) r)
-        (plus_positive u (plus k (plus o zero_share)) (product_pos (class_weight p.den (Some r) (p.num - 0)).1 (block_bits n r a s).1 (class_pos p.den (Some r) (p.num - 0) h) x)
-        (plus_positive k (plus o zero_share) (product_pos (class_weight p.den (Some r) (p.den - p.num)).1 (block_bits n r b s).1 (class_pos p.den (Some r) (p.den - p.num) h) y)
-        (plus_positive o zero_share (product_pos (no_class_weight p.den (Some r)).1 1 (no_class_pos p.den (Some r)) (omega arith)) (omega arith))))
-    statement_bits_positive (Choose arms) w s =
-        let ends = partial_sums (parts_of arms) in
-        let go = λ (class : Option ℕ). by_class class zero_share (λ i. arm_bits n r arms i s) in
-        let h : 0 < last_end ends = let o = w.0.positive in let e = last_is (parts_of arms) in omega arith in
-        plus_positive (c ends) (on_average (weighted_classes ends (Some r)) go) (draw_bits_pos ends r)
-        (average_positive (weighted_classes ends (Some r)) go (p_draw ends (Some r) h) (λ class. by_class_positive class (λ i. arm_bits n r arms i s) (λ i. arm_bits_positive arms w.1 i s)))
-    statement_bits_positive (Uniform x e) w s = by_value_positive (value_of e s) (λ z. by_bound z zero_share (λ m. draw_bits (uniform_ends m) r)) (λ z. by_bound_positive z (λ m. draw_bits (uniform_ends m) r) (λ m. draw_bits_pos (uniform_ends m) r))
-    statement_bits_positive (While e a) w s = turns_positive (value_of e) a w (block_bits_positive a w) n s
+    guard_more : (v : Value) (a c : Bits) → by_value v (λ f. end_bits (fault f)) (λ z. by_truth z a c) more ≡ by_value v (λ f. zero_share) (λ z. by_truth z (a more) (c more))
+    guard_more (Err f) a c = refl
+    guard_more (Ok z) a c = by_test (is_zero z)
+      where
+        by_test : (b : Bool) → cond b c a more ≡ cond b (c more) (a more)
+        by_test true = refl
+        by_test false = refl
 
-    pub block_bits_positive : (b : Statements) → BlockIsWeighed b → (s : State) → 0 < (block_bits n r b s).1
-    block_bits_positive done w s = omega arith
-    block_bits_positive (st ▸ b) w s =
-        let go = λ (e : End). by_end e (λ e. zero_share) (block_bits n r b) in
-        plus_positive (statement_bits n r st s) (on_average (statement_weighted n (Some r) st s) go) (statement_bits_positive st w.0 s)
-        (average_positive (statement_weighted n (Some r) st s) go (statement_positive n (Some r) st s w.0) (λ e. by_end_positive e (block_bits n r b) (block_bits_positive b w.1)))
+    guard_same : (v : State → Value) (a c : State → Bits) → ((s : State) → 0 < (a s more).1) → ((s : State) → 0 < (c s more).1) → (I : Table) → Positive I →
+        Same (plus (on_average (only (holds v) I) (λ s. a s more)) (on_average (only (fails v) I) (λ s. c s more))) (on_average I (λ s. by_value (v s) (λ f. end_bits (fault f)) (λ z. by_truth z (a s) (c s)) more))
+    guard_same v a c pa pc I p =
+        let A = on_average (only (holds v) I) (λ s. a s more) in
+        let C = on_average (only (fails v) I) (λ s. c s more) in
+        subst (λ f. Same (plus A C) (on_average I f)) (sym (fun_ext (λ s. guard_more (v s) (a s) (c s))))
+        (record {
+          equal = sym (average_guard v (λ s. a s more) (λ s. c s more) I);
+          left = product_pos A.1 C.1 (average_positive (only (holds v) I) (λ s. a s more) (p_only (holds v) I p) pa) (average_positive (only (fails v) I) (λ s. c s more) (p_only (fails v) I p) pc);
+          right = average_positive I (λ s. by_value (v s) (λ f. zero_share) (λ z. by_truth z (a s more) (c s more))) p (λ s. guard_pos (v s) (a s more) (c s more) (pa s) (pc s));
+        })
 
-    arm_bits_positive : (arms : ArmList) → ArmsAreWeighed arms → (i : ℕ) (s : State) → 0 < (arm_bits n r arms i s).1
-    arm_bits_positive no_arm w i s = omega arith
-    arm_bits_positive (arm p b arms) w zero s = block_bits_positive b w.0 s
-    arm_bits_positive (arm p b arms) w (suc i) s = arm_bits_positive arms w.1 i s
+  -- ---- draws, the table after them, and what is read then
+  abbrev pub cost : List ℕ → Fraction
+  cost = cost_of r
 
-  -- ---- the arms of a choice among several, where the parts are b together
-  abbrev bits_of_arms : ℕ → ArmList → State → Fraction
-  bits_of_arms b no_arm s = zero_share
-  bits_of_arms b (arm p a arms) s = plus (times (class_weight b (Some r) p) (block_bits n r a s)) (bits_of_arms b arms s)
+  abbrev pub Goes : ReachedDraws → Table → (State → Fraction) → Fraction → Type 0
+  Goes D N more x = Same (plus (on_average D cost) (on_average N more)) x
 
-  bits_of_arms_positive : (b : ℕ) → 0 < b → (arms : ArmList) → ArmsAreWeighed arms → (s : State) → 0 < (bits_of_arms b arms s).1
-  bits_of_arms_positive b h no_arm w s = omega arith
-  bits_of_arms_positive b h (arm p a arms) w s =
-      let u = class_weight b (Some r) p in
-      plus_positive (times u (block_bits n r a s)) (bits_of_arms b arms s) (product_pos u.1 (block_bits n r a s).1 (class_pos b (Some r) p h) (block_bits_positive a w.0 s)) (bits_of_arms_positive b h arms w.1 s)
+  goes_then : (D E : ReachedDraws) (N M : Table) (k more : State → Fraction) (x : Fraction) → Goes D N k x → Goes E M more (on_average N k) → Goes (D ++ E) M more x
+  goes_then D E N M k more x a b =
+      let d = on_average D cost in
+      let e = on_average E cost in
+      let u = on_average M more in
+      let v = on_average N k in
+      subst (λ y. Same y x) (sym (ap (λ y. plus y u) (average_append D E cost) ∙ plus_assoc d e u))
+      (same_trans (plus d (plus e u)) (plus d v) x (same_plus d d (plus e u) v (same_self d (plus_left d v a.left)) b) a)
 
-  -- classes that are numbered from one more
-  classes_shifted : (weight : ℕ → Fraction) (i d : ℕ) (ends : List ℕ) (k : ℕ → Fraction) →
-      on_average (classes_from weight (i + 1) d ends) (λ class. by_class class zero_share k) ≡ on_average (classes_from weight i d ends) (λ class. by_class class zero_share (λ j. k (suc j)))
-  classes_shifted weight i d [] k = refl
-  classes_shifted weight i d (e ∷ ends) k =
-      let next : i + 1 ≡ suc i = omega arith in
-      ap (λ j. plus (times (weight (e - d)) (k j)) (on_average (classes_from weight (i + 1 + 1) e ends) (λ class. by_class class zero_share k))) next
-      ∙ ap (plus (times (weight (e - d)) (k (suc i)))) (classes_shifted weight (i + 1) e ends k)
+  goes_both : (D E : ReachedDraws) (N M : Table) (more : State → Fraction) (x y : Fraction) → Goes D N more x → Goes E M more y → Goes (D ++ E) (N ++ M) more (plus x y)
+  goes_both D E N M more x y a b =
+      let d = on_average D cost in
+      let e = on_average E cost in
+      let u = on_average N more in
+      let v = on_average M more in
+      subst (λ q. Same q (plus x y)) (sym (ap (λ q. plus q (on_average (N ++ M) more)) (average_append D E cost) ∙ ap (plus (plus d e)) (average_append N M more) ∙ four d e u v)) (same_plus (plus d u) x (plus e v) y a b)
 
-  arm_by_arm : (b d : ℕ) (arms : ArmList) (s : State) →
-      on_average (classes_from (class_weight b (Some r)) 0 d (sums_from d (parts_of arms))) (λ class. by_class class zero_share (λ i. arm_bits n r arms i s)) ≡ bits_of_arms b arms s
-  arm_by_arm b d no_arm s = refl
-  arm_by_arm b d (arm p a arms) s =
-      let size : d + p - d ≡ p = omega arith in
-      let rest = classes_shifted (class_weight b (Some r)) 0 (d + p) (sums_from (d + p) (parts_of arms)) (λ i. arm_bits n r (arm p a arms) i s) in
-      ap (λ k. plus (times (class_weight b (Some r) k) (block_bits n r a s)) (on_average (classes_from (class_weight b (Some r)) 1 (d + p) (sums_from (d + p) (parts_of arms))) (λ class. by_class class zero_share (λ i. arm_bits n r (arm p a arms) i s)))) size
-      ∙ ap (plus (times (class_weight b (Some r) p) (block_bits n r a s))) (rest ∙ arm_by_arm b (d + p) arms s)
-
-  -- with what no attempt decides, which reads nothing more
-  choose_bits : (arms : ArmList) (s : State) → IsEqual (plus (c (partial_sums (parts_of arms))) (bits_of_arms (sum (parts_of arms)) arms s)) (statement_bits n r (Choose arms) s)
-  choose_bits arms s =
-      let ends = partial_sums (parts_of arms) in
-      let b = sum (parts_of arms) in
-      let go = λ (class : Option ℕ). by_class class zero_share (λ i. arm_bits n r arms i s) in
-      let X = bits_of_arms b arms s in
-      let o = no_class_weight b (Some r) in
-      let all : on_average (weighted_classes ends (Some r)) go ≡ plus X (plus (times o zero_share) zero_share)
-      = ap (λ b. on_average (classes_from (class_weight b (Some r)) 0 0 ends ++ (no_class_weight b (Some r), None) ∷ []) go) (last_is (parts_of arms))
-      ∙ average_append (classes_from (class_weight b (Some r)) 0 0 ends) ((no_class_weight b (Some r), None) ∷ []) go
-      ∙ ap (λ x. plus x (plus (times o zero_share) zero_share)) (arm_by_arm b 0 arms s) in
-      equal_plus (c ends) (c ends) X (on_average (weighted_classes ends (Some r)) go) refl (subst (IsEqual X) (sym all) (none_more X.0 X.1 o.0 o.1))
+  -- draws made in each state of a table, before all else
+  goes_drawn : (ends : List ℕ) (I : Table) → Positive I → (D : ReachedDraws) (N : Table) (more f : State → Fraction) → ((s : State) → 0 < (f s).1) →
+      Goes D N more (on_average I f) → Goes (drawn_each ends I ++ D) N more (on_average I (λ s. plus (cost ends) (f s)))
+  goes_drawn ends I p D N more f pf a =
+      let c = on_average I (λ s. cost ends) in
+      let pc = average_positive I (λ s. cost ends) p (λ s. draw_bits_pos ends r) in
+      let d = on_average D cost in
+      let u = on_average N more in
+      let x = on_average I f in
+      subst (λ q. Same q (on_average I (λ s. plus (cost ends) (f s)))) (sym (ap (λ q. plus q u) (average_append (drawn_each ends I) D cost ∙ ap (λ q. plus q d) (each I)) ∙ plus_assoc c d u))
+      (same_trans (plus c (plus d u)) (plus c x) (on_average I (λ s. plus (cost ends) (f s))) (same_plus c c (plus d u) x (same_self c pc) a) (same_sum I p (λ s. cost ends) f (λ s. draw_bits_pos ends r) pf))
     where
-      none_more : (x0 x1 n0 n1 : ℕ) → IsEqual (x0, x1) (plus (x0, x1) (plus (times (n0, n1) zero_share) zero_share))
-      none_more x0 x1 n0 n1 = omega arith
+      each : (I : Table) → on_average (drawn_each ends I) cost ≡ on_average I (λ s. cost ends)
+      each [] = refl
+      each (e ∷ I) = ap (plus (times e.0 (cost ends))) (each I)
 
-  -- ---- one way of going on after another
-  -- first f, and then g on what goes on
-  in_turn : (I : Table) (f h : State → Fraction) (D E : Fraction) → Positive I → ((s : State) → 0 < (f s).1) → ((s : State) → 0 < (h s).1) → IsEqual D (on_average I f) → IsEqual E (on_average I h) → IsEqual (plus D E) (on_average I (λ s. plus (f s) (h s)))
-  in_turn I f h D E p pf ph d e =
-      let s : IsEqual (plus (on_average I f) (on_average I h)) (on_average I (λ s. plus (f s) (h s))) = sym (average_sum I f h) in
-      equal_trans (plus D E) (plus (on_average I f) (on_average I h)) (on_average I (λ s. plus (f s) (h s))) (plus_positive (on_average I f) (on_average I h) (average_positive I f p pf) (average_positive I h p ph)) (equal_plus D (on_average I f) E (on_average I h) d e) s
+  -- ---- loops
+  abbrev GoesBlock : Statements → Type 0
+  GoesBlock b = (I : Table) → Positive I → (more : State → Fraction) → ((s : State) → 0 < (more s).1) →
+      Goes (block_draws n (Some r) b I) (block_flow n (Some r) b I).next more (on_average I (λ s. block_bits n r b s more))
 
-  none_on_average : (I : Table) (f : State → Fraction) → ((s : State) → (f s).0 ≡ 0) → IsEqual zero_share (on_average I f)
-  none_on_average I f h = zero_equal zero_share (on_average I f) refl (average_nothing I f h)
+  abbrev turns : (State → Value) → Statements → ℕ → State → Bits
+  turns v b t = loop_in end_bits then_bits v (block_bits n r b) t
 
-  turns_reached : (v : State → Value) (b : Statements) → BlockIsWeighed b → ((I : Table) → Positive I → IsEqual (on_average (block_draws n (Some r) b I) c) (on_average I (block_bits n r b))) → (t : ℕ) (I : Table) → Positive I →
-      IsEqual (on_average (loop_draws v (block_draws n (Some r) b) (block_flow n (Some r) b) t I) c) (on_average I (loop_bits v (block_bits n r b) (weighted_ends n (Some r) b) t))
-  turns_reached v b w h zero I p = none_on_average I (loop_bits v (block_bits n r b) (weighted_ends n (Some r) b) zero) (λ s. refl)
-  turns_reached v b w h (suc t) I p =
+  loop_pos : (v : State → Value) (b : Statements) (t : ℕ) (more : State → Fraction) → ((s : State) → 0 < (more s).1) → (s : State) → 0 < (turns v b t s more).1
+  loop_pos v b zero more pm s = subst (λ x. 0 < x.1) (sym (guard_more more pm (v s) (end_bits (limit Turns)) (end_bits (on s)))) (guard_pos more pm (v s) zero_share (more s) (omega arith) (pm s))
+  loop_pos v b (suc t) more pm s =
+      let rest = λ (s : State). turns v b t s more in
+      let x = block_bits n r b s rest in
+      subst (λ x. 0 < x.1) (sym (guard_more more pm (v s) (then_bits (block_bits n r b s) (turns v b t)) (end_bits (on s)))) (guard_pos more pm (v s) x (more s) (block_positive b s rest (loop_pos v b t more pm)) (pm s))
+
+  none_same : (q : Fraction) → q.0 ≡ 0 → 0 < q.1 → Same zero_share q
+  none_same q e h = record { equal = rw e (omega arith); left = omega arith; right = h }
+
+  loop_goes : (v : State → Value) (b : Statements) → BlockIsWeighed b → GoesBlock b → (t : ℕ) (I : Table) → Positive I → (more : State → Fraction) → ((s : State) → 0 < (more s).1) →
+      Goes (loop_draws v (block_draws n (Some r) b) (block_flow n (Some r) b) t I) (loop_flow v (block_flow n (Some r) b) t I).next more (on_average I (λ s. turns v b t s more))
+  loop_goes v b w h zero I p more pm =
+      let H = on_average (only (holds v) I) (λ s. zero_share) in
+      let F = on_average (only (fails v) I) more in
+      let pH = average_positive (only (holds v) I) (λ s. zero_share) (p_only (holds v) I p) (λ s. omega arith) in
+      let g = guard_same more pm v (λ s. end_bits (limit Turns)) (λ s. end_bits (on s)) (λ s. omega arith) pm I p in
+      same_trans (plus zero_share F) (plus H F) (on_average I (λ s. turns v b 0 s more))
+      (same_plus zero_share H F F (none_same H (average_nothing (only (holds v) I) (λ s. zero_share) (λ s. refl)) pH) (same_self F (plus_right H F g.left))) g
+  loop_goes v b w h (suc t) I p more pm =
       let A = only (holds v) I in
-      let pa = p_only (holds v) I p in
+      let pA = p_only (holds v) I p in
       let f = block_flow n (Some r) b A in
-      let more = loop_bits v (block_bits n r b) (weighted_ends n (Some r) b) t in
-      let pm = turns_positive v b w (block_bits_positive b w) t in
-      let rest = λ (s : State). on_average (weighted_ends n (Some r) b s) (λ e. by_end e (λ e. zero_share) more) in
-      let first = λ (s : State). plus (block_bits n r b s) (rest s) in
-      let prest = λ (s : State). average_positive (weighted_ends n (Some r) b s) (λ e. by_end e (λ e. zero_share) more) (ends_positive n (Some r) b s w) (λ e. by_end_positive e more pm) in
-      let pf = (p_all n (Some r) b A w pa).next in
+      let pf = (p_all n (Some r) b A w pA).next in
+      let rest = λ (s : State). turns v b t s more in
       let D = block_draws n (Some r) b A in
       let E = loop_draws v (block_draws n (Some r) b) (block_flow n (Some r) b) t f.next in
-      let x = h A pa in
-      let y = equal_trans (on_average E c) (on_average f.next more) (on_average A rest) (average_positive f.next more pf pm) (turns_reached v b w h t f.next pf) (next_block n (Some r) A pa more pm b w) in
-      let z = in_turn A (block_bits n r b) rest (on_average D c) (on_average E c) pa (block_bits_positive b w) prest x y in
-      let g = average_guard v first (λ s. zero_share) I in
-      let none = average_nothing (only (fails v) I) (λ s. zero_share) (λ s. refl) in
-      let N = on_average (only (fails v) I) (λ s. zero_share) in
-      let pn = average_positive (only (fails v) I) (λ s. zero_share) (p_only (fails v) I p) (λ s. omega arith) in
-      let F = on_average A first in
-      let pF = average_positive A first pa (λ s. plus_positive (block_bits n r b s) (rest s) (block_bits_positive b w s) (prest s)) in
-      let whole = on_average I (loop_bits v (block_bits n r b) (weighted_ends n (Some r) b) (suc t)) in
-      subst (λ q. IsEqual q whole) (sym (average_append D E c))
-      (equal_trans (plus (on_average D c) (on_average E c)) F whole pF z
-      (equal_trans F (plus F N) whole (plus_positive F N pF pn) (add_none F.0 F.1 N.0 N.1 none) (sym g)))
-    where
-      add_none : (F0 F1 N0 N1 : ℕ) → N0 ≡ 0 → F0 * (F1 * N1) ≡ (F0 * N1 + N0 * F1) * F1
-      add_none F0 F1 N0 N1 e = rw e (omega arith)
+      let M = (loop_flow v (block_flow n (Some r) b) t f.next).next in
+      let first = λ (s : State). block_bits n r b s rest in
+      let x = on_average A first in
+      let F = on_average (only (fails v) I) more in
+      let g = guard_same more pm v (λ s. then_bits (block_bits n r b s) (turns v b t)) (λ s. end_bits (on s)) (λ s. block_positive b s rest (loop_pos v b t more pm)) pm I p in
+      let inside = goes_then D E f.next M rest more x (h A pA rest (loop_pos v b t more pm)) (loop_goes v b w h t f.next pf more pm) in
+      let apart : Goes [] (only (fails v) I) more F = subst (λ q. Same q F) (nothing_plus F) (same_self F (plus_right x F g.left)) in
+      same_trans _ (plus F x) _ (goes_both [] (D ++ E) (only (fails v) I) M more F x apart inside) (subst (λ q. Same q (on_average I (λ s. turns v b (suc t) s more))) (plus_turned x F) g)
 
-  -- one side of a choice
-  side_reached : (w : Fraction) (b : Statements) (I : Table) → Positive I → 0 < w.1 → BlockIsWeighed b → ((I : Table) → Positive I → IsEqual (on_average (block_draws n (Some r) b I) c) (on_average I (block_bits n r b))) →
-      IsEqual (on_average (block_draws n (Some r) b (scaled w I)) c) (on_average I (λ s. times w (block_bits n r b s)))
-  side_reached w b I p wp wb h =
-      let S = scaled w I in
-      let ps = p_scaled w I wp p in
-      let pb = block_bits_positive b wb in
-      let a = on_average I (block_bits n r b) in
-      equal_trans (on_average (block_draws n (Some r) b S) c) (on_average S (block_bits n r b)) (on_average I (λ s. times w (block_bits n r b s))) (average_positive S (block_bits n r b) ps pb) (h S ps)
-      (equal_trans (on_average S (block_bits n r b)) (times w a) (on_average I (λ s. times w (block_bits n r b s))) (product_pos w.1 a.1 wp (average_positive I (block_bits n r b) p pb))
-      (average_scaled w I (block_bits n r b)) (sym (average_within w I (block_bits n r b))))
+  -- ---- statements that take each state by itself
+  module _ (more : State → Fraction) (pm : (s : State) → 0 < (more s).1) where
+    abbrev ongoing : End → Fraction
+    ongoing e = end_bits e more
+
+    sure_same : (e : End) → Same (on_average (sure e) ongoing) (ongoing e)
+    sure_same e = let x = ongoing e in let h = end_bits_pos e more pm in record { equal = alone x.0 x.1; left = omega (arith, h); right = h }
+      where
+        alone : (a b : ℕ) → (1 * a * 1 + 0 * (1 * b)) * b ≡ a * (1 * b * 1)
+        alone a b = omega arith
+
+    going_same : (k : State → Weighted End) → ((s : State) → Positive (k s)) → (f : State → Fraction) → ((s : State) → Same (on_average (k s) ongoing) (f s)) → (I : Table) → Positive I →
+        Same (on_average (going_on (taken_on I k)) more) (on_average I f)
+    going_same k pk f h I p =
+        let t = p_taken I k p pk in
+        let T = taken_on I k in
+        let x = on_average (going_on T) more in
+        let y = on_average T ongoing in
+        let z = on_average I (λ s. on_average (k s) ongoing) in
+        let py = average_positive T ongoing t (λ e. end_bits_pos e more pm) in
+        let each = same_average I p (λ s. on_average (k s) ongoing) f h in
+        same_trans x z (on_average I f)
+        (record { equal = equal_trans x y z py (average_going T more) (average_taken I k ongoing); left = average_positive (going_on T) more (p_going T t) pm; right = each.left }) each
+
+    each_goes : (k : State → Weighted End) → ((s : State) → Positive (k s)) → (f : State → Fraction) → ((s : State) → Same (on_average (k s) ongoing) (f s)) → (I : Table) → Positive I →
+        Goes [] (going_on (taken_on I k)) more (on_average I f)
+    each_goes k pk f h I p = subst (λ q. Same q (on_average I f)) (nothing_plus (on_average (going_on (taken_on I k)) more)) (going_same k pk f h I p)
+
+    set_same : (v : Value) (go : ℤ → End) → Same (on_average (by_value v (λ f. sure (fault f)) (λ z. sure (go z))) ongoing) (by_value v (λ f. end_bits (fault f)) (λ z. end_bits (go z)) more)
+    set_same (Ok z) go = sure_same (go z)
+    set_same (Err f) go = sure_same (fault f)
+
+    seen_same : (v : Value) (s : State) → Same (on_average (by_value v (λ f. sure (fault f)) (λ z. by_truth z (sure (on s)) (sure failed))) ongoing)
+        (by_value v (λ f. end_bits (fault f)) (λ z. by_truth z (end_bits (on s)) (end_bits failed)) more)
+    seen_same (Err f) s = sure_same (fault f)
+    seen_same (Ok z) s = by_test (is_zero z)
+      where
+        by_test : (b : Bool) → Same (on_average (cond b (sure failed) (sure (on s))) ongoing) (cond b (end_bits failed) (end_bits (on s)) more)
+        by_test true = sure_same failed
+        by_test false = sure_same (on s)
+
+    -- ---- a uniform draw
+    abbrev bound_bits : Value → Fraction
+    bound_bits v = by_value v (λ f. zero_share) (λ z. by_bound z zero_share (λ m. cost (uniform_ends m)))
+
+    bound_bits_pos : (v : Value) → 0 < (bound_bits v).1
+    bound_bits_pos (Err f) = omega arith
+    bound_bits_pos (Ok (pos zero)) = omega arith
+    bound_bits_pos (Ok (pos (suc m))) = draw_bits_pos (uniform_ends (suc m)) r
+    bound_bits_pos (Ok (negsuc m)) = omega arith
+
+    none_and : (e : End) → ongoing e ≡ zero_share → Same (plus zero_share (on_average (sure e) ongoing)) zero_share
+    none_and e q = subst (λ x. Same x zero_share) (nothing_plus (on_average (sure e) ongoing)) (subst (Same (on_average (sure e) ongoing)) q (sure_same e))
+
+    drawn_same : (x : ℕ) (v : Value) (s : State) →
+        Same (plus (bound_bits v) (on_average (value_in sure end_weighted v (λ z. uniform_in sure end_weighted (draw_weighted (Some r)) x z s)) ongoing))
+        (value_in end_bits then_bits v (λ z. uniform_in end_bits then_bits (class_bits r) x z s) more)
+    drawn_same x (Err f) s = none_and (fault f) refl
+    drawn_same x (Ok (pos zero)) s = none_and (fault BadBound) refl
+    drawn_same x (Ok (negsuc m)) s = none_and (fault BadBound) refl
+    drawn_same x (Ok (pos (suc m))) s =
+        let ends = uniform_ends (suc m) in
+        let cl = weighted_classes ends (Some r) in
+        let pcl = classes_positive r (last_end ends) 0 0 ends in
+        let k = λ (class : Option ℕ). by_class class (sure (limit Attempts)) (λ i. sure (on (slice_set s x (pos i)))) in
+        let f = λ (class : Option ℕ). by_class class zero_share (λ i. more (slice_set s x (pos i))) in
+        let h : (class : Option ℕ) → Same (on_average (k class) ongoing) (f class) = elim [ None ↦ sure_same (limit Attempts) | Some i ↦ sure_same (on (slice_set s x (pos i))) ] in
+        let each = same_average cl pcl (λ class. on_average (k class) ongoing) f h in
+        let t = average_positive (taken_on cl k) ongoing (p_taken cl k pcl (elim [ None ↦ (omega arith, tt) | Some i ↦ (omega arith, tt) ])) (λ e. end_bits_pos e more pm) in
+        same_plus (cost ends) (cost ends) (on_average (taken_on cl k) ongoing) (on_average cl f) (same_self (cost ends) (draw_bits_pos ends r))
+        (same_trans (on_average (taken_on cl k) ongoing) (on_average cl (λ class. on_average (k class) ongoing)) (on_average cl f) (record { equal = average_taken cl k ongoing; left = t; right = each.left }) each)
+
+    bound_draws : (v : State → Value) (I : Table) → Positive I → Same (on_average (drawn_bound v I) cost) (on_average I (λ s. bound_bits (v s)))
+    bound_draws v [] p = same_self zero_share (omega arith)
+    bound_draws v (e ∷ I) p = at_head (v e.1) (bound_draws v I p.1)
+      where
+        X : Fraction
+        X = on_average (drawn_bound v I) cost
+
+        A : Fraction
+        A = on_average I (λ s. bound_bits (v s))
+
+        no_draw : Same X A → Same X (plus (times e.0 zero_share) A)
+        no_draw i =
+            let none = times e.0 zero_share in
+            same_trans X A (plus none A) i (same_turn (plus none A) A (subst (λ q. Same q A) (plus_turned A none) (nothing_more A none i.right (product_pos e.0.1 1 p.0 (omega arith)) (omega arith))))
+
+        at_head : (o : Value) → Same X A → Same (on_average (by_value o (λ f. []) (λ z. by_bound z [] (λ m. (e.0, uniform_ends m) ∷ [])) ++ drawn_bound v I) cost) (plus (times e.0 (bound_bits o)) A)
+        at_head (Err f) i = no_draw i
+        at_head (Ok (pos zero)) i = no_draw i
+        at_head (Ok (negsuc m)) i = no_draw i
+        at_head (Ok (pos (suc m))) i =
+            let x = times e.0 (cost (uniform_ends (suc m))) in
+            same_plus x x X A (same_self x (product_pos e.0.1 (cost (uniform_ends (suc m))).1 p.0 (draw_bits_pos (uniform_ends (suc m)) r))) i
+
+    uniform_goes : (x : ℕ) (v : State → Value) → ((s : State) → Positive (value_in sure end_weighted (v s) (λ z. uniform_in sure end_weighted (draw_weighted (Some r)) x z s))) → (I : Table) → Positive I →
+        Goes (drawn_bound v I) (going_on (taken_on I (λ s. value_in sure end_weighted (v s) (λ z. uniform_in sure end_weighted (draw_weighted (Some r)) x z s)))) more
+        (on_average I (λ s. value_in end_bits then_bits (v s) (λ z. uniform_in end_bits then_bits (class_bits r) x z s) more))
+    uniform_goes x v pk I p =
+        let k = λ (s : State). value_in sure end_weighted (v s) (λ z. uniform_in sure end_weighted (draw_weighted (Some r)) x z s) in
+        let g = λ (s : State). on_average (k s) ongoing in
+        let f = λ (s : State). bound_bits (v s) in
+        let pg = λ (s : State). average_positive (k s) ongoing (pk s) (λ e. end_bits_pos e more pm) in
+        let D = on_average (drawn_bound v I) cost in
+        let N = on_average (going_on (taken_on I k)) more in
+        let all = λ (s : State). value_in end_bits then_bits (v s) (λ z. uniform_in end_bits then_bits (class_bits r) x z s) more in
+        same_trans (plus D N) (plus (on_average I f) (on_average I g)) (on_average I all) (same_plus D (on_average I f) N (on_average I g) (bound_draws v I p) (going_same k pk g (λ s. same_self (g s) (pg s)) I p))
+        (same_trans (plus (on_average I f) (on_average I g)) (on_average I (λ s. plus (f s) (g s))) (on_average I all) (same_sum I p f g (λ s. bound_bits_pos (v s)) pg) (same_average I p (λ s. plus (f s) (g s)) all (λ s. drawn_same x (v s) s)))
+
+    -- ---- choices
+    side_goes : (u : Fraction) → 0 < u.1 → (b : Statements) → GoesBlock b → (I : Table) → Positive I →
+        Goes (block_draws n (Some r) b (scaled u I)) (block_flow n (Some r) b (scaled u I)).next more (on_average I (λ s. times u (block_bits n r b s more)))
+    side_goes u pu b h I p =
+        let go = λ (s : State). block_bits n r b s more in
+        same_trans _ (on_average (scaled u I) go) _ (h (scaled u I) (p_scaled u I pu p) more pm) (same_scaled I p u pu go (λ s. block_positive b s more pm))
+
+    weighed_pos : (u : Fraction) → 0 < u.1 → (b : Statements) (s : State) → 0 < (times u (block_bits n r b s more)).1
+    weighed_pos u pu b s = product_pos u.1 (block_bits n r b s more).1 pu (block_positive b s more pm)
+
+    -- what no attempt gives reads no more
+    no_class : (x q o : Fraction) → 0 < x.1 → 0 < q.1 → 0 < o.1 → Same (plus x q) (plus x (plus q (plus (times o zero_share) zero_share)))
+    no_class x q o hx hq ho =
+        let none = plus (times o zero_share) zero_share in
+        same_plus x x q (plus q none) (same_self x hx) (same_turn (plus q none) q (nothing_more q none hq (product_pos (o.1 * 1) 1 (product_pos o.1 1 ho (omega arith)) (omega arith)) (omega arith)))
+
+    abbrev bits_of_arms : ℕ → ArmList → State → Fraction
+    bits_of_arms b no_arm s = zero_share
+    bits_of_arms b (arm q a arms) s = plus (times (class_weight b (Some r) q) (block_bits n r a s more)) (bits_of_arms b arms s)
+
+    abbrev arm_bits : ArmList → ℕ → State → Bits
+    arm_bits = arm_in end_bits then_bits (class_bits r) n
+
+    bits_of_arms_pos : (b : ℕ) → 0 < b → (arms : ArmList) (s : State) → 0 < (bits_of_arms b arms s).1
+    bits_of_arms_pos b h no_arm s = omega arith
+    bits_of_arms_pos b h (arm q a arms) s =
+        let u = class_weight b (Some r) q in
+        product_pos (times u (block_bits n r a s more)).1 (bits_of_arms b arms s).1 (weighed_pos u (class_pos b (Some r) q h) a s) (bits_of_arms_pos b h arms s)
+
+    -- classes that are numbered from one more
+    classes_shifted : (weight : ℕ → Fraction) (i d : ℕ) (ends : List ℕ) (k : ℕ → Fraction) →
+        on_average (classes_from weight (i + 1) d ends) (λ class. by_class class zero_share k) ≡ on_average (classes_from weight i d ends) (λ class. by_class class zero_share (λ j. k (suc j)))
+    classes_shifted weight i d [] k = refl
+    classes_shifted weight i d (e ∷ ends) k =
+        let next : i + 1 ≡ suc i = omega arith in
+        ap (λ j. plus (times (weight (e - d)) (k j)) (on_average (classes_from weight (i + 1 + 1) e ends) (λ class. by_class class zero_share k))) next
+        ∙ ap (plus (times (weight (e - d)) (k (suc i)))) (classes_shifted weight (i + 1) e ends k)
+
+    arm_by_arm : (b d : ℕ) (arms : ArmList) (s : State) →
+        on_average (classes_from (class_weight b (Some r)) 0 d (sums_from d (parts_of arms))) (λ class. by_class class zero_share (λ i. arm_bits arms i s more)) ≡ bits_of_arms b arms s
+    arm_by_arm b d no_arm s = refl
+    arm_by_arm b d (arm q a arms) s =
+        let size : d + q - d ≡ q = omega arith in
+        let rest = classes_shifted (class_weight b (Some r)) 0 (d + q) (sums_from (d + q) (parts_of arms)) (λ i. arm_bits (arm q a arms) i s more) in
+        ap (λ k. plus (times (class_weight b (Some r) k) (block_bits n r a s more)) (on_average (classes_from (class_weight b (Some r)) 1 (d + q) (sums_from (d + q) (parts_of arms))) (λ class. by_class class zero_share (λ i. arm_bits (arm q a arms) i s more)))) size
+        ∙ ap (plus (times (class_weight b (Some r) q) (block_bits n r a s more))) (rest ∙ arm_by_arm b (d + q) arms s)
+
+  abbrev statement_bits : Statement → State → Bits
+  statement_bits = statement_in end_bits then_bits (class_bits r) n
+
+  abbrev GoesStatement : Statement → Type 0
+  GoesStatement st = (I : Table) → Positive I → (more : State → Fraction) → ((s : State) → 0 < (more s).1) →
+      Goes (statement_draws n (Some r) st I) (statement_flow n (Some r) st I).next more (on_average I (λ s. statement_bits st s more))
 
   mutual
-    pub statement_reached : (st : Statement) → StatementIsWeighed st → (I : Table) → Positive I → IsEqual (on_average (statement_draws n (Some r) st I) c) (on_average I (statement_bits n r st))
-    statement_reached Skip w I p = none_on_average I (statement_bits n r Skip) (λ s. refl)
-    statement_reached (Set x e) w I p = none_on_average I (statement_bits n r (Set x e)) (λ s. refl)
-    statement_reached (Observe e) w I p = none_on_average I (statement_bits n r (Observe e)) (λ s. refl)
-    statement_reached (Uniform x e) w I p = average_bound c (value_of e) I
-    statement_reached (If e a b) w I p =
-        let v = value_of e in
-        let A = only (holds v) I in
-        let C = only (fails v) I in
-        let D = block_draws n (Some r) a A in
-        let E = block_draws n (Some r) b C in
-        let f = block_bits n r a in
-        let g = block_bits n r b in
-        let pa = p_only (holds v) I p in
-        let pc = p_only (fails v) I p in
-        let whole = on_average I (statement_bits n r (If e a b)) in
-        subst (λ q. IsEqual q whole) (sym (average_append D E c))
-        (equal_trans (plus (on_average D c) (on_average E c)) (plus (on_average A f) (on_average C g)) whole
-        (plus_positive (on_average A f) (on_average C g) (average_positive A f pa (block_bits_positive a w.0)) (average_positive C g pc (block_bits_positive b w.1)))
-        (equal_plus (on_average D c) (on_average A f) (on_average E c) (on_average C g) (block_reached a w.0 A pa) (block_reached b w.1 C pc)) (sym (average_guard v f g I)))
-    statement_reached (Choice q a b) w I p =
+    statement_goes : (st : Statement) → StatementIsWeighed st → GoesStatement st
+    statement_goes Skip w I p more pm = each_goes more pm (statement_weighted n (Some r) Skip) (λ s. statement_positive n (Some r) Skip s w) (λ s. more s) (λ s. sure_same more pm (on s)) I p
+    statement_goes (Set x e) w I p more pm =
+        each_goes more pm (statement_weighted n (Some r) (Set x e)) (λ s. statement_positive n (Some r) (Set x e) s w) (λ s. statement_bits (Set x e) s more) (λ s. set_same more pm (value_of e s) (λ z. on (slice_set s x z))) I p
+    statement_goes (Observe e) w I p more pm =
+        each_goes more pm (statement_weighted n (Some r) (Observe e)) (λ s. statement_positive n (Some r) (Observe e) s w) (λ s. statement_bits (Observe e) s more) (λ s. seen_same more pm (value_of e s) s) I p
+    statement_goes (Uniform x e) w I p more pm = uniform_goes more pm x (value_of e) (λ s. statement_positive n (Some r) (Uniform x e) s w) I p
+    statement_goes (If e a b) w I p more pm =
+        let A = only (holds (value_of e)) I in
+        let C = only (fails (value_of e)) I in
+        let x = on_average A (λ s. block_bits n r a s more) in
+        let y = on_average C (λ s. block_bits n r b s more) in
+        same_trans _ (plus x y) _
+        (goes_both _ _ _ _ more x y (block_goes a w.0 A (p_only (holds (value_of e)) I p) more pm) (block_goes b w.1 C (p_only (fails (value_of e)) I p) more pm))
+        (guard_same more pm (value_of e) (block_bits n r a) (block_bits n r b) (λ s. block_positive a s more pm) (λ s. block_positive b s more pm) I p)
+    statement_goes (Choice q a b) w I p more pm =
         let h : 0 < q.den = let o = w.0.positive in omega arith in
         let u = class_weight q.den (Some r) q.num in
         let k = class_weight q.den (Some r) (q.den - q.num) in
-        let A = λ (s : State). times u (block_bits n r a s) in
-        let B = λ (s : State). times k (block_bits n r b s) in
-        let D = block_draws n (Some r) a (scaled u I) in
-        let E = block_draws n (Some r) b (scaled k I) in
-        let C = drawn_each (choice_ends q) I in
         let pu = class_pos q.den (Some r) q.num h in
         let pk = class_pos q.den (Some r) (q.den - q.num) h in
-        let pA = λ (s : State). product_pos u.1 (block_bits n r a s).1 pu (block_bits_positive a w.1 s) in
-        let pB = λ (s : State). product_pos k.1 (block_bits n r b s).1 pk (block_bits_positive b w.2 s) in
-        let cost = λ (s : State). c (choice_ends q) in
-        let pc = λ (s : State). draw_bits_pos (choice_ends q) r in
-        let two = in_turn I A B (on_average D c) (on_average E c) p pA pB (side_reached u a I p pu w.1 (block_reached a w.1)) (side_reached k b I p pk w.2 (block_reached b w.2)) in
-        let both = λ (s : State). plus (A s) (B s) in
-        let pboth = λ (s : State). plus_positive (A s) (B s) (pA s) (pB s) in
-        let one : IsEqual (on_average C c) (on_average I cost) = subst (λ x. IsEqual x (on_average I cost)) (sym (average_each c (choice_ends q) I)) refl in
-        let all = in_turn I cost both (on_average C c) (plus (on_average D c) (on_average E c)) p pc pboth one two in
-        let made = λ (s : State). plus (cost s) (both s) in
-        let whole = on_average I (statement_bits n r (Choice q a b)) in
-        let each = average_equal I made (statement_bits n r (Choice q a b)) (λ s. choice_bits q a b s) in
-        let parts : on_average (C ++ (D ++ E)) c ≡ plus (on_average C c) (plus (on_average D c) (on_average E c)) = average_append C (D ++ E) c ∙ ap (plus (on_average C c)) (average_append D E c) in
-        subst (λ x. IsEqual x whole) (sym parts)
-        (equal_trans (plus (on_average C c) (plus (on_average D c) (on_average E c))) (on_average I made) whole (average_positive I made p (λ s. plus_positive (cost s) (both s) (pc s) (pboth s))) all each)
-      where
-        ring : (x0 x1 q0 q1 y0 y1 k0 k1 u0 u1 n0 n1 : ℕ) → IsEqual (plus (x0, x1) (plus (times (q0, q1) (y0, y1)) (times (k0, k1) (u0, u1)))) (plus (x0, x1) (plus (times (q0, q1) (y0, y1)) (plus (times (k0, k1) (u0, u1)) (plus (times (n0, n1) zero_share) zero_share))))
-        ring x0 x1 q0 q1 y0 y1 k0 k1 u0 u1 n0 n1 = omega arith
-
-        choice_bits : (q : _) (a b : Statements) (s : State) → IsEqual (plus (c (choice_ends q)) (plus (times (class_weight q.den (Some r) q.num) (block_bits n r a s)) (times (class_weight q.den (Some r) (q.den - q.num)) (block_bits n r b s)))) (statement_bits n r (Choice q a b) s)
-        choice_bits q a b s =
-            let x = c (choice_ends q) in
-            let y = block_bits n r a s in
-            let z = block_bits n r b s in
-            let u = class_weight q.den (Some r) q.num in
-            let k = class_weight q.den (Some r) (q.den - q.num) in
-            let o = no_class_weight q.den (Some r) in
-            let e : q.num ≡ q.num - 0 = omega arith in
-            subst (λ m. IsEqual (plus x (plus (times u y) (times k z))) (plus x (plus (times (class_weight q.den (Some r) m) y) (plus (times k z) (plus (times o zero_share) zero_share))))) e
-            (ring x.0 x.1 u.0 u.1 y.0 y.1 k.0 k.1 z.0 z.1 o.0 o.1)
-    statement_reached (Choose arms) w I p =
+        let A = λ (s : State). times u (block_bits n r a s more) in
+        let B = λ (s : State). times k (block_bits n r b s more) in
+        let pA = λ (s : State). weighed_pos more pm u pu a s in
+        let pB = λ (s : State). weighed_pos more pm k pk b s in
+        let f = λ (s : State). plus (A s) (B s) in
+        let pf = λ (s : State). product_pos (A s).1 (B s).1 (pA s) (pB s) in
+        let x = on_average I A in
+        let y = on_average I B in
+        let two = same_trans _ (plus x y) (on_average I f) (goes_both _ _ _ _ more x y (side_goes more pm u pu a (block_goes a w.1) I p) (side_goes more pm k pk b (block_goes b w.2) I p)) (same_sum I p A B pA pB) in
+        let ends = choice_ends q in
+        let made = λ (s : State). plus (cost ends) (f s) in
+        let o = no_class_weight q.den (Some r) in
+        let size : q.num ≡ q.num - 0 = omega arith in
+        let each : (s : State) → Same (made s) (statement_bits (Choice q a b) s more)
+        = λ s. subst (λ m. Same (made s) (plus (cost ends) (plus (times (class_weight q.den (Some r) m) (block_bits n r a s more)) (plus (B s) (plus (times o zero_share) zero_share))))) size
+        (subst (λ v. Same (made s) (plus (cost ends) v)) (plus_assoc (A s) (B s) (plus (times o zero_share) zero_share)) (no_class more pm (cost ends) (f s) o (draw_bits_pos ends r) (pf s) (no_class_pos q.den (Some r)))) in
+        same_trans _ (on_average I made) _ (goes_drawn ends I p _ _ more f pf two) (same_average I p made (λ s. statement_bits (Choice q a b) s more) each)
+    statement_goes (Choose arms) w I p more pm =
         let b = sum (parts_of arms) in
         let h : 0 < b = let o = w.0.positive in omega arith in
         let ends = partial_sums (parts_of arms) in
-        let C = drawn_each ends I in
-        let D = arms_draws n (Some r) b arms I in
-        let cost = λ (s : State). c ends in
-        let pc = λ (s : State). draw_bits_pos ends r in
-        let all = bits_of_arms b arms in
-        let pall = bits_of_arms_positive b h arms w.1 in
-        let one : IsEqual (on_average C c) (on_average I cost) = subst (λ x. IsEqual x (on_average I cost)) (sym (average_each c ends I)) refl in
-        let both = in_turn I cost all (on_average C c) (on_average D c) p pc pall one (arms_reached b h arms w.1 I p) in
-        let made = λ (s : State). plus (cost s) (all s) in
-        let whole = on_average I (statement_bits n r (Choose arms)) in
-        let each = average_equal I made (statement_bits n r (Choose arms)) (λ s. choose_bits arms s) in
-        subst (λ x. IsEqual x whole) (sym (average_append C D c))
-        (equal_trans (plus (on_average C c) (on_average D c)) (on_average I made) whole (average_positive I made p (λ s. plus_positive (cost s) (all s) (pc s) (pall s))) both each)
-    statement_reached (While e a) w I p = turns_reached (value_of e) a w (block_reached a w) n I p
+        let f = λ (s : State). bits_of_arms more pm b arms s in
+        let pf = λ (s : State). bits_of_arms_pos more pm b h arms s in
+        let made = λ (s : State). plus (cost ends) (f s) in
+        let o = no_class_weight b (Some r) in
+        let each : (s : State) → Same (made s) (statement_bits (Choose arms) s more)
+        = λ s. let go = λ (class : Option ℕ). by_class class zero_share (λ i. arm_bits more pm arms i s more) in
+        let all : on_average (weighted_classes ends (Some r)) go ≡ plus (f s) (plus (times o zero_share) zero_share)
+        = ap (λ b. on_average (classes_from (class_weight b (Some r)) 0 0 ends ++ (no_class_weight b (Some r), None) ∷ []) go) (last_is (parts_of arms))
+        ∙ average_append (classes_from (class_weight b (Some r)) 0 0 ends) ((o, None) ∷ []) go ∙ ap (λ x. plus x (plus (times o zero_share) zero_share)) (arm_by_arm more pm b 0 arms s) in
+        subst (λ v. Same (made s) (plus (cost ends) v)) (sym all) (no_class more pm (cost ends) (f s) o (draw_bits_pos ends r) (pf s) (no_class_pos b (Some r))) in
+        same_trans _ (on_average I made) _ (goes_drawn ends I p _ _ more f pf (arms_go b h arms w.1 I p more pm)) (same_average I p made (λ s. statement_bits (Choose arms) s more) each)
+    statement_goes (While e a) w I p more pm = loop_goes (value_of e) a w (block_goes a w) n I p more pm
 
-    pub block_reached : (b : Statements) → BlockIsWeighed b → (I : Table) → Positive I → IsEqual (on_average (block_draws n (Some r) b I) c) (on_average I (block_bits n r b))
-    block_reached done w I p = none_on_average I (block_bits n r done) (λ s. refl)
-    block_reached (st ▸ b) w I p =
+    pub block_goes : (b : Statements) → BlockIsWeighed b → GoesBlock b
+    block_goes done w I p more pm = let x = on_average I more in subst (λ q. Same q x) (nothing_plus x) (same_self x (average_positive I more p pm))
+    block_goes (st ▸ b) w I p more pm =
+        let k = λ (s : State). block_bits n r b s more in
+        let pk = λ (s : State). block_positive b s more pm in
         let f = statement_flow n (Some r) st I in
-        let pf = (p_one n (Some r) st I w.0 p).next in
-        let more = block_bits n r b in
-        let pm = block_bits_positive b w.1 in
-        let rest = λ (s : State). on_average (statement_weighted n (Some r) st s) (λ e. by_end e (λ e. zero_share) more) in
-        let prest = λ (s : State). average_positive (statement_weighted n (Some r) st s) (λ e. by_end e (λ e. zero_share) more) (statement_positive n (Some r) st s w.0) (λ e. by_end_positive e more pm) in
-        let D = statement_draws n (Some r) st I in
-        let E = block_draws n (Some r) b f.next in
-        let y = equal_trans (on_average E c) (on_average f.next more) (on_average I rest) (average_positive f.next more pf pm) (block_reached b w.1 f.next pf) (next_statement n (Some r) I p more pm st w.0) in
-        subst (λ q. IsEqual q (on_average I (block_bits n r (st ▸ b)))) (sym (average_append D E c))
-        (in_turn I (statement_bits n r st) rest (on_average D c) (on_average E c) p (statement_bits_positive st w.0) prest (statement_reached st w.0 I p) y)
+        goes_then _ _ f.next _ k more _ (statement_goes st w.0 I p k pk) (block_goes b w.1 f.next (p_one n (Some r) st I w.0 p).next more pm)
 
-    arms_reached : (b : ℕ) → 0 < b → (arms : ArmList) → ArmsAreWeighed arms → (I : Table) → Positive I → IsEqual (on_average (arms_draws n (Some r) b arms I) c) (on_average I (bits_of_arms b arms))
-    arms_reached b h no_arm w I p = none_on_average I (λ s. zero_share) (λ s. refl)
-    arms_reached b h (arm q a arms) w I p =
+    arms_go : (b : ℕ) → 0 < b → (arms : ArmList) → ArmsAreWeighed arms → (I : Table) → Positive I → (more : State → Fraction) → (pm : (s : State) → 0 < (more s).1) →
+        Goes (arms_draws n (Some r) b arms I) (arms_flow n (Some r) b arms I).next more (on_average I (λ s. bits_of_arms more pm b arms s))
+    arms_go b h no_arm w I p more pm =
+        let x = on_average I (λ s. zero_share) in
+        none_same x (average_nothing I (λ s. zero_share) (λ s. refl)) (average_positive I (λ s. zero_share) p (λ s. omega arith))
+    arms_go b h (arm q a arms) w I p more pm =
         let u = class_weight b (Some r) q in
         let pu = class_pos b (Some r) q h in
-        let A = λ (s : State). times u (block_bits n r a s) in
-        let pA = λ (s : State). product_pos u.1 (block_bits n r a s).1 pu (block_bits_positive a w.0 s) in
-        let D = block_draws n (Some r) a (scaled u I) in
-        let E = arms_draws n (Some r) b arms I in
-        subst (λ x. IsEqual x (on_average I (bits_of_arms b (arm q a arms)))) (sym (average_append D E c))
-        (in_turn I A (bits_of_arms b arms) (on_average D c) (on_average E c) p pA (bits_of_arms_positive b h arms w.1) (side_reached u a I p pu w.0 (block_reached a w.0)) (arms_reached b h arms w.1 I p))
+        let A = λ (s : State). times u (block_bits n r a s more) in
+        let B = λ (s : State). bits_of_arms more pm b arms s in
+        let x = on_average I A in
+        let y = on_average I B in
+        same_trans _ (plus x y) _ (goes_both _ _ _ _ more x y (side_goes more pm u pu a (block_goes a w.0) I p) (arms_go b h arms w.1 I p more pm))
+        (same_sum I p A B (λ s. weighed_pos more pm u pu a s) (λ s. bits_of_arms_pos more pm b h arms s))
+
+  -- where nothing more is read
+  pub block_reached : (b : Statements) → BlockIsWeighed b → (I : Table) → Positive I → IsEqual (on_average (block_draws n (Some r) b I) cost) (on_average I (λ s. block_bits n r b s (λ s. zero_share)))
+  block_reached b w I p =
+      let D = on_average (block_draws n (Some r) b I) cost in
+      let N = on_average (block_flow n (Some r) b I).next (λ s. zero_share) in
+      let g = block_goes b w I p (λ s. zero_share) (λ s. omega arith) in
+      (same_trans D (plus D N) _ (same_turn (plus D N) D (nothing_more D N (plus_left D N g.left) (plus_right D N g.left) (average_nothing (block_flow n (Some r) b I).next (λ s. zero_share) (λ s. refl)))) g).equal

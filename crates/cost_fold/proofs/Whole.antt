@@ -5,7 +5,7 @@ use Rattle.std.proofs.Math.Nat.{one-le-pow, pow-suc, pow-zero, mul-le-mul_left, 
 use Rattle.gcl_core.specs.declared.answers.Answer.{Answer}
 use Rattle.gcl_core.specs.declared.answers.Limits.{Limits}
 use Rattle.gcl_core.specs.meaning.Bounds.{BlockIsWeighed}
-use Rattle.gcl_core.specs.weighing.Fractions.{Fraction, one, times, power_sum}
+use Rattle.gcl_core.specs.weighing.Fractions.{Fraction, zero_share, one, times, power_sum}
 use Rattle.gcl_core.specs.meaning.Keeping.{IsChecked}
 use Rattle.gcl_core.specs.weighing.LongestReading.{longest}
 use Rattle.gcl_core.specs.weighing.Mass.{is_failed, failed_mass}
@@ -116,7 +116,7 @@ module _ (p : SourceProgram) (l : Limits) (ok : IsChecked p) where
   Long = longest n r p.body
 
   abbrev body : Fraction
-  body = block_bits n r p.body (zeros (length p.names))
+  body = block_bits n r p.body (zeros (length p.names)) (λ s. zero_share)
 
   w : BlockIsWeighed p.body
   w = checked_weights p ok
@@ -144,7 +144,7 @@ module _ (p : SourceProgram) (l : Limits) (ok : IsChecked p) where
   body_share =
       let a = average_amount Q M (cost_of r) (price (Some r) M) D most.whole (shares_of r M D priced) in
       let A = on_average D (cost_of r) in
-      let B = on_average s (block_bits n r p.body) in
+      let B = on_average s (λ s. block_bits n r p.body s (λ s. zero_share)) in
       let e : IsEqual A B = block_reached n r p.body w s (omega arith, tt) in
       let pA : 0 < A.1 = average_of_draws D most.whole in
       let b = share_along A B X N pA e a in

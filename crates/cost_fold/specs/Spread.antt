@@ -13,8 +13,8 @@ abbrev pub most_bits : ℕ → ReachedDraws → ℕ
 most_bits r [] = 0
 most_bits r (e ∷ m) = max (number_bits e.1 * r) (most_bits r m)
 
--- The common denominator of a round, times 2 to the most bits of a draw that it reaches, times the denominator of a failed round for
--- each further round, times what all rounds read at most.
+-- The common denominator of a round, times 2 to the most bits of a draw that it reaches, times the denominator of a failed round
+-- for each further round, times what all rounds read at most.
 abbrev pub spread : SourceProgram → Limits → ℕ
 spread p l =
     round_width p l.turns (Some l.attempts) * 2 ^ most_bits l.attempts (draws_of p l.turns (Some l.attempts))

@@ -21,7 +21,8 @@ use std::alloc::Global;
 
 // Why one round is refused, as a cause of all rounds.
 fn refusal(error: MassError) -> CostError
-    ensures { (p : SourceProgram) (l : Limits) → IsChecked p → InRange l → RoundRefused error p l.turns (Some l.attempts) → CostRefused result p l }
+    ensures { (p : SourceProgram) (l : Limits) → IsChecked p → InRange l → RoundRefused error p l.turns (Some l.attempts)
+        → CostRefused result p l }
 {
     match error {
         MassError::TooWide => CostError::TooWide,
@@ -33,12 +34,12 @@ fn refusal(error: MassError) -> CostError
 
 /// The number of bits that a run of a program reads on average, in lowest terms, by merged tables of states.
 ///
-/// The lengths of the strings of at most L bits that are just read to an end, each times 2^(L - length), add up to at most 2^L times the
-/// fraction, and to exactly that at every L at which no string needs more bits. The limit of rounds times the longest reading of the
-/// body is such an L.
+/// The lengths of the strings of at most L bits that are just read to an end, each times 2^(L - length), add up to at most 2^L
+/// times the fraction, and to exactly that at every L at which no string needs more bits. The limit of rounds times the longest
+/// reading of the body is such an L.
 ///
-/// `TooWide` comes only where the spread of the program under the limits is above 2^128 − 1, and `TooManyStates` only where some point
-/// of the program is reached with more than 65,536 states. `OutOfMemory` comes where memory runs out.
+/// `TooWide` comes only where the spread of the program under the limits is above 2^128 − 1, and `TooManyStates` only where some
+/// point of the program is reached with more than 65,536 states. `OutOfMemory` comes where memory runs out.
 pub fn cost(alloc: Global, p: &Checked, l: &Limits) -> Result<Frac, CostError>
     requires { InRange l.now }
     ensures bits { IfOk result (λ f. f ≡ lowest (expected_bits (source_of p.now) l.now)) }

@@ -33,9 +33,10 @@ struct Case {
     want: Result<(u128, u128), CostError>,
 }
 
-// At 2/3 an attempt reads 1 + 1/2 bits, and is made again with 1/4; at a die 1 + 1 + 3/4, again with 1/4. A round of two coins reads
-// 2, and fails with 1/4. The first turn of the geometric loop reads 1, and the second 1 with 1/2. With the parts 3, 2 and 1 all numbers
-// have one class behind 00 and 11 alone: 1 + 1 + 1/2, again with 1/4. With 1, 0 and 1 an attempt reads 1, and a coin follows with 1/2.
+// At 2/3 an attempt reads 1 + 1/2 bits, and is made again with 1/4; at a die 1 + 1 + 3/4, again with 1/4. A round of two coins
+// reads 2, and fails with 1/4. The first turn of the geometric loop reads 1, and the second 1 with 1/2. With the parts 3, 2 and 1
+// all numbers have one class behind 00 and 11 alone: 1 + 1 + 1/2, again with 1/4. With 1, 0 and 1 an attempt reads 1, and a coin
+// follows with 1/2.
 const CASES: [Case; 15] = [
     Case {
         text: TWO_THIRDS,

@@ -23,6 +23,7 @@ use Rattle.weighing_law.proofs.EveryLength.{within_from}
 use Rattle.gcl_core.proofs.FittingValues.{zeros_fit}
 use Rattle.weighing_law.proofs.Shares.{Share, counts_sum, sum_pos, product_pos, power_sum_pos}
 use Rattle.weighing_law.proofs.WholeRuns.{answer_reading, round_bits, all_bits, body_matches, run_tree, run_within, run_reads, all_suffice}
+use Rattle.gcl_core.specs.weighing.Fractions.{zero_share}
 use Rattle.cost_law.specs.Costing.{DrawCosts, CostsExactly}
 use Rattle.cost_law.specs.ExpectedBits.{undecided_from, attempt_bits, draw_bits, block_bits, expected_bits}
 use Rattle.cost_law.proofs.AskedBits.{asks, same_tree}
@@ -56,7 +57,7 @@ draws_cost ends r up =
 
 -- ---- a run
 module _ (p : SourceProgram) (l : Limits) (ok : IsChecked p) where
-  body_costs : Costs (round_bits p l ok) (block_on l.turns l.attempts p.body (zeros (length p.names))) (block_bits l.turns l.attempts p.body (zeros (length p.names)))
+  body_costs : Costs (round_bits p l ok) (block_on l.turns l.attempts p.body (zeros (length p.names))) (block_bits l.turns l.attempts p.body (zeros (length p.names)) (λ s. zero_share))
   body_costs = block_costs l.turns l.attempts p.body (checked_weights p ok) ok.numbers.body (zeros (length p.names)) (zeros_fit (length p.names))
 
   run_share : Share (2 ^ all_bits p l ok) (asks (run_tree p l ok) (all_bits p l ok)) (expected_bits p l)
@@ -64,7 +65,7 @@ module _ (p : SourceProgram) (l : Limits) (ok : IsChecked p) where
       let m = body_matches p l ok in
       let c = body_costs in
       let d = round_bits p l ok in
-      let cost = block_bits l.turns l.attempts p.body (zeros (length p.names)) in
+      let cost = block_bits l.turns l.attempts p.body (zeros (length p.names)) (λ s. zero_share) in
       let same = same_tree c.tree m.tree (λ w. c.runs w ∙ sym (m.runs w)) in
       rounds_cost p.result m.tree d cost (failed_mass p l.turns (Some l.attempts)) m.within (subst (λ x. Share (2 ^ d) (asks x d) cost) same c.share)
       (counts_sum (2 ^ d) is_failed (weighted_ends l.turns (Some l.attempts) p.body (zeros (length p.names))) _ (m.counts (chi is_failed))) l.rounds

@@ -11,16 +11,17 @@ ghost use Rattle.gcl_core.specs.meaning.Syntax.{SourceProgram};
 ghost use Rattle.cost_law.specs.Costing.{DrawCosts, CostsExactly};
 ghost use Rattle.cost_law.specs.ExpectedBits.{expected_bits};
 
-/// It does nothing: its clause is the law of what one draw costs. For ends that do not decrease, the lengths of the strings that an
-/// attempt, or at most r attempts, just read to a class or to the call again, summed by their weights, are the expected bits.
+/// It does nothing: its clause is the law of what one draw costs. For ends that do not decrease, the lengths of the strings that
+/// an attempt, or at most r attempts, just read to a class or to the call again, summed by their weights, are the expected bits.
 pub fn draws_cost_exactly()
     ensures { (ends : List ℕ) (r : ℕ) → Ascends 0 ends → DrawCosts ends r }
 {}
 
-/// It does nothing: its clause is the law of costs, for every checked program, all limits, and whatever answers on bits as the run of
-/// the program does. The lengths of the strings on which it ends, summed by their weights, are at most the expected number of bits that
-/// the statements give, and exactly that at every length at which no string needs more bits. Such a length is the limit of rounds times the longest
-/// reading of the body.
+/// It does nothing: its clause is the law of costs, for every checked program, all limits, and whatever answers on bits as the
+/// run of the program does. The lengths of the strings on which it ends, summed by their weights, are at most the expected number
+/// of bits that the statements give, and exactly that at every length at which no string needs more bits. Such a length is the
+/// limit of rounds times the longest reading of the body.
 pub fn runs_cost_exactly()
-    ensures { (p : SourceProgram) (l : Limits) (run : List Bool → Answer) → IsChecked p → ((w : List Bool) → run w ≡ run_on p l w) → CostsExactly run p l (expected_bits p l) }
+    ensures { (p : SourceProgram) (l : Limits) (run : List Bool → Answer) → IsChecked p → ((w : List Bool) → run w ≡ run_on p l w)
+        → CostsExactly run p l (expected_bits p l) }
 {}

@@ -15,7 +15,8 @@ BitsAt X many None = (C : ℕ) → 1 ≤ C → many ≤ X * C → Overfills (X *
 
 -- the bits of all draws that a round reaches
 abbrev pub RoundBits : SourceProgram → ℕ → Option ℕ → Option Fraction → Type 0
-RoundBits p n r bits = (M : ℕ) → 0 < M → Priced r M (draws_of p n r) → BitsAt (round_width p n r * M) (amount (round_width p n r) (price r M) (draws_of p n r)) bits
+RoundBits p n r bits = (M : ℕ) → 0 < M → Priced r M (draws_of p n r)
+    → BitsAt (round_width p n r * M) (amount (round_width p n r) (price r M) (draws_of p n r)) bits
 
 -- a whole number of N parts, and no more than all
 pub record IsMass (N : ℕ) (f : Fraction) : Type 0 where

@@ -24,7 +24,8 @@ pub record MayRepeat (N C : ℕ) (s f : Fraction) (R : ℕ) : Type 0 where
 
 -- t is s in one of R rounds
 abbrev pub IsRepeated : Fraction → Fraction → ℕ → Fraction → Type 0
-IsRepeated s f R t = (N : ℕ) → 0 < N → Whole N s → Whole N f → Whole (scale_of N f R) t × (whole (scale_of N f R) t ≡ geometric f R * whole N s)
+IsRepeated s f R t =
+    (N : ℕ) → 0 < N → Whole N s → Whole N f → Whole (scale_of N f R) t × (whole (scale_of N f R) t ≡ geometric f R * whole N s)
 
 abbrev pub RepeatBlames : Fraction → Fraction → ℕ → Type 0
 RepeatBlames s f R = (N C : ℕ) → MayRepeat N C s f R → Overfills (scale_of N f R * C)

@@ -1,5 +1,5 @@
--- Rows of masses: outcomes ascend, each with its mass in lowest terms, and each outcome whose mass is above 0 has a row. This project's
--- own rule.
+-- Rows of masses: outcomes ascend, each with its mass in lowest terms, and each outcome whose mass is above 0 has a row. This
+-- project's own rule.
 use Rattle.std.specs.Prelude.{◌≡◌, ◌<◌, true, List, [], ◌∷◌, map, AllPairs, Contains}
 use Rattle.frac128.specs.Fraction.{InLowest, lowest}
 use Rattle.gcl_core.specs.declared.answers.Outcome.{Outcome}

@@ -7,4 +7,6 @@ pub mod Steps
 pub mod Fold
 pub mod Outcomes
 pub mod Metering
+pub mod Folding
+pub mod Drawing
 pub mod Body

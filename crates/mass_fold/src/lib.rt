@@ -4,7 +4,7 @@
 mod attempts;
 mod bits;
 mod body;
-mod choosing;
+pub mod choosing;
 mod draws;
 mod ended;
 mod error;
@@ -22,9 +22,17 @@ mod table;
 #[cfg(test)]
 mod tests;
 
+pub use attempts::Attempts;
 pub use bits::round_bits;
+pub use draws::scale;
+pub use ended::{Ended, Gone};
 pub use error::MassError;
+pub use fold::Fold;
 pub use laws::{masses_are_weighed, masses_have_one_list};
 pub use masses::{mass, round};
-pub use rounds::repeated;
+pub use outcomes::{add_ended, add_results};
+pub use rounds::{over_rest, repeated};
 pub use rows::{FracRows, Round};
+pub use state::State;
+pub use steps::{assign, end_all, merge, split};
+pub use table::{MOST_STATES, Table};

@@ -46,11 +46,11 @@ fn one_round(
 
 /// The mass of each outcome in one round of a program, and that of a failed observation, by merged tables of states.
 ///
-/// `turns` is the limit of turns for each entry of a loop, at most 10^9. `attempts` is that of attempts for each draw, from 1 to 10^9;
-/// where there is none, a draw takes as many as it needs.
+/// `turns` is the limit of turns for each entry of a loop, at most 10^9. `attempts` is that of attempts for each draw, from 1 to
+/// 10^9; where there is none, a draw takes as many as it needs.
 ///
-/// `TooWide` comes only where the common denominator of the round is above 2^128 − 1, and `TooManyStates` only where some point of the
-/// program is reached with more than 65,536 states. `AllFailed` never comes, and `OutOfMemory` where memory runs out.
+/// `TooWide` comes only where the common denominator of the round is above 2^128 − 1, and `TooManyStates` only where some point
+/// of the program is reached with more than 65,536 states. `AllFailed` never comes, and `OutOfMemory` where memory runs out.
 ///
 /// Only tests and users of the crate call it.
 pub fn round(
@@ -75,12 +75,12 @@ pub fn round(
 
 /// The mass of each outcome of a program, by merged tables of states.
 ///
-/// `turns` and `attempts` are as for `round`. `rounds` is the limit of rounds, from 1 to 10^9; where there is none, what a round gives is
-/// divided by the probability that a round does not fail.
+/// `turns` and `attempts` are as for `round`. `rounds` is the limit of rounds, from 1 to 10^9; where there is none, what a round
+/// gives is divided by the probability that a round does not fail.
 ///
-/// `TooWide` comes only where the width of the program under these limits is above 2^128 − 1, and `TooManyStates` only where some point
-/// of the program is reached with more than 65,536 states. `AllFailed` comes only where rounds have no limit and each round fails; there
-/// no rows come. `OutOfMemory` comes where memory runs out.
+/// `TooWide` comes only where the width of the program under these limits is above 2^128 − 1, and `TooManyStates` only where some
+/// point of the program is reached with more than 65,536 states. `AllFailed` comes only where rounds have no limit and each round
+/// fails; there no rows come. `OutOfMemory` comes where memory runs out.
 pub fn mass(
     alloc: Global,
     p: &Checked,

@@ -34,7 +34,8 @@ pub enum Meter {
 
 // The sum, with bits that are reached with the weight f.
 fn sum_with(sum: &Frac, bits: &Frac, f: &Frac) -> Meter
-    ensures { (N M : ℕ) → 0 < N → 0 < M → Whole M bits.now → Whole N f.now → CountedOn (N * M) (whole N f.now * whole M bits.now) sum.now result }
+    ensures { (N M : ℕ) → 0 < N → 0 < M → Whole M bits.now → Whole N f.now
+        → CountedOn (N * M) (whole N f.now * whole M bits.now) sum.now result }
 {
     sum.is_lowest();
     match f.mul(bits) {
@@ -118,7 +119,8 @@ fn attempt_of(arms: &Arms) -> u128
 pub fn count_arms(meter: Meter, arms: &Arms, attempts: Attempts, table: &Table) -> Meter
     requires parts { AreParts (parts_of (list_of_arms arms.now)) }
     requires table { 1 ≤ length table.now.states.entries }
-    ensures { CountsDraws attempts.most (sum (parts_of (list_of_arms arms.now))) (partial_sums (parts_of (list_of_arms arms.now))) table.now.states.entries meter result }
+    ensures { CountsDraws attempts.most (sum (parts_of (list_of_arms arms.now)))
+        (partial_sums (parts_of (list_of_arms arms.now))) table.now.states.entries meter result }
 {
     match meter {
         Meter::Off => Meter::Off,
@@ -133,7 +135,8 @@ pub fn count_arms(meter: Meter, arms: &Arms, attempts: Attempts, table: &Table) 
 // The meter, with the draw of one state of weight f, with as many numbers as an expression says.
 fn count_bound(meter: Meter, e: &Expr, attempts: Attempts, s: &State, f: &Frac) -> Meter
     requires { ExpressionBelow (expression_of e.now) (length s.now) }
-    ensures { CountsAll (IsBoundPriced (value_of (expression_of e.now)) attempts.most) (bound_price (value_of (expression_of e.now)) attempts.most) ((s.now, f.now) ∷ []) meter result }
+    ensures { CountsAll (IsBoundPriced (value_of (expression_of e.now)) attempts.most)
+        (bound_price (value_of (expression_of e.now)) attempts.most) ((s.now, f.now) ∷ []) meter result }
 {
     match meter {
         Meter::Off => Meter::Off,
@@ -156,7 +159,8 @@ fn count_bound(meter: Meter, e: &Expr, attempts: Attempts, s: &State, f: &Frac) 
 /// The meter, with the uniform draw of each entry.
 pub fn count_uniform(meter: Meter, e: &Expr, attempts: Attempts, table: &Table) -> Meter
     requires { ExpressionBelow (expression_of e.now) table.now.vars }
-    ensures { CountsAll (IsBoundPriced (value_of (expression_of e.now)) attempts.most) (bound_price (value_of (expression_of e.now)) attempts.most) table.now.states.entries meter result }
+    ensures { CountsAll (IsBoundPriced (value_of (expression_of e.now)) attempts.most)
+        (bound_price (value_of (expression_of e.now)) attempts.most) table.now.states.entries meter result }
 {
     if let Meter::Off = meter {
         return Meter::Off;

@@ -79,7 +79,9 @@ fn choose(
     second: Block,
     third: Block,
 ) -> Result<Stmt, AllocError>
-    ensures { IfOk result (λ s. statement_of s ≡ Choose (arm parts.0 (statements_of first) (arm parts.1 (statements_of second) (arm parts.2 (statements_of third) no_arm)))) }
+    ensures { IfOk result (λ s. statement_of s
+        ≡ Choose (arm parts.0 (statements_of first)
+        (arm parts.1 (statements_of second) (arm parts.2 (statements_of third) no_arm)))) }
 {
     let (a, b, c) = parts;
     let arms = vec![in alloc; (a, first), (b, second), (c, third)]?;
@@ -130,7 +132,8 @@ fn some_one(alloc: Global) -> Result<Option<Checked>, AllocError> {
 #[tactic(auto, using(gcl_core::proofs::ViewLemmas::views))]
 fn step(alloc: Global) -> Result<Block, AllocError>
     ensures { IfOk result (λ b. statements_of b
-        ≡ Choice (record { num = 1; den = 2 }) (Set 1 (Bin Add (Var 1) (Num (pos 1))) ▸ done) (Set 0 (Num (pos 0)) ▸ done) ▸ done) }
+        ≡ Choice (record { num = 1; den = 2 }) (Set 1 (Bin Add (Var 1) (Num (pos 1))) ▸ done)
+        (Set 0 (Num (pos 0)) ▸ done) ▸ done) }
 {
     let weight = Weight { num: 1, den: 2 };
     let more = set(

@@ -38,11 +38,13 @@ SumAt order es k f v = MatchOption (found order k es) (v ≡ f) (λ g. sum_of g 
 
 -- after the weight f of a key was added
 abbrev pub PutGives : {K : Type 0} → List (K × Fraction) → List (K × Fraction) → K → Fraction → Type 0
-PutGives {K = K} es fs k f = (N : ℕ) → 0 < N → AreHeld N es → 0 < f.0 → Whole N f → AreHeld N fs × ((G : K → ℕ) → held N G fs ≡ held N G es + whole N f * G k)
+PutGives {K = K} es fs k f = (N : ℕ) → 0 < N → AreHeld N es → 0 < f.0 → Whole N f
+    → AreHeld N fs × ((G : K → ℕ) → held N G fs ≡ held N G es + whole N f * G k)
 
 -- es with the weight f of s is a part of I
 abbrev pub PartOf : ℕ → Entries → State → Fraction → Table → Type 0
 PartOf N es s f I = (G : State → ℕ) → held N G es + whole N f * G s ≤ amount N G I
 
 abbrev pub PutBlames : MassError → Entries → State → Fraction → Type 0
-PutBlames e es s f = (N L : ℕ) (I : Table) → 0 < N → AreHeld N es → 0 < f.0 → Whole N f → PartOf N es s f I → weight N I ≤ N → states I ≤ L → Blames e N L
+PutBlames e es s f = (N L : ℕ) (I : Table) → 0 < N → AreHeld N es → 0 < f.0 → Whole N f → PartOf N es s f I → weight N I ≤ N
+    → states I ≤ L → Blames e N L

@@ -23,7 +23,9 @@ use Rattle.mass_fold.specs.inner.Metering.{Counted}
 -- meant, in a state or otherwise, they hold together as much as the weighted ends of the body give them.
 pub record BodyGives (p : SourceProgram) (n : ℕ) (r : Option ℕ) (es : Entries) (E : Ended) : Type 0 where
   pub stands : Stands (round_width p n r) es (tables_of p n r).next
-  pub masses : (is : End → Bool) → (sum_of is (weighted_ends n r p.body (zeros (length p.names)))).1 * (held (round_width p n r) (λ s. cond (is (on s)) 1 0) es + amount (round_width p n r) (λ x. cond (is x) 1 0) (rows_of E))
+  pub masses : (is : End → Bool)
+      → (sum_of is (weighted_ends n r p.body (zeros (length p.names)))).1
+      * (held (round_width p n r) (λ s. cond (is (on s)) 1 0) es + amount (round_width p n r) (λ x. cond (is x) 1 0) (rows_of E))
       ≡ (sum_of is (weighted_ends n r p.body (zeros (length p.names)))).0 * round_width p n r
   pub failed : IsEqual E.failed (failed_mass p n r)
   pub ends : EndStands (round_width p n r) E (tables_of p n r).ended
@@ -31,4 +33,5 @@ pub record BodyGives (p : SourceProgram) (n : ℕ) (r : Option ℕ) (es : Entrie
 
 -- At the common denominator times a scale at which the parts of each draw that is reached are whole, the meter counts their bits.
 abbrev pub BodyMeters : SourceProgram → ℕ → Option ℕ → Meter → Meter → Type 0
-BodyMeters p n r m m' = (M : ℕ) → 0 < M → Priced r M (draws_of p n r) → Counted (round_width p n r * M) (amount (round_width p n r) (price r M) (draws_of p n r)) m m'
+BodyMeters p n r m m' = (M : ℕ) → 0 < M → Priced r M (draws_of p n r)
+    → Counted (round_width p n r * M) (amount (round_width p n r) (price r M) (draws_of p n r)) m m'

@@ -27,7 +27,9 @@ fault_end f = fault f
 
 abbrev pub rows_of : Ended → Weighted End
 rows_of E =
-    (E.failed, end_of Failed) ∷ ((E.overflow, end_of Overflow) ∷ ((E.divisor, end_of Divisor) ∷ ((E.bound, end_of Bound) ∷ ((E.turns, end_of Turns) ∷ ((E.attempts, end_of Attempts) ∷ [])))))
+    (E.failed, end_of Failed) ∷ ((E.overflow, end_of Overflow)
+    ∷ ((E.divisor, end_of Divisor)
+    ∷ ((E.bound, end_of Bound) ∷ ((E.turns, end_of Turns) ∷ ((E.attempts, end_of Attempts) ∷ [])))))
 
 abbrev pub weight_of : Ended → Gone → Fraction
 weight_of E Failed = E.failed
@@ -46,10 +48,12 @@ with_weight E Turns f = record E { turns = f }
 with_weight E Attempts f = record E { attempts = f }
 
 abbrev pub EndGives : Ended → Ended → Gone → Fraction → Type 0
-EndGives E F x f = (N : ℕ) → Wholes N (rows_of E) → Whole N f → Wholes N (rows_of F) × ((G : End → ℕ) → amount N G (rows_of F) ≡ amount N G (rows_of E) + whole N f * G (end_of x))
+EndGives E F x f = (N : ℕ) → Wholes N (rows_of E) → Whole N f
+    → Wholes N (rows_of F) × ((G : End → ℕ) → amount N G (rows_of F) ≡ amount N G (rows_of E) + whole N f * G (end_of x))
 
 abbrev pub EndBlames : MassError → Ended → Gone → Fraction → Type 0
-EndBlames e E x f = (e ≡ TooWide) × ((N : ℕ) → 0 < N → Wholes N (rows_of E) → Whole N f → amount N (λ x. 1) (rows_of E) + whole N f ≤ N → Overfills N)
+EndBlames e E x f = (e ≡ TooWide)
+    × ((N : ℕ) → 0 < N → Wholes N (rows_of E) → Whole N f → amount N (λ x. 1) (rows_of E) + whole N f ≤ N → Overfills N)
 
 -- each is 0
 abbrev pub IsNoWeight : Fraction → Type 0

@@ -1,15 +1,13 @@
 -- What a fold makes of a table with each state once, beside what the definition makes of a table.
 use Rattle.std.specs.Prelude.{◌≡◌, ℕ, ◌+◌, ◌-◌, ◌*◌, Option, ◌<◌, ◌≤◌, ◌++◌}
-use Rattle.std.specs.List.{sum}
 use Rattle.gcl_core.specs.meaning.Value.{State, value_of}
 use Rattle.gcl_core.specs.declared.syntax.Weight.{Weight}
 use Rattle.gcl_core.specs.declared.answers.Limit.TheVariants.{Attempts}
 use Rattle.gcl_core.specs.meaning.Blocks.{End, limit}
 use Rattle.gcl_core.specs.weighing.Fractions.{Fraction}
 use Rattle.gcl_core.specs.weighing.WeightedEnds.{Weighted, scaled, class_weight, no_class_weight}
-use Rattle.gcl_core.specs.meaning.Arms.{parts_of}
-use Rattle.gcl_core.specs.meaning.Syntax.{Choose, Expression, Statements, ArmList}
-use Rattle.mass_tables.specs.Tables.{Table, Flow, all_end, states, statement_flow, block_flow, loop_flow}
+use Rattle.gcl_core.specs.meaning.Syntax.{Expression, Statements}
+use Rattle.mass_tables.specs.Tables.{Table, Flow, all_end, states, block_flow, loop_flow}
 use Rattle.mass_tables.specs.Scale.{Whole, Wholes, Within, amount, weight}
 use Rattle.mass_fold.specs.declared.error.MassError.{MassError}
 use Rattle.mass_fold.specs.declared.ended.Ended.{Ended}
@@ -28,11 +26,13 @@ pub record EndStands (N : ℕ) (E : Ended) (J : Weighted End) : Type 0 where
 
 -- a block on a table, and why it is refused
 abbrev pub FoldsTo : (Table → Flow) → Entries → Ended → Entries → Ended → Type 0
-FoldsTo flow es E fs F = (N L : ℕ) (I : Table) (J : Weighted End) → 0 < N → Stands N es I → EndStands N E J → Within N L (flow I) →
+FoldsTo flow es E fs F = (N L : ℕ) (I : Table) (J : Weighted End) →
+    0 < N → Stands N es I → EndStands N E J → Within N L (flow I) →
     Stands N fs (flow I).next × EndStands N F (J ++ (flow I).ended)
 
 abbrev pub FoldBlames : (Table → Flow) → Entries → Ended → MassError → Type 0
-FoldBlames flow es E e = (N L : ℕ) (I : Table) (J : Weighted End) → 0 < N → Stands N es I → EndStands N E J → Within N L (flow I) → weight N I + weight N J ≤ N → Blames e N L
+FoldBlames flow es E e = (N L : ℕ) (I : Table) (J : Weighted End) →
+    0 < N → Stands N es I → EndStands N E J → Within N L (flow I) → weight N I + weight N J ≤ N → Blames e N L
 
 -- a statement on a table, where what stands before it and after it is whole, and of no more than L states
 pub record Around (N L : ℕ) (I : Table) (f : Flow) : Type 0 where
@@ -43,18 +43,21 @@ pub record Around (N L : ℕ) (I : Table) (f : Flow) : Type 0 where
   pub inside : Within N L f
 
 abbrev pub FoldsOne : (Table → Flow) → Entries → Ended → Entries → Ended → Type 0
-FoldsOne flow es E fs F = (N L : ℕ) (I : Table) (J : Weighted End) → 0 < N → Stands N es I → EndStands N E J → Around N L I (flow I) →
+FoldsOne flow es E fs F = (N L : ℕ) (I : Table) (J : Weighted End) →
+    0 < N → Stands N es I → EndStands N E J → Around N L I (flow I) →
     Stands N fs (flow I).next × EndStands N F (J ++ (flow I).ended)
 
 abbrev pub OneBlames : (Table → Flow) → Entries → Ended → MassError → Type 0
-OneBlames flow es E e = (N L : ℕ) (I : Table) (J : Weighted End) → 0 < N → Stands N es I → EndStands N E J → Around N L I (flow I) → weight N I + weight N J ≤ N → Blames e N L
+OneBlames flow es E e = (N L : ℕ) (I : Table) (J : Weighted End) →
+    0 < N → Stands N es I → EndStands N E J → Around N L I (flow I) → weight N I + weight N J ≤ N → Blames e N L
 
 -- one side of a choice
 abbrev pub Weighed : Fraction → Entries → Entries → Type 0
 Weighed w es fs = (N : ℕ) (I : Table) → 0 < N → Wholes N I → Wholes N (scaled w I) → Stands N es I → Stands N fs (scaled w I)
 
 abbrev pub WeighBlames : Fraction → Entries → MassError → Type 0
-WeighBlames w es e = (N L : ℕ) (I : Table) → 0 < N → Whole N w → Wholes N I → Wholes N (scaled w I) → Stands N es I → weight N (scaled w I) ≤ N → states (scaled w I) ≤ L → Blames e N L
+WeighBlames w es e = (N L : ℕ) (I : Table) → 0 < N → Whole N w → Wholes N I → Wholes N (scaled w I) → Stands N es I →
+    weight N (scaled w I) ≤ N → states (scaled w I) ≤ L → Blames e N L
 
 -- the same by `count` parts of a draw, where they are as much as u
 abbrev pub WeighedBy : Fraction → ℕ → Entries → Entries → Type 0
@@ -64,7 +67,8 @@ abbrev pub WeighBlamesBy : Fraction → ℕ → Entries → MassError → Type 0
 WeighBlamesBy part count es e = (u : Fraction) → 0 < u.1 → u.0 ≤ u.1 → part.0 * count * u.1 ≡ u.0 * part.1 → WeighBlames u es e
 
 -- a loop with t turns left, begun on the table I with J ended: what is left of it makes up for what stands
-pub record LoopAt (flow : ℕ → Table → Flow) (n t : ℕ) (now exits : Entries) (E : Ended) (N L : ℕ) (I : Table) (J : Weighted End) : Type 0 where
+pub record LoopAt (flow : ℕ → Table → Flow) (n t : ℕ) (now exits : Entries) (E : Ended) (N L : ℕ) (I : Table) (J : Weighted End)
+    : Type 0 where
   pub table : Table
   pub out : Table
   pub gone : Weighted End
@@ -76,16 +80,19 @@ pub record LoopAt (flow : ℕ → Table → Flow) (n t : ℕ) (now exits : Entri
   pub stopping : (G : End → ℕ) → amount N G gone + amount N G (flow t table).ended ≡ amount N G J + amount N G (flow n I).ended
 
 abbrev pub LoopsOn : (ℕ → Table → Flow) → ℕ → ℕ → Entries → Ended → Entries → Entries → Ended → Type 0
-LoopsOn flow n t es E now exits F = (N L : ℕ) (I : Table) (J : Weighted End) → 0 < N → Stands N es I → EndStands N E J → Within N L (flow n I) → LoopAt flow n t now exits F N L I J
+LoopsOn flow n t es E now exits F = (N L : ℕ) (I : Table) (J : Weighted End) → 0 < N → Stands N es I → EndStands N E J →
+    Within N L (flow n I) → LoopAt flow n t now exits F N L I J
 
 -- ---- what no attempt of a draw with b numbers decides
 
 abbrev pub UndecidedTo : ℕ → Option ℕ → Entries → Ended → Ended → Type 0
-UndecidedTo b r es E F = (N : ℕ) (I : Table) (J : Weighted End) → 0 < N → Wholes N I → Wholes N (scaled (no_class_weight b r) I) → Stands N es I → EndStands N E J → EndStands N F (J ++ all_end (limit Attempts) (scaled (no_class_weight b r) I))
+UndecidedTo b r es E F = (N : ℕ) (I : Table) (J : Weighted End) → 0 < N → Wholes N I → Wholes N (scaled (no_class_weight b r) I) →
+    Stands N es I → EndStands N E J → EndStands N F (J ++ all_end (limit Attempts) (scaled (no_class_weight b r) I))
 
 abbrev pub UndecidedBlames : ℕ → Option ℕ → Entries → Ended → MassError → Type 0
-UndecidedBlames b r es E e = (N L : ℕ) (I : Table) (J : Weighted End) → 0 < N → Whole N (class_weight b r 1) → Whole N (no_class_weight b r) → Wholes N I → Wholes N (scaled (no_class_weight b r) I) → Stands N es I → EndStands N E J
-    → weight N (scaled (no_class_weight b r) I) + weight N J ≤ N → Blames e N L
+UndecidedBlames b r es E e = (N L : ℕ) (I : Table) (J : Weighted End) → 0 < N →
+    Whole N (class_weight b r 1) → Whole N (no_class_weight b r) → Wholes N I → Wholes N (scaled (no_class_weight b r) I) →
+    Stands N es I → EndStands N E J → weight N (scaled (no_class_weight b r) I) + weight N J ≤ N → Blames e N L
 
 -- a fact of whatever had ended before
 abbrev pub AfterUndecided : ℕ → Option ℕ → Entries → Ended → (Ended → Type 0) → Type 0
@@ -106,19 +113,17 @@ pub record PartsWhole (N : ℕ) (p : Weight) (r : Option ℕ) : Type 0 where
   pub none : Whole N (no_class_weight p.den r)
 
 abbrev pub SidesTo : Weight → Option ℕ → Entries → Ended → Entries → Entries → Ended → Type 0
-SidesTo p r es E first second F = (N L : ℕ) (I : Table) (J : Weighted End) → 0 < N → Stands N es I → EndStands N E J → SidesWithin N L p r I →
-    Stands N first (scaled (class_weight p.den r p.num) I) × Stands N second (scaled (class_weight p.den r (p.den - p.num)) I) × EndStands N F (J ++ all_end (limit Attempts) (scaled (no_class_weight p.den r) I))
+SidesTo p r es E first second F = (N L : ℕ) (I : Table) (J : Weighted End) →
+    0 < N → Stands N es I → EndStands N E J → SidesWithin N L p r I →
+    Stands N first (scaled (class_weight p.den r p.num) I)
+    × Stands N second (scaled (class_weight p.den r (p.den - p.num)) I)
+    × EndStands N F (J ++ all_end (limit Attempts) (scaled (no_class_weight p.den r) I))
 
 abbrev pub SidesBlame : Weight → Option ℕ → Entries → Ended → MassError → Type 0
-SidesBlame p r es E e = (N L : ℕ) (I : Table) (J : Weighted End) → 0 < N → Stands N es I → EndStands N E J → PartsWhole N p r → SidesWithin N L p r I → weight N I + weight N J ≤ N → Blames e N L
+SidesBlame p r es E e = (N L : ℕ) (I : Table) (J : Weighted End) → 0 < N → Stands N es I → EndStands N E J →
+    PartsWhole N p r → SidesWithin N L p r I → weight N I + weight N J ≤ N → Blames e N L
 
--- ---- a loop of at most n turns, and the arms of a choice among several after what none of its attempts decides
+-- ---- a loop of at most n turns
 
 abbrev pub turns_flow : ℕ → Option ℕ → Expression → Statements → Table → Flow
 turns_flow n r e a = loop_flow (value_of e) (block_flow n r a) n
-
-abbrev pub ArmsFold : ℕ → Option ℕ → ArmList → Entries → Ended → Entries → Ended → Type 0
-ArmsFold n r arms es E fs F = AfterUndecided (sum (parts_of arms)) r es E (λ E. FoldsOne (statement_flow n r (Choose arms)) es E fs F)
-
-abbrev pub ArmsBlame : ℕ → Option ℕ → ArmList → Entries → Ended → MassError → Type 0
-ArmsBlame n r arms es E e = AfterUndecided (sum (parts_of arms)) r es E (λ E. OneBlames (statement_flow n r (Choose arms)) es E e)

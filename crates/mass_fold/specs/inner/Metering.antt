@@ -1,16 +1,13 @@
 -- What is counted of the bits of draws that are reached, at a scale.
 use Rattle.std.specs.Prelude.{◌≡◌, ℕ, zero, suc, ◌+◌, ◌*◌, ◌≤◌, ◌<◌, pos, negsuc, List, Option, Some, None, Ok, Err}
-use Rattle.std.specs.List.{sum}
 use Rattle.gcl_core.specs.meaning.Value.{State, Value, value_of}
 use Rattle.gcl_core.specs.meaning.Blocks.{by_value, by_bound}
 use Rattle.gcl_core.specs.meaning.Draw.{uniform_ends}
 use Rattle.gcl_core.specs.weighing.Fractions.{Fraction}
 use Rattle.gcl_core.specs.weighing.WeightedEnds.{Weighted, class_weight}
-use Rattle.gcl_core.specs.meaning.Arms.{parts_of}
-use Rattle.gcl_core.specs.meaning.Parts.{partial_sums}
-use Rattle.gcl_core.specs.meaning.Syntax.{Choose, Expression, Statements, ArmList}
-use Rattle.mass_tables.specs.Tables.{Table, Flow, statement_flow, block_flow}
-use Rattle.mass_tables.specs.Reached.{ReachedDraws, statement_draws, block_draws, loop_draws}
+use Rattle.gcl_core.specs.meaning.Syntax.{Expression, Statements}
+use Rattle.mass_tables.specs.Tables.{Table, Flow, block_flow}
+use Rattle.mass_tables.specs.Reached.{ReachedDraws, block_draws, loop_draws}
 use Rattle.mass_tables.specs.Scale.{whole, Whole, Within, amount}
 use Rattle.mass_fold.specs.declared.ended.Ended.{Ended}
 use Rattle.mass_fold.specs.declared.meter.Meter.{Meter}
@@ -18,13 +15,14 @@ use Rattle.mass_fold.specs.declared.meter.Meter.TheVariants.{Off, Bits, TooWide}
 use Rattle.mass_fold.specs.Amounts.{held, AreHeld}
 use Rattle.mass_fold.specs.inner.Amounts.{Entries}
 use Rattle.mass_fold.specs.inner.Steps.{EachState}
-use Rattle.mass_fold.specs.inner.Fold.{Stands, EndStands, Around, AfterUndecided}
+use Rattle.mass_fold.specs.inner.Fold.{Stands, EndStands, Around}
 use Rattle.frac128.specs.Fraction.{Overfills}
 use Rattle.mass_fold.specs.Metering.{IsPriced, Priced, price}
 
 -- ---- a meter
 
--- `many` parts more, of X parts of a bit; where there is no room for them, 128 bits are too few for X times any bound of the whole
+-- `many` parts more, of X parts of a bit; where there is no room for them, 128 bits are too few for X times any bound of the
+-- whole
 abbrev pub CountedOn : ℕ → ℕ → Fraction → Meter → Type 0
 CountedOn X many f Off = ⊥
 CountedOn X many f (Bits g) = Whole X f → Whole X g × (whole X g ≡ whole X f + many)
@@ -64,14 +62,17 @@ AddsBits bits f m m' = (N M : ℕ) → 0 < N → 0 < M → Whole M bits → Whol
 
 -- the bits of a draw with b numbers
 abbrev pub IsPrice : ℕ → ℕ → Option ℕ → Fraction → Type 0
-IsPrice undecided b r bits = (M : ℕ) → 0 < M → IsPriced r M b → Whole M bits × (whole M bits ≡ undecided * whole M (class_weight b r 1))
+IsPrice undecided b r bits = (M : ℕ) → 0 < M → IsPriced r M b →
+    Whole M bits × (whole M bits ≡ undecided * whole M (class_weight b r 1))
 
 abbrev pub PriceBlames : ℕ → ℕ → Option ℕ → Type 0
-PriceBlames undecided b r = (M C : ℕ) → 0 < M → 1 ≤ C → IsPriced r M b → undecided * whole M (class_weight b r 1) ≤ M * C → Overfills (M * C)
+PriceBlames undecided b r = (M C : ℕ) → 0 < M → 1 ≤ C → IsPriced r M b →
+    undecided * whole M (class_weight b r 1) ≤ M * C → Overfills (M * C)
 
 -- the draw of each entry, where Fact holds of its state at M
 abbrev pub CountsAll : (ℕ → State → Type 0) → (ℕ → State → ℕ) → Entries → Meter → Meter → Type 0
-CountsAll Fact p es m m' = (N M : ℕ) → 0 < N → 0 < M → AreHeld N es → EachState (Fact M) es → Counted (N * M) (held N (p M) es) m m'
+CountsAll Fact p es m m' = (N M : ℕ) → 0 < N → 0 < M → AreHeld N es → EachState (Fact M) es →
+    Counted (N * M) (held N (p M) es) m m'
 
 -- the same draw of each entry, with b numbers
 abbrev pub CountsDraws : Option ℕ → ℕ → List ℕ → Entries → Meter → Meter → Type 0
@@ -84,16 +85,13 @@ CountsRest Fact p es m now rest = (m' : Meter) → CountsAll Fact p rest now m' 
 -- ---- blocks and statements
 
 abbrev pub Meters : Option ℕ → (Table → Flow) → (Table → ReachedDraws) → Entries → Ended → Meter → Meter → Type 0
-Meters r flow draws es E m m' = (N M L : ℕ) (I : Table) (J : Weighted _) → 0 < N → 0 < M → Stands N es I → EndStands N E J → Within N L (flow I) → Priced r M (draws I) → Counted (N * M) (amount N (price r M) (draws I)) m m'
+Meters r flow draws es E m m' = (N M L : ℕ) (I : Table) (J : Weighted _) → 0 < N → 0 < M → Stands N es I → EndStands N E J →
+    Within N L (flow I) → Priced r M (draws I) → Counted (N * M) (amount N (price r M) (draws I)) m m'
 
 abbrev pub MetersOne : Option ℕ → (Table → Flow) → (Table → ReachedDraws) → Entries → Ended → Meter → Meter → Type 0
-MetersOne r flow draws es E m m' = (N M L : ℕ) (I : Table) (J : Weighted _) → 0 < N → 0 < M → Stands N es I → EndStands N E J → Around N L I (flow I) → Priced r M (draws I) → Counted (N * M) (amount N (price r M) (draws I)) m m'
+MetersOne r flow draws es E m m' = (N M L : ℕ) (I : Table) (J : Weighted _) → 0 < N → 0 < M → Stands N es I → EndStands N E J →
+    Around N L I (flow I) → Priced r M (draws I) → Counted (N * M) (amount N (price r M) (draws I)) m m'
 
 -- a loop of at most n turns
 abbrev pub turns_draws : ℕ → Option ℕ → Expression → Statements → Table → ReachedDraws
 turns_draws n r e a = loop_draws (value_of e) (block_draws n r a) (block_flow n r a) n
-
--- the arms of a choice among several, where their draws were counted before
-abbrev pub ArmsMeter : ℕ → Option ℕ → ArmList → Entries → Ended → Meter → Meter → Type 0
-ArmsMeter n r arms es E now m' = AfterUndecided (sum (parts_of arms)) r es E (λ E. (m : Meter) → CountsDraws r (sum (parts_of arms)) (partial_sums (parts_of arms)) es m now
-    → MetersOne r (statement_flow n r (Choose arms)) (statement_draws n r (Choose arms)) es E m m')

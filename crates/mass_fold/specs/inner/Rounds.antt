@@ -28,14 +28,17 @@ pub record TableParts (N : ℕ) (rows : Rows) (f : Fraction) : Type 0 where
 -- the weights of a table in R rounds, and the limit of rounds, in which all of them failed
 abbrev pub InRounds : Fraction → ℕ → Rows → Rows → Type 0
 InRounds f R rows masses = (N : ℕ) → TableParts N rows f → AreHeld (scale_of N f R) masses
-    × ((G : Outcome → ℕ) → held (scale_of N f R) G masses ≡ geometric f R * held N G rows + whole (scale_of N f R) (power f R) * G (outcome.Limit Rounds))
+    × ((G : Outcome → ℕ)
+    → held (scale_of N f R) G masses
+    ≡ geometric f R * held N G rows + whole (scale_of N f R) (power f R) * G (outcome.Limit Rounds))
 
 abbrev pub RoundsBlame : MassError → Fraction → ℕ → Rows → Type 0
 RoundsBlame e f R rows = (N L : ℕ) → TableParts N rows f → Blames e (scale_of N f R) L
 
 -- the weights of a table, each over what does not fail
 abbrev pub OverRest : Fraction → Rows → Rows → Type 0
-OverRest f rows masses = (N : ℕ) → TableParts N rows f → AreHeld (N - whole N f) masses × ((G : Outcome → ℕ) → held (N - whole N f) G masses ≡ held N G rows)
+OverRest f rows masses = (N : ℕ) → TableParts N rows f
+    → AreHeld (N - whole N f) masses × ((G : Outcome → ℕ) → held (N - whole N f) G masses ≡ held N G rows)
 
 abbrev pub OverRestBlames : MassError → Fraction → Rows → Type 0
 OverRestBlames e f rows = (N L : ℕ) → TableParts N rows f → Blames e N L

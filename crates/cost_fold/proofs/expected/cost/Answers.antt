@@ -14,16 +14,19 @@ pub returns-in-None-repeated-clause-refused : goal.returns-in-None-repeated-clau
 returns-in-None-repeated-clause-refused c =
     let p = source_of c.args.p.now in
     let l = c.args.l.now in
-    rounds_wide p l c.is_kept.ensures.kept c.in-Ok.failed c.in-Ok.ensures.failed c.in-Ok.ensures.mass l.rounds c.requires.some_round refl c.in-Some.bits (subst (RoundBits p l.turns (Some l.attempts)) c.in-Some.is c.in-Ok.ensures.bits) c.in-None-repeated.ensures.cause
+    let told = subst (RoundBits p l.turns (Some l.attempts)) c.in-Some.is c.in-Ok.ensures.bits in
+    rounds_wide p l c.is_kept.ensures.kept c.in-Ok.failed c.in-Ok.ensures.failed c.in-Ok.ensures.mass l.rounds c.requires.some_round refl c.in-Some.bits told c.in-None-repeated.ensures.cause
 
 pub returns-in-Some-repeated-clause-bits : goal.returns-in-Some-repeated-clause-bits
 returns-in-Some-repeated-clause-bits c =
     let p = source_of c.args.p.now in
     let l = c.args.l.now in
-    cost_is p l c.is_kept.ensures.kept c.in-Ok.failed c.in-Ok.ensures.failed c.in-Ok.ensures.mass l.rounds c.requires.some_round refl c.in-Some.bits (subst (RoundBits p l.turns (Some l.attempts)) c.in-Some.is c.in-Ok.ensures.bits) c.in-Some-repeated.f c.in-Some-repeated.ensures.value c.is_lowest.ensures
+    let told = subst (RoundBits p l.turns (Some l.attempts)) c.in-Some.is c.in-Ok.ensures.bits in
+    cost_is p l c.is_kept.ensures.kept c.in-Ok.failed c.in-Ok.ensures.failed c.in-Ok.ensures.mass l.rounds c.requires.some_round refl c.in-Some.bits told c.in-Some-repeated.f c.in-Some-repeated.ensures.value c.is_lowest.ensures
 
 pub returns-in-Some-repeated-clause-lengths : goal.returns-in-Some-repeated-clause-lengths
 returns-in-Some-repeated-clause-lengths c =
     let p = source_of c.args.p.now in
     let l = c.args.l.now in
-    cost_law p l c.is_kept.ensures.kept c.in-Ok.failed c.in-Ok.ensures.failed c.in-Ok.ensures.mass l.rounds c.requires.some_round refl c.in-Some.bits (subst (RoundBits p l.turns (Some l.attempts)) c.in-Some.is c.in-Ok.ensures.bits) c.in-Some-repeated.f c.in-Some-repeated.ensures.value c.is_lowest.ensures
+    let told = subst (RoundBits p l.turns (Some l.attempts)) c.in-Some.is c.in-Ok.ensures.bits in
+    cost_law p l c.is_kept.ensures.kept c.in-Ok.failed c.in-Ok.ensures.failed c.in-Ok.ensures.mass l.rounds c.requires.some_round refl c.in-Some.bits told c.in-Some-repeated.f c.in-Some-repeated.ensures.value c.is_lowest.ensures

@@ -14,7 +14,7 @@ returns-clause-ok c =
     let same = c.program-program.ensures.same in
     let w = subst (λ q. BlockIsWeighed (statements_of q.body)) (sym same) c.program-program.ensures.weights in
     let one = c.in_ok-table.ensures.one ∙ ap (λ n. (zeros n, (1, 1)) ∷ []) c.count.ensures in
-    subst (λ q. BodyGives (source_of q) c.args.turns c.args.attempts.most c.in_ok-table-2.table.states.entries c.fold_block.new.ended) same
+    subst (λ q. BodyGives (source_of q) c.args.turns c.args.attempts.most c.in_ok-table-2.table.states.entries c.block.new.ended) same
     (body_gives (source_of c.program-program.result.now) c.args.turns c.args.attempts.most w _ c.none-ended.result one c.none-ended.ensures _ _ c.in_ok-table-2.ensures.ok)
 
 pub returns-clause-bits : goal.returns-clause-bits
@@ -22,7 +22,7 @@ returns-clause-bits c =
     let same = c.program-program.ensures.same in
     let w = subst (λ q. BlockIsWeighed (statements_of q.body)) (sym same) c.program-program.ensures.weights in
     let one = c.in_ok-table.ensures.one ∙ ap (λ n. (zeros n, (1, 1)) ∷ []) c.count.ensures in
-    subst (λ q. BodyMeters (source_of q) c.args.turns c.args.attempts.most c.args.meter.now c.fold_block.new.meter) same
+    subst (λ q. BodyMeters (source_of q) c.args.turns c.args.attempts.most c.args.meter.now c.block.new.meter) same
     (body_meters (source_of c.program-program.result.now) c.args.turns c.args.attempts.most w _ c.none-ended.result one c.none-ended.ensures _ _ c.in_ok-table-2.ensures.bits)
 
 pub returns-in_err-table-2-clause-cause : goal.returns-in_err-table-2-clause-cause
