@@ -1,0 +1,10 @@
+pub mod SameLists
+pub mod SameInputs
+pub mod Unlimited
+pub mod Steps
+pub mod Turns
+pub mod Programs
+pub mod Rows
+pub mod Sums
+pub mod Arms
+pub mod MassLimits

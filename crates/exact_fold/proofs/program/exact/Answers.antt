@@ -1,0 +1,10 @@
+use Rattle.std.proofs.Common.{arith}
+use Rattle.exact_fold.proofs.Rows.{exact_of, fails_always}
+use Rattle.exact_fold.proofs.program.exact.Goals as goal
+
+pub returns-clause-masses : goal.returns-clause-masses
+returns-clause-masses c =
+    exact_of _ _ _ _ _ c.in_ok-round.ensures (omega (arith, c.if-num-den.false, c.num.ensures.value, c.den.ensures.value)) c.in_ok-masses.ensures
+
+pub returns-then-num-den-clause-refused : goal.returns-then-num-den-clause-refused
+returns-then-num-den-clause-refused c = fails_always _ _ _ c.in_ok-round.ensures (omega (arith, c.if-num-den.true, c.num.ensures.value, c.den.ensures.value))

@@ -1,0 +1,4 @@
+pub mod Exact
+pub mod Limits
+pub mod Refused
+pub mod inner

@@ -1,0 +1,4 @@
+-- Words of proofs and of private contracts. No public definition or clause cites one.
+pub mod Settled
+pub mod Turning
+pub mod Rounds

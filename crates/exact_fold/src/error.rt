@@ -1,0 +1,72 @@
+// Why there are no exact masses.
+
+use mass_fold::MassError;
+use std::alloc::{AllocError, AllocFailed};
+
+/// Why a block is not settled.
+#[derive(Clone, Copy, PartialEq, Eq, Debug)]
+pub enum SettleError {
+    /// A fraction is too wide for two numbers of 128 bits.
+    TooWide,
+    /// More than 65,536 states at one point, or on the guard of one loop.
+    TooManyStates,
+    /// Memory ran out.
+    OutOfMemory,
+    /// What was found of a loop is refused by its check.
+    NotSettled,
+}
+
+impl From<MassError> for SettleError {
+    fn from(error: MassError) -> Self {
+        match error {
+            MassError::TooWide => SettleError::TooWide,
+            MassError::TooManyStates => SettleError::TooManyStates,
+            MassError::OutOfMemory => SettleError::OutOfMemory,
+            // No step of a block says so.
+            MassError::AllFailed => SettleError::NotSettled,
+        }
+    }
+}
+
+impl From<AllocError> for SettleError {
+    fn from(_error: AllocError) -> Self {
+        SettleError::OutOfMemory
+    }
+}
+
+impl<T: Drop> From<AllocFailed<T>> for SettleError {
+    fn from(_error: AllocFailed<T>) -> Self {
+        SettleError::OutOfMemory
+    }
+}
+
+/// Why there are no exact masses.
+#[derive(Clone, Copy, PartialEq, Eq, Debug)]
+pub enum ExactError {
+    /// A fraction is too wide for two numbers of 128 bits: of a loop's visits, of one turn, or of a mass.
+    TooWide,
+    /// More than 65,536 states at one point, or on the guard of one loop.
+    TooManyStates,
+    /// In the limit of turns every round fails.
+    AllFailed,
+    /// Memory ran out.
+    OutOfMemory,
+    /// What was found of a loop is refused by its check. It never comes, which is not proved.
+    NotSettled,
+}
+
+impl From<SettleError> for ExactError {
+    ghost use Rattle.gcl_core.specs.meaning.Syntax.{SourceProgram};
+    ghost use Rattle.exact_fold.specs.Refused.{WhyRefused};
+
+    ghost from_gives = { λ _ e. (p : SourceProgram) → WhyRefused p e };
+
+    fn from(error: SettleError) -> Self {
+        match error {
+            SettleError::TooWide => ExactError::TooWide,
+            SettleError::TooManyStates => ExactError::TooManyStates,
+            SettleError::OutOfMemory => ExactError::OutOfMemory,
+            SettleError::NotSettled => ExactError::NotSettled,
+        }
+    }
+}

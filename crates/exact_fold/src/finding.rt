@@ -1,0 +1,189 @@
+// Finding the visits of a loop. Nothing is promised of what is found: it is checked by one turn of the loop.
+
+ghost use Rattle.std.specs.Prelude.{◌≡◌, IfOk};
+
+use crate::error::SettleError;
+use crate::residues::Residues;
+use crate::solving::solved;
+use frac128::Frac;
+use mass_fold::{State, Table, scale};
+use std::alloc::Global;
+use std::collections::BTreeMap;
+
+/// The states of a loop on which its guard holds, by number in the order in which they were seen, and where one turn leads from
+/// each.
+#[derive(Drop)]
+pub struct Seen {
+    pub states: Vec<State>,
+    numbers: BTreeMap<State, u64>,
+    parts: Vec<(u64, u64, Frac)>,
+}
+
+/// What was found of a loop: its visits where the guard holds, twice, and the states that are never left.
+#[derive(Drop)]
+pub struct Found {
+    pub visits: Table,
+    pub copy: Table,
+    pub closed: Table,
+}
+
+/// A table with one more entry, where it has as many variables.
+pub fn put(table: &mut Table, s: State, f: Frac) -> Result<(), SettleError>
+    ensures { table.new.vars ≡ table.old.vars }
+{
+    if s.values().len() != table.vars as usize {
+        return Err(SettleError::NotSettled);
+    }
+    table.put(s, f)?;
+    Ok(())
+}
+
+/// The table once more.
+pub fn copied(alloc: Global, table: &Table) -> Result<Table, SettleError>
+    ensures { IfOk result (λ t. t.vars ≡ table.now.vars) }
+{
+    Ok(scale(alloc, &Frac::of(1, 1), table)?)
+}
+
+impl Seen {
+    pub fn none(alloc: Global) -> Seen {
+        Seen {
+            states: Vec::new(alloc),
+            numbers: BTreeMap::new(alloc),
+            parts: Vec::new(alloc),
+        }
+    }
+
+    // The number of a state, which is a new one where it was not seen.
+    fn number(&mut self, alloc: Global, s: &State) -> Result<u64, SettleError> {
+        if let Some(number) = self.numbers.get(s) {
+            return Ok(*number);
+        }
+        let number = self.states.len() as u64;
+        self.numbers.insert(s.copy(alloc)?, number)?;
+        self.states.push(s.copy(alloc)?)?;
+        Ok(number)
+    }
+
+    /// The states of a table are seen.
+    pub fn enlist(&mut self, alloc: Global, table: &Table) -> Result<(), SettleError> {
+        for (s, _) in &table.states {
+            self.number(alloc, s)?;
+        }
+        Ok(())
+    }
+
+    /// One turn leads from a state to a table.
+    pub fn lead(&mut self, alloc: Global, from: u64, table: &Table) -> Result<(), SettleError> {
+        for (s, f) in &table.states {
+            let to = self.number(alloc, s)?;
+            self.parts.push((from, to, *f))?;
+        }
+        Ok(())
+    }
+
+    // The states from which the loop is left with some weight: those from which a turn leads on with less than all, and those
+    // from which a turn leads to one of them.
+    fn leaving(&self, alloc: Global) -> Result<BTreeMap<u64, bool>, SettleError> {
+        let mut sums = BTreeMap::new(alloc);
+        let mut sources: BTreeMap<u64, Vec<u64>> = BTreeMap::new(alloc);
+        for (from, to, f) in &self.parts {
+            let sum = match sums.get(from) {
+                Some(old) => f.add(old).ok_or(SettleError::TooWide)?,
+                None => *f,
+            };
+            sums.insert(*from, sum)?;
+            let mut list = match sources.remove(to) {
+                Some(list) => list,
+                None => Vec::new(alloc),
+            };
+            list.push(*from)?;
+            sources.insert(*to, list)?;
+        }
+        let mut leaving = BTreeMap::new(alloc);
+        let mut waiting = Vec::new(alloc);
+        for number in 0..self.states.len() as u64 {
+            let leaves = match sums.get(&number) {
+                Some(sum) => sum.num() != sum.den(),
+                None => true,
+            };
+            if leaves {
+                leaving.insert(number, true)?;
+                waiting.push(number)?;
+            }
+        }
+        for _ in 0..self.states.len() {
+            let Some(to) = waiting.pop() else {
+                break;
+            };
+            if let Some(list) = sources.remove(&to) {
+                for from in list {
+                    if !leaving.contains_key(&from) {
+                        leaving.insert(from, true)?;
+                        waiting.push(from)?;
+                    }
+                }
+            }
+        }
+        Ok(leaving)
+    }
+
+    // The visits of the states that may be left, by number.
+    fn visits(
+        &self,
+        alloc: Global,
+        start: &Table,
+        leaving: &BTreeMap<u64, bool>,
+    ) -> Result<BTreeMap<u64, Residues>, SettleError> {
+        let mut entered = BTreeMap::new(alloc);
+        for (s, f) in &start.states {
+            if let Some(number) = self.numbers.get(s) {
+                if leaving.contains_key(number) {
+                    entered.insert(*number, Residues::of(f))?;
+                }
+            }
+        }
+        let mut parts = Vec::new(alloc);
+        for (from, to, f) in &self.parts {
+            if leaving.contains_key(from) && leaving.contains_key(to) {
+                parts.push((*from, *to, Residues::of(f)))?;
+            }
+        }
+        let mut states = Vec::new(alloc);
+        for (number, _) in leaving {
+            states.push(*number)?;
+        }
+        solved(alloc, entered, &parts, &states)
+    }
+
+    /// The visits of the states that may be left, and the states that are never left.
+    pub fn found(&self, alloc: Global, start: &Table) -> Result<Found, SettleError>
+        ensures visits { IfOk result (λ f. f.visits.vars ≡ start.now.vars) }
+        ensures closed { IfOk result (λ f. f.closed.vars ≡ start.now.vars) }
+    {
+        let leaving = self.leaving(alloc)?;
+        let numbers = self.visits(alloc, start, &leaving)?;
+        let mut visits = Table::new(alloc, start.vars);
+        let mut closed = Table::new(alloc, start.vars);
+        for (s, number) in &self.numbers {
+            match numbers.get(number) {
+                Some(part) => {
+                    let f = part.fraction().ok_or(SettleError::TooWide)?;
+                    if f.num() != 0 {
+                        put(&mut visits, s.copy(alloc)?, f)?;
+                    }
+                }
+                None => put(&mut closed, s.copy(alloc)?, Frac::of(1, 1))?,
+            }
+        }
+        if visits.vars != start.vars || closed.vars != start.vars {
+            return Err(SettleError::NotSettled);
+        }
+        let copy = copied(alloc, &visits)?;
+        Ok(Found {
+            visits,
+            copy,
+            closed,
+        })
+    }
+}

@@ -1,0 +1,18 @@
+//! Programs with loops, settled exactly: their masses as the turns of loops grow without bound.
+#![tactic(auto)]
+
+mod error;
+mod finding;
+mod laws;
+mod program;
+mod residues;
+mod settle;
+mod solving;
+#[cfg(test)]
+mod tests;
+mod turning;
+mod wide;
+
+pub use error::ExactError;
+pub use laws::{exact_masses_are_limits, exact_masses_lie_within_bounds};
+pub use program::{ExactMasses, exact};

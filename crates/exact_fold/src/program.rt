@@ -1,0 +1,132 @@
+// The masses of a program in the limit of turns.
+
+ghost use Rattle.std.specs.Prelude.{◌≡◌, ◌<◌, ◌+◌, ℕ, true, length, IfOk, IfErr, IfSome};
+ghost use Rattle.mass_tables.specs.Scale.{whole, Whole};
+ghost use Rattle.mass_fold.specs.Amounts.{AreHeld};
+ghost use Rattle.mass_fold.specs.inner.Rounds.{TableParts};
+ghost use Rattle.gcl_core.specs.meaning.Views.{source_of};
+ghost use Rattle.exact_fold.specs.Exact.{IsExact};
+ghost use Rattle.exact_fold.specs.Refused.{WhyRefused};
+ghost use Rattle.exact_fold.specs.inner.Settled.{ProgramSettlesTo};
+ghost use Rattle.exact_fold.specs.inner.Rounds.{SumsTo, RoundOf, DividesTo};
+
+use crate::error::{ExactError, SettleError};
+use crate::settle::settle_block;
+use frac128::Frac;
+use gcl_core::{Checked, Outcome};
+use mass_fold::{Ended, FracRows, Table, add_ended, add_results, over_rest};
+use std::alloc::Global;
+use std::collections::BTreeMap;
+
+/// The exact masses of a program, and what runs for ever.
+#[derive(Drop)]
+pub struct ExactMasses {
+    pub rows: FracRows,
+    pub endless: Frac,
+}
+
+// What a round comes to in the limit of turns: the weights of its outcomes, and that with which it fails.
+#[derive(Drop)]
+struct LimitRound {
+    rows: BTreeMap<Outcome, Frac>,
+    failed: Frac,
+}
+
+// The states after the body of a program and the weights of what ended, in the limit of turns.
+fn settle_program(alloc: Global, p: &Checked) -> Result<(Table, Ended), SettleError>
+    ensures ok { IfOk result (λ t. ProgramSettlesTo (source_of p.now) t.0.states.entries t.1) }
+    ensures vars { IfOk result (λ t. t.0.vars ≡ length (source_of p.now).names) }
+{
+    let program = p.program();
+    let table = Table::start(alloc, program.names.count())?;
+    let mut ended = Ended::none();
+    let table = settle_block(alloc, &program.body, table, &mut ended)?;
+    Ok((table, ended))
+}
+
+fn limit_round(alloc: Global, p: &Checked) -> Result<LimitRound, SettleError>
+    ensures { IfOk result (λ r. RoundOf (source_of p.now) r.rows.entries r.failed) }
+{
+    let program = p.program();
+    let (table, ended) = settle_program(alloc, p)?;
+    let mut rows = BTreeMap::new(alloc);
+    add_results(&program.result, &table, &mut rows)?;
+    add_ended(&ended, &mut rows)?;
+    Ok(LimitRound {
+        rows,
+        failed: ended.failed,
+    })
+}
+
+fn add(sum: &Frac, f: &Frac) -> Option<Frac>
+    ensures { IfSome result (λ v. (N : ℕ) → Whole N sum.now → Whole N f.now →
+        Whole N v × (whole N v ≡ whole N sum.now + whole N f.now)) }
+{
+    sum.add(f)
+}
+
+// The sum of the weights.
+fn total(rows: &BTreeMap<Outcome, Frac>) -> Option<Frac>
+    ensures { IfSome result (SumsTo rows.now.entries) }
+{
+    let mut sum = Frac::of(0, 1);
+    for (_, f) in rows {
+        match add(&sum, f) {
+            None => return None,
+            Some(next) => sum = next,
+        }
+    }
+    Some(sum)
+}
+
+// Whether the weights of a table and what failed are no more than one whole.
+fn are_parts(rows: &BTreeMap<Outcome, Frac>, failed: &Frac) -> bool
+    ensures { result ≡ true → (N : ℕ) → 0 < N → AreHeld N rows.now.entries → Whole N failed.now →
+        TableParts N rows.now.entries failed.now }
+{
+    let Some(sum) = total(rows) else {
+        return false;
+    };
+    let Some(all) = add(&sum, failed) else {
+        return false;
+    };
+    if all.num() > all.den() {
+        return false;
+    }
+    true
+}
+
+// The weights over what does not fail, and what they leave of 1.
+fn divided(alloc: Global, round: LimitRound) -> Result<ExactMasses, SettleError>
+    requires { round.failed.0 < round.failed.1 }
+    ensures { IfOk result (λ e. DividesTo round.rows.entries round.failed e.rows e.endless) }
+{
+    if !are_parts(&round.rows, &round.failed) {
+        return Err(SettleError::TooWide);
+    }
+    let masses = over_rest(alloc, round.rows, &round.failed)?;
+    let Some(sum) = total(&masses) else {
+        return Err(SettleError::TooWide);
+    };
+    if sum.num() > sum.den() {
+        return Err(SettleError::NotSettled);
+    }
+    let endless = Frac::of(sum.den() - sum.num(), sum.den());
+    Ok(ExactMasses {
+        rows: FracRows::of(alloc, masses)?,
+        endless,
+    })
+}
+
+/// The mass of each outcome of a program in the limit of turns, and that with which it runs for ever.
+pub fn exact(alloc: Global, p: &Checked) -> Result<ExactMasses, ExactError>
+    ensures masses { IfOk result (λ e. IsExact (source_of p.now) e.rows e.endless) }
+    ensures refused { IfErr result (WhyRefused (source_of p.now)) }
+{
+    let round = limit_round(alloc, p)?;
+    if round.failed.num() >= round.failed.den() {
+        return Err(ExactError::AllFailed);
+    }
+    let masses = divided(alloc, round)?;
+    Ok(masses)
+}

@@ -1,0 +1,295 @@
+// A table through a block, in the limit of turns.
+
+ghost use Rattle.std.specs.Prelude.{◌≡◌, ◌≤◌, length, None, IfOk, OnOk};
+ghost use Rattle.std.specs.List.{sum};
+ghost use Rattle.frac128.specs.Fraction.{IsEqual};
+ghost use Rattle.gcl_core.specs.meaning.Arms.{parts_of};
+ghost use Rattle.gcl_core.specs.meaning.Parts.{AreParts};
+ghost use Rattle.gcl_core.specs.meaning.Bounds.{
+  StatementIsWeighed,
+  BlockIsWeighed,
+  ArmsAreWeighed,
+  StatementBelow,
+  BlockBelow,
+  ArmsBelow,
+};
+ghost use Rattle.gcl_core.specs.meaning.Views.{expression_of, statement_of, statements_of, list_of_arms};
+ghost use Rattle.gcl_core.specs.meaning.Value.{value_of, ExpressionBelow};
+ghost use Rattle.loop_law.specs.Alike.{Alike};
+ghost use Rattle.loop_law.specs.Settling.{LoopSettles, StatementSettles, BlockSettles, ArmsSettle};
+ghost use Rattle.exact_fold.specs.inner.Settled.{SettlesFrom};
+ghost use Rattle.exact_fold.specs.inner.Turning.{TurnsTo, IsClosed, StaysIn, keys_in};
+
+use crate::error::SettleError;
+use crate::finding::{Found, Seen, copied, put};
+use crate::turning::{above, all_stand, alone, is_none, leaving, passes, same};
+use frac128::Frac;
+use gcl_core::{Arms, Block, Expr, Stmt};
+use mass_fold::choosing::{sides, total, weighed};
+use mass_fold::{
+    Attempts, Ended, Fold, Gone, MOST_STATES, State, Table, assign, end_all, merge, split,
+};
+use std::alloc::Global;
+
+/// The table after a block, as the turns of its loops grow without bound; what ended is added.
+#[cycle(settle)]
+pub fn settle_block(
+    alloc: Global,
+    b: &Block,
+    table: Table,
+    ended: &mut Ended,
+) -> Result<Table, SettleError>
+    requires below { BlockBelow table.vars (statements_of b.now) }
+    requires weights { BlockIsWeighed (statements_of b.now) }
+    ensures ok { IfOk result (λ t. SettlesFrom (BlockSettles Alike Alike (statements_of b.now))
+        table.states.entries ended.old t.states.entries ended.new) }
+    ensures vars { IfOk result (λ t. t.vars ≡ table.vars) }
+{
+    let mut now = table;
+    for s in &b.stmts {
+        now = settle_stmt(alloc, s, now, ended)?;
+    }
+    Ok(now)
+}
+
+#[cycle(settle)]
+#[tactic(auto, using(gcl_core::proofs::ViewLemmas::views))]
+fn settle_stmt(
+    alloc: Global,
+    s: &Stmt,
+    table: Table,
+    ended: &mut Ended,
+) -> Result<Table, SettleError>
+    requires below { StatementBelow table.vars (statement_of s.now) }
+    requires weights { StatementIsWeighed (statement_of s.now) }
+    ensures ok { IfOk result (λ t. SettlesFrom (StatementSettles Alike Alike (statement_of s.now))
+        table.states.entries ended.old t.states.entries ended.new) }
+    ensures vars { IfOk result (λ t. t.vars ≡ table.vars) }
+{
+    let _count = table.states.len();
+    match s {
+        Stmt::Skip => Ok(table),
+        Stmt::Set(x, e) => Ok(assign(alloc, *x, e, table, ended)?),
+        Stmt::Uniform(x, e) => Ok(unlimited(alloc).draw(*x, e, table, ended)?),
+        Stmt::Observe(e) => {
+            let (first, second) = split(alloc, e, table, ended)?;
+            end_all(Gone::Failed, second, ended)?;
+            Ok(first)
+        }
+        Stmt::If(e, a, c) => {
+            let (first, second) = split(alloc, e, table, ended)?;
+            let mut left = settle_block(alloc, a, first, ended)?;
+            let right = settle_block(alloc, c, second, ended)?;
+            merge(&mut left, right)?;
+            Ok(left)
+        }
+        Stmt::While(e, body) => settle_loop(alloc, body, e, table, ended),
+        Stmt::Choice(p, a, c) => {
+            let (first, second) = sides(alloc, *p, Attempts { most: None }, &table, ended)?;
+            let mut left = settle_block(alloc, a, first, ended)?;
+            let right = settle_block(alloc, c, second, ended)?;
+            merge(&mut left, right)?;
+            Ok(left)
+        }
+        Stmt::Choose(arms) => {
+            let part = one_part(total(arms));
+            settle_arms(alloc, arms, &part, &table, ended)
+        }
+    }
+}
+
+// A fold in which draws take as many attempts as it takes.
+fn unlimited(alloc: Global) -> Fold
+    ensures { result.attempts.most ≡ None }
+{
+    Fold {
+        alloc,
+        turns: 0,
+        attempts: Attempts { most: None },
+    }
+}
+
+// The weight of one part of a draw with so many.
+fn one_part(count: u64) -> Frac
+    requires { 1 ≤ count }
+    ensures above { 1 ≤ result.0 }
+    ensures equal { IsEqual result (1, count) }
+{
+    Frac::of(1, u128::from(count))
+}
+
+// The arms of a choice among several, one after the other, each by its part.
+#[cycle(settle)]
+fn settle_arms(
+    alloc: Global,
+    arms: &Arms,
+    part: &Frac,
+    table: &Table,
+    ended: &mut Ended,
+) -> Result<Table, SettleError>
+    requires below { ArmsBelow table.now.vars (list_of_arms arms.now) }
+    requires parts { AreParts (parts_of (list_of_arms arms.now)) }
+    requires weights { ArmsAreWeighed (list_of_arms arms.now) }
+    requires above { 1 ≤ part.now.0 }
+    requires equal { IsEqual part.now (1, sum (parts_of (list_of_arms arms.now))) }
+    ensures ok { IfOk result (λ t. SettlesFrom
+        (ArmsSettle Alike Alike (sum (parts_of (list_of_arms arms.now))) (list_of_arms arms.now))
+        table.now.states.entries ended.old t.states.entries ended.new) }
+    ensures vars { IfOk result (λ t. t.vars ≡ table.now.vars) }
+{
+    let mut out = Table::new(alloc, table.vars);
+    for (count, block) in &arms.arms {
+        let side = weighed(alloc, part, *count, table)?;
+        let left = settle_block(alloc, block, side, ended)?;
+        merge(&mut out, left)?;
+    }
+    Ok(out)
+}
+
+// A loop: its visits are found, and one turn of its body shows that they are right.
+#[cycle(settle)]
+fn settle_loop(
+    alloc: Global,
+    body: &Block,
+    e: &Expr,
+    table: Table,
+    ended: &mut Ended,
+) -> Result<Table, SettleError>
+    requires reads { ExpressionBelow (expression_of e.now) table.vars }
+    requires below { BlockBelow table.vars (statements_of body.now) }
+    requires weights { BlockIsWeighed (statements_of body.now) }
+    ensures ok { IfOk result (λ t. SettlesFrom
+        (LoopSettles Alike Alike (value_of (expression_of e.now)) (BlockSettles Alike Alike (statements_of body.now)))
+        table.states.entries ended.old t.states.entries ended.new) }
+    ensures vars { IfOk result (λ t. t.vars ≡ table.vars) }
+{
+    let start = start_of(alloc, e, &table)?;
+    let seen = explored(alloc, body, e, &start)?;
+    let found = seen.found(alloc, &start)?;
+    check_closed(alloc, body, e, &found.closed)?;
+    turned(alloc, body, e, found, table, ended)
+}
+
+// One turn from the visits. What it leads back and what comes in are the visits again, but for what is never left.
+#[cycle(settle)]
+fn turned(
+    alloc: Global,
+    body: &Block,
+    e: &Expr,
+    found: Found,
+    table: Table,
+    ended: &mut Ended,
+) -> Result<Table, SettleError>
+    requires reads { ExpressionBelow (expression_of e.now) table.vars }
+    requires below { BlockBelow table.vars (statements_of body.now) }
+    requires weights { BlockIsWeighed (statements_of body.now) }
+    requires vars { found.visits.vars ≡ table.vars }
+    ensures ok { IfOk result (λ t. TurnsTo (value_of (expression_of e.now)) (BlockSettles Alike Alike (statements_of body.now))
+        found.closed.states.entries table.states.entries ended.old t.states.entries ended.new) }
+    ensures vars { IfOk result (λ t. t.vars ≡ table.vars) }
+{
+    if !above(&found.visits) || !same(&found.visits, &found.copy) {
+        return Err(SettleError::NotSettled);
+    }
+    let next = settle_block(alloc, body, found.visits, ended)?;
+    let mut all = table;
+    merge(&mut all, next)?;
+    let seen = leaving(alloc, &found.closed, all)?;
+    let (on, exits) = split(alloc, e, seen, ended)?;
+    if !same(&on, &found.copy) {
+        return Err(SettleError::NotSettled);
+    }
+    Ok(exits)
+}
+
+// The entries where the guard holds.
+fn start_of(alloc: Global, e: &Expr, table: &Table) -> Result<Table, SettleError>
+    requires { ExpressionBelow (expression_of e.now) table.now.vars }
+    ensures { IfOk result (λ t. t.vars ≡ table.now.vars) }
+{
+    let copy = copied(alloc, table)?;
+    let mut none = Ended::none();
+    let (first, _) = split(alloc, e, copy, &mut none)?;
+    Ok(first)
+}
+
+// Where one turn leads from a state, as far as the guard holds there again.
+#[cycle(settle)]
+fn led(alloc: Global, body: &Block, e: &Expr, vars: u32, s: &State) -> Result<Table, SettleError>
+    requires reads { ExpressionBelow (expression_of e.now) vars }
+    requires below { BlockBelow vars (statements_of body.now) }
+    requires weights { BlockIsWeighed (statements_of body.now) }
+{
+    let mut one = Table::new(alloc, vars);
+    put(&mut one, s.copy(alloc)?, Frac::of(1, 1))?;
+    let mut none = Ended::none();
+    let next = settle_block(alloc, body, one, &mut none)?;
+    let (first, _) = split(alloc, e, next, &mut none)?;
+    Ok(first)
+}
+
+// The states that a loop comes to, and where one turn leads from each.
+#[cycle(settle)]
+fn explored(alloc: Global, body: &Block, e: &Expr, start: &Table) -> Result<Seen, SettleError>
+    requires reads { ExpressionBelow (expression_of e.now) start.now.vars }
+    requires below { BlockBelow start.now.vars (statements_of body.now) }
+    requires weights { BlockIsWeighed (statements_of body.now) }
+{
+    let mut seen = Seen::none(alloc);
+    seen.enlist(alloc, start)?;
+    for i in 0..MOST_STATES {
+        if i >= seen.states.len() {
+            return Ok(seen);
+        }
+        let s = seen.states[i].copy(alloc)?;
+        let next = led(alloc, body, e, start.vars, &s)?;
+        seen.lead(alloc, i as u64, &next)?;
+    }
+    if seen.states.len() > MOST_STATES {
+        return Err(SettleError::TooManyStates);
+    }
+    Ok(seen)
+}
+
+// One turn of the body from a state of the closed ones stays in them.
+#[cycle(settle)]
+fn check_state(
+    alloc: Global,
+    body: &Block,
+    e: &Expr,
+    closed: &Table,
+    s: &State,
+) -> Result<(), SettleError>
+    requires reads { ExpressionBelow (expression_of e.now) closed.now.vars }
+    requires below { BlockBelow closed.now.vars (statements_of body.now) }
+    requires weights { BlockIsWeighed (statements_of body.now) }
+    requires sized { length s.now ≡ closed.now.vars }
+    ensures { OnOk result (StaysIn (value_of (expression_of e.now)) (BlockSettles Alike Alike (statements_of body.now))
+        (keys_in closed.now.states.entries) s.now) }
+{
+    if !passes(e, s) {
+        return Err(SettleError::NotSettled);
+    }
+    let one = alone(alloc, closed.vars, s)?;
+    let mut gone = Ended::none();
+    let next = settle_block(alloc, body, one, &mut gone)?;
+    if !is_none(&gone) || !all_stand(closed, &next) {
+        return Err(SettleError::NotSettled);
+    }
+    Ok(())
+}
+
+// No state of these is ever left.
+#[cycle(settle)]
+fn check_closed(alloc: Global, body: &Block, e: &Expr, closed: &Table) -> Result<(), SettleError>
+    requires reads { ExpressionBelow (expression_of e.now) closed.now.vars }
+    requires below { BlockBelow closed.now.vars (statements_of body.now) }
+    requires weights { BlockIsWeighed (statements_of body.now) }
+    ensures { OnOk result (IsClosed (value_of (expression_of e.now)) (BlockSettles Alike Alike (statements_of body.now))
+        (keys_in closed.now.states.entries)) }
+{
+    for (s, _) in &closed.states {
+        check_state(alloc, body, e, closed, s)?;
+    }
+    Ok(())
+}
