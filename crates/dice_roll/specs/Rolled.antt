@@ -3,7 +3,6 @@ use Rattle.std.specs.Prelude.{◌≡◌, ℕ, ◌<◌, ◌≤◌, Bool, true, Li
 use Rattle.zar_io.specs.declared.outside.Failed.{Failed}
 use Rattle.dice_roll.specs.declared.answers.Roll.{Roll}
 use Rattle.dice_roll.specs.declared.answers.Roll.TheVariants.{Label, Limit, MoreBits}
-use Rattle.dice_roll.specs.FastRoll.{fast_roll}
 
 -- the flips that were made
 abbrev pub flips_made : Roll → ℕ
@@ -11,12 +10,12 @@ flips_made (Label c n) = n
 flips_made (Limit n) = n
 flips_made (MoreBits n) = n
 
--- Of these bits a roll among m labels with a limit of flips took those that it counts, and the others are left. It needed each: those
--- before it give no label.
-pub record TookEach (m flips : ℕ) (r : Roll) (bits left : List Bool) : Type 0 where
+-- Of these bits a roll took those that it counts, and the others are left. It needed each: on those before it the same roll, as a
+-- function of its bits, gives no label.
+pub record TookEach (rolls : List Bool → Roll) (r : Roll) (bits left : List Bool) : Type 0 where
   pub enough : flips_made r ≤ length bits
   pub left_is : left ≡ drop (flips_made r) bits
-  pub needed : (k : ℕ) → k < flips_made r → fast_roll m flips (take k bits) ≡ MoreBits k
+  pub needed : (k : ℕ) → k < flips_made r → rolls (take k bits) ≡ MoreBits k
 
 -- an answer of a roll among m labels with a limit of flips: a label is one of the m, the limit is reached at the
 -- last flip, and where bits are missing a flip was still to be made

@@ -22,7 +22,7 @@ pub fn roll<B: Bits>(m: u64, flips: u64, bits: &mut B) -> Result<Roll, Failed>
     requires high { m ≤ rule.MOST_LABELS }
     requires few { flips ≤ rule.MOST_FLIPS }
     ensures answer { IfOk result (λ r. IsTrue B.told → fast_roll m flips (B.left bits.old) ≡ r) }
-    ensures taken { IfOk result (λ r. IsTrue B.told → TookEach m flips r (B.left bits.old) (B.left bits.new)) }
+    ensures taken { IfOk result (λ r. IsTrue B.told → TookEach (fast_roll m flips) r (B.left bits.old) (B.left bits.new)) }
     ensures within { IfOk result (IsWithin m flips) }
     ensures ended { B.ended bits.new ≡ ended_by result (B.ended bits.old) }
     ensures stays_ended { IsTrue (B.ended bits.old) → 0 < flips → result ≡ Ok (Roll.MoreBits 0) }

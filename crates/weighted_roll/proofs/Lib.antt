@@ -1,0 +1,14 @@
+pub mod Sums
+pub mod Growing
+pub mod Passing
+pub mod Leading
+pub mod Walking
+pub mod Costs
+pub mod Taking
+pub mod Places
+pub mod Tabled
+pub mod Optimality
+pub mod Fast
+pub mod Givens
+pub mod Weighing
+pub mod Listing

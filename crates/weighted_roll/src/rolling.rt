@@ -1,0 +1,66 @@
+//! A draw by weights over a source of bits.
+ghost use Rattle.std.specs.Prelude.{◌≡◌, ◌<◌, ◌≤◌, length, IfOk, IsTrue};
+ghost use Rattle.std.specs.List.{sum};
+ghost use Rattle.zar_io.specs.Faults.{Counts};
+ghost use Rattle.zar_io.specs.Bits.{broken_after};
+ghost use Rattle.dice_roll.specs.Rolled.{TookEach, IsWithin, ended_by};
+ghost use Rattle.dice_roll.specs.declared.rules.TheConstants as dice_rule;
+ghost use Rattle.weighted_roll.specs.declared.rules.TheConstants as rule;
+ghost use Rattle.weighted_roll.specs.Weights.{AreWeights};
+ghost use Rattle.weighted_roll.specs.WeightedRoll.{weighted_roll};
+
+use crate::columns::{Column, pass_labels};
+use dice_roll::Roll;
+use zar_io::{Bits, Failed};
+
+// The sum, where it is known to be small.
+pub(crate) fn sum_of(weights: &[u64]) -> u64
+    requires { sum weights.now ≤ rule.GREATEST_SUM }
+    ensures { result ≡ sum weights.now }
+{
+    weights.iter().sum()
+}
+
+/// Draws a label i with the chance `weights[i]` in the sum of all, by fair bits, of which it reads at most `flips`. It takes no
+/// memory: `rests` lends room for a number a label.
+///
+/// Where it answers `Ok`, just the bits that the answer counts are taken, each of them needed. `MoreBits` comes where a bit was
+/// needed and there was none, `Limit` where `flips` bits gave no label. `Failed` comes only where a read of the bits failed, and
+/// then a fault was counted.
+pub fn roll<B: Bits>(
+    weights: &[u64],
+    rests: &mut [u64],
+    flips: u64,
+    bits: &mut B,
+) -> Result<Roll, Failed>
+    requires room { length rests.old ≡ length weights.now }
+    requires weights { AreWeights weights.now }
+    requires few { flips ≤ dice_rule.MOST_FLIPS }
+    ensures answer { IfOk result (λ r. IsTrue B.told → weighted_roll weights.now flips (B.left bits.old) ≡ r) }
+    ensures taken { IfOk result (λ r. IsTrue B.told
+        → TookEach (weighted_roll weights.now flips) r (B.left bits.old) (B.left bits.new)) }
+    ensures within { IfOk result (IsWithin (length weights.now) flips) }
+    ensures ended { B.ended bits.new ≡ ended_by result (B.ended bits.old) }
+    ensures stays_ended { IsTrue (B.ended bits.old) → 0 < flips → result ≡ Ok (Roll.MoreBits 0) }
+    ensures count { Counts result (B.faults bits.old) (B.faults bits.new) }
+    ensures broken { B.broken bits.new ≡ broken_after result (B.broken bits.old) }
+    ensures same_source { B.source bits.new ≡ B.source bits.old }
+    ensures same_files { B.file bits.new ≡ B.file bits.old }
+    ensures same_names { B.may_be_missing bits.new ≡ B.may_be_missing bits.old }
+    ensures same_room { length rests.new ≡ length rests.old }
+{
+    let whole = sum_of(weights);
+    rests.copy_from_slice(weights);
+    // The number of the string so far among those as long that have no label.
+    let mut number: u64 = 0;
+    for read in 0..flips {
+        match bits.next()? {
+            None => return Ok(Roll::MoreBits(read)),
+            Some(bit) => match pass_labels(rests, whole, 2 * number + u64::from(bit)) {
+                Column::Leaf(label) => return Ok(Roll::Label(label, read + 1)),
+                Column::Rest(left) => number = left,
+            },
+        }
+    }
+    Ok(Roll::Limit(flips))
+}
