@@ -45,7 +45,8 @@ mass_text outcome mass = outcome_text outcome ++ codes " mass " ++ fraction_text
 
 -- an outcome with its two bounds, fractions
 abbrev pub bound_text : Outcome → ℕ × ℕ → ℕ × ℕ → List ℕ
-bound_text outcome low high = outcome_text outcome ++ codes " from " ++ fraction_text low ++ codes " to " ++ fraction_text high ++ codes "\n"
+bound_text outcome low high =
+    outcome_text outcome ++ codes " from " ++ fraction_text low ++ codes " to " ++ fraction_text high ++ codes "\n"
 
 -- what all others have at most
 abbrev pub other_text : ℕ × ℕ → List ℕ

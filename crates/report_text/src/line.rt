@@ -8,8 +8,8 @@ use frac128::Frac;
 use itoa::{Buffer, Integer};
 use std::marker::Model;
 
-// The greatest length of a line: that of an outcome with two fractions fits.
-const LINE_BYTES: usize = 224;
+/// The greatest length of a line: that of an outcome with two fractions fits.
+pub const LINE_BYTES: usize = 224;
 
 /// A line of at most [`LINE_BYTES`] bytes, its line feed included. It is seen as a list of bytes.
 #[derive(Drop)]
@@ -52,7 +52,8 @@ impl Line {
 
     /// The bytes of the line. It takes no memory.
     pub fn bytes(&self) -> &[u8]
-        ensures { result.now ≡ self.now }
+        ensures text { result.now ≡ self.now }
+        ensures within { length result.now ≤ rule.LINE_BYTES }
     {
         &self.buffer[..self.length]
     }

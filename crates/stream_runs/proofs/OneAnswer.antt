@@ -4,7 +4,6 @@ use Rattle.gcl_core.specs.declared.answers.Answer.{Answer}
 use Rattle.sampler_code.specs.Running.{Reached}
 use Rattle.sampler_code.proofs.Steps.{one_reached}
 use Rattle.sampler_run.specs.Held.{Held, Ahead, IsRestOf, StandsAfter}
-use Rattle.stream_runs.specs.Keys.{key_of_answer}
 
 -- what is reached is what a function that is the run gives
 pub reached_run : (s : Held) (run : List Bool → Answer) (w : List Bool) (a : Reached) → IsRestOf s run → Ahead s w a → a.answer ≡ run w
@@ -15,5 +14,5 @@ pub runs_agree : (s : Held) (run other : List Bool → Answer) → IsRestOf s ru
 runs_agree s run other is also w = reached_run s other w (record { answer = run w; place = (is w).0 }) also (is w).1
 
 -- a run from the start reaches what a state reaches that stands before its first bit
-pub key_reached : (s t : Held) (run : List Bool → Answer) (w : List Bool) (a : Reached) → StandsAfter [] s t → Ahead t w a → IsRestOf s run → key_of_answer a.answer ≡ key_of_answer (run w)
-key_reached s t run w a stands reached is = ap key_of_answer (reached_run s run w a is ((stands w a).0 reached))
+pub answer_reached : (s t : Held) (run : List Bool → Answer) (w : List Bool) (a : Reached) → StandsAfter [] s t → Ahead t w a → IsRestOf s run → a.answer ≡ run w
+answer_reached s t run w a stands reached is = reached_run s run w a is ((stands w a).0 reached)

@@ -5,7 +5,8 @@ use gcl_core::Limits;
 use sampler_run::Sampler;
 use zar_io::Gate;
 
-/// The runs of a sampler, under these limits, on the streams of a range. The gate is told of each block. It may be lent to threads.
+/// The runs of a sampler, under these limits, on the streams of a range. The gate is told of each block. It may be lent to
+/// threads.
 #[derive(Drop)]
 pub struct Job<'a, G: Gate> {
     pub sampler: &'a Sampler,

@@ -7,4 +7,4 @@ mod running;
 
 pub use job::Job;
 pub use range::{MOST_STREAMS, MOST_WORKERS, STREAMS_OF_A_BLOCK, SeedRange};
-pub use running::run_on_stream;
+pub use running::{answer_on_stream, run_on_stream};

@@ -7,9 +7,9 @@ pub const MOST_WORKERS: u32 = 64;
 /// How many streams a block has. The last block may be shorter.
 pub const STREAMS_OF_A_BLOCK: u64 = 64;
 
-/// The streams from `from` up to but not including `to` of a seed, the first `budget` bits of each, and by how many threads they are run.
-/// It can be gone through where `from` is at most `to`, there are at most [`MOST_STREAMS`] streams, the budget is at most [`zar_io::MOST_BUDGET`],
-/// and there are 1 to [`MOST_WORKERS`] threads.
+/// The streams from `from` up to but not including `to` of a seed, the first `budget` bits of each, and by how many threads they
+/// are run. It can be gone through where `from` is at most `to`, there are at most [`MOST_STREAMS`] streams, the budget is at
+/// most [`zar_io::MOST_BUDGET`], and there are 1 to [`MOST_WORKERS`] threads.
 #[derive(Clone, Copy, PartialEq, Eq, Debug)]
 pub struct SeedRange {
     pub seed: u64,

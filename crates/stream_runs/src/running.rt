@@ -3,6 +3,7 @@
 ghost use Rattle.std.specs.Prelude.{◌≡◌, ◌≤◌, Bool, List};
 ghost use Rattle.gcl_core.specs.declared.answers.Answer.{Answer};
 ghost use Rattle.sampler_run.specs.Held.{IsRestOf, set_back};
+ghost use Rattle.zar_io.specs.StreamBits.{stream_bits};
 ghost use Rattle.zar_io.specs.declared.stream_bits.TheConstants.{MOST_BUDGET};
 ghost use Rattle.stream_runs.specs.Keys.{key_of_answer, key_on};
 ghost use Rattle.stream_runs.specs.Homes.{IsHome};
@@ -20,8 +21,31 @@ fn key_of_answer(answer: Answer) -> TallyKey
     }
 }
 
-/// Runs from where `home` stands, before its first bit, on the first bits of a stream, as many as the budget says: the key of the run. It
-/// takes no memory.
+/// Runs from where `home` stands, before its first bit, on the first bits of a stream, as many as the budget says: the answer of
+/// the run. It takes no memory.
+#[inline(always)]
+pub fn answer_on_stream<'s>(
+    state: &mut State<'s>,
+    home: &State<'s>,
+    seed: u64,
+    stream: u64,
+    budget: u64,
+) -> Answer
+    requires home { IsHome home.now state.old }
+    requires budget { budget ≤ MOST_BUDGET }
+    ensures answer { (run : List Bool → Answer) → IsRestOf (set_back state.old) run →
+        result ≡ run (stream_bits seed stream budget) }
+    ensures same_start { set_back state.new ≡ set_back state.old }
+{
+    state.fork_from(home);
+    let mut bits = StreamBits::new(seed, stream, budget);
+    match go_on(state, &mut bits) {
+        Ok(stop) => stop.answer,
+        Err(_) => unreachable!(),
+    }
+}
+
+/// Runs as [`answer_on_stream`] does: the key of the run. It takes no memory.
 pub fn run_on_stream<'s>(
     state: &mut State<'s>,
     home: &State<'s>,
@@ -34,10 +58,5 @@ pub fn run_on_stream<'s>(
     ensures key { (run : List Bool → Answer) → IsRestOf (set_back state.old) run → result ≡ key_on run seed budget stream }
     ensures same_start { set_back state.new ≡ set_back state.old }
 {
-    state.fork_from(home);
-    let mut bits = StreamBits::new(seed, stream, budget);
-    match go_on(state, &mut bits) {
-        Ok(stop) => key_of_answer(stop.answer),
-        Err(_) => unreachable!(),
-    }
+    key_of_answer(answer_on_stream(state, home, seed, stream, budget))
 }

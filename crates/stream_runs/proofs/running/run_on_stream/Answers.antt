@@ -1,13 +1,6 @@
-use Rattle.std.proofs.Common.{◌∙◌, [], Bool, List, sym, subst}
-use Rattle.zar_io.specs.StreamBits.{stream_bits}
-use Rattle.sampler_run.specs.Held.{Held, Ahead, StandsAfter, set_back}
-use Rattle.sampler_run.specs.Sampled.{reached_by}
-use Rattle.stream_runs.proofs.OneAnswer.{key_reached}
+use Rattle.std.proofs.Common.{◌∙◌, ap}
+use Rattle.stream_runs.specs.Keys.{key_of_answer}
 use Rattle.stream_runs.proofs.running.run_on_stream.Goals as goal
 
 pub returns-clause-key : goal.returns-clause-key
-returns-clause-key c = λ run is. let a = reached_by c.in-Ok.stop in let bits : List Bool = stream_bits c.args.seed c.args.stream c.args.budget in
-    let start = set_back c.args.state.now in
-    let stands = subst (λ (s : Held). StandsAfter [] s c.args.home.now) (sym c.requires.home.same) c.requires.home.stands in
-    let reached = subst (λ (w : List Bool). Ahead c.fork_from.new.self w a) c.new-bits.ensures.left (c.in-Ok.ensures.answer c.new-bits.ensures.told) in
-    c.key_of_answer.ensures ∙ key_reached start c.fork_from.new.self run bits a (subst (λ (s : Held). StandsAfter [] start s) (sym c.fork_from.ensures) stands) reached is
+returns-clause-key c = λ run is. c.key_of_answer.ensures ∙ ap key_of_answer (c.answer_on_stream.ensures.answer run is)

@@ -1,0 +1,66 @@
+// A batch of lines.
+
+use report_text::LINE_BYTES;
+use std::alloc::{AllocError, Global};
+use std::marker::Model;
+
+// How many streams a batch has. The last batch may be shorter.
+pub const STREAMS_OF_A_BATCH: u64 = 16_384;
+
+// How many bytes a batch has room for: as many lines, each of the greatest length.
+pub const ROOM: usize = STREAMS_OF_A_BATCH as usize * LINE_BYTES;
+
+// The lines of a batch, in a buffer that is taken once. It is seen as a list of bytes.
+#[derive(Drop)]
+pub struct Batch {
+    buffer: Vec<u8>,
+    filled: usize,
+}
+
+impl Model for Batch {
+    ghost use Rattle.std.specs.Prelude.{◌≡◌, List, ℕ, ◌≤◌, length, take};
+    ghost use Rattle.stream_lines.specs.declared.batch.TheConstants.{ROOM};
+
+    ghost Value = { List ℕ };
+
+    ghost view = { λ b. take b.filled b.buffer.items };
+
+    ghost invariant = { λ b. (b.filled ≤ ROOM) × (length b.buffer.items ≡ ROOM) };
+}
+
+impl Batch {
+    ghost use Rattle.std.specs.Prelude.{◌≡◌, ◌+◌, ◌≤◌, ◌++◌, [], length, IfOk};
+    ghost use Rattle.stream_lines.specs.declared.batch.TheConstants.{ROOM};
+
+    // A batch with no byte. An error comes only where memory runs out.
+    pub(crate) fn new(alloc: Global) -> Result<Batch, AllocError>
+        ensures { IfOk result (λ batch. batch ≡ []) }
+    {
+        Ok(Batch {
+            buffer: vec![in alloc; 0u8; ROOM]?,
+            filled: 0,
+        })
+    }
+
+    // The bytes of the batch.
+    pub(crate) fn bytes(&self) -> &[u8]
+        ensures { result.now ≡ self.now }
+    {
+        &self.buffer[..self.filled]
+    }
+
+    pub(crate) fn clear(&mut self)
+        ensures { self.new ≡ [] }
+    {
+        self.filled = 0;
+    }
+
+    pub(crate) fn push(&mut self, text: &[u8])
+        requires { length self.old + length text.now ≤ ROOM }
+        ensures { self.new ≡ self.old ++ text.now }
+    {
+        let end = self.filled + text.len();
+        self.buffer[self.filled..end].copy_from_slice(text);
+        self.filled = end;
+    }
+}

@@ -1,0 +1,148 @@
+// The lines of batches.
+
+ghost use Rattle.std.specs.Prelude.{◌≡◌, ◌+◌, ◌-◌, ◌*◌, ◌<◌, ◌≤◌, Bool, List, All, IfOk, length};
+ghost use Rattle.gcl_core.specs.declared.answers.Answer.{Answer};
+ghost use Rattle.sampler_run.specs.Held.{IsRestOf, set_back};
+ghost use Rattle.stream_lines.specs.Lines.{lines_over};
+ghost use Rattle.stream_lines.specs.inner.Rounds.{batch_start, IsWorkerOf, HasBatch, HaveRound};
+ghost use Rattle.stream_lines.specs.declared.batch.TheConstants.{STREAMS_OF_A_BATCH};
+ghost use Rattle.stream_runs.specs.declared.range.TheConstants.{MOST_WORKERS};
+ghost use Rattle.stream_runs.specs.Homes.{IsHome};
+ghost use Rattle.stream_runs.specs.Jobs.{IsReadyJob};
+
+use crate::batch::{Batch, STREAMS_OF_A_BATCH};
+use crate::worker::Worker;
+use report_text::sample_line;
+use sampler_run::State;
+use std::alloc::{AllocError, Global};
+use std::thread::{Threads, for_each_mut};
+use stream_runs::{Job, MOST_WORKERS, STREAMS_OF_A_BLOCK, answer_on_stream};
+use zar_io::Gate;
+
+// A worker that begins as `home` does. An error comes only where memory runs out.
+fn worker_of<'s>(alloc: Global, home: &State<'s>) -> Result<Worker<'s>, AllocError>
+    requires { IsHome home.now home.now }
+    ensures { IfOk result (IsWorkerOf home.now) }
+{
+    Ok(Worker {
+        state: home.fork(alloc)?,
+        batch: Batch::new(alloc)?,
+        apart: [0; 16],
+    })
+}
+
+// Workers that all begin as `home` does. An error comes only where memory runs out.
+pub(crate) fn workers_of<'s>(
+    alloc: Global,
+    home: &State<'s>,
+    count: u32,
+) -> Result<Vec<Worker<'s>>, AllocError>
+    requires { IsHome home.now home.now }
+    ensures workers { IfOk result (λ workers. All (IsWorkerOf home.now) workers.items) }
+    ensures count { IfOk result (λ workers. length workers.items ≡ count) }
+{
+    let mut workers = Vec::with_capacity(alloc, count as usize)?;
+    let mut made = 0;
+    while made < count {
+        workers.push(worker_of(alloc, home)?)?;
+        made += 1;
+    }
+    Ok(workers)
+}
+
+// Tells the gate of the block that begins with this stream, if one does.
+#[inline]
+fn enter<G: Gate>(job: &Job<'_, G>, stream: u64)
+    requires { job.now.range.now.from ≤ stream }
+{
+    let before = stream - job.range.from;
+    if before % STREAMS_OF_A_BLOCK == 0 {
+        job.gate.entered(before / STREAMS_OF_A_BLOCK);
+    }
+}
+
+// Runs on some streams that follow one another, and keeps their lines in the batch, in the place of what it held.
+fn fill<'s, G: Gate>(
+    job: &Job<'_, G>,
+    home: &State<'s>,
+    first: u64,
+    end: u64,
+    state: &mut State<'s>,
+    batch: &mut Batch,
+)
+    requires job { IsReadyJob job.now.limits.now job.now.range.now }
+    requires home { IsHome home.now state.old }
+    requires from { job.now.range.now.from ≤ first }
+    requires order { first ≤ end }
+    requires few { end - first ≤ STREAMS_OF_A_BATCH }
+    ensures lines { (run : List Bool → Answer) → IsRestOf (set_back state.old) run →
+        batch.new ≡ lines_over run job.now.range.now.seed job.now.range.now.budget first end }
+    ensures same_start { set_back state.new ≡ set_back state.old }
+{
+    batch.clear();
+    let mut at = first;
+    while at < end {
+        enter(job, at);
+        let answer = answer_on_stream(state, home, job.range.seed, at, job.range.budget);
+        batch.push(sample_line(&answer).bytes());
+        at += 1;
+    }
+}
+
+// Where a batch of a round begins.
+pub(crate) fn batch_start(first: u64, to: u64, number: u64) -> u64
+    requires order { first ≤ to }
+    requires few { number ≤ MOST_WORKERS }
+    ensures { result ≡ batch_start first to number }
+{
+    first + (to - first).min(STREAMS_OF_A_BATCH * number)
+}
+
+// The lines of the batch of this number.
+fn fill_batch<'s, G: Gate>(
+    job: &Job<'_, G>,
+    home: &State<'s>,
+    first: u64,
+    number: usize,
+    worker: &mut Worker<'s>,
+)
+    requires job { IsReadyJob job.now.limits.now job.now.range.now }
+    requires worker { IsWorkerOf home.now worker.old }
+    requires from { job.now.range.now.from ≤ first }
+    requires order { first ≤ job.now.range.now.to }
+    requires number { number < MOST_WORKERS }
+    ensures { HasBatch home.now job.now.range.now first number worker.new }
+{
+    let to = job.range.to;
+    let start = batch_start(first, to, number as u64);
+    let end = batch_start(first, to, number as u64 + 1);
+    fill(job, home, start, end, &mut worker.state, &mut worker.batch);
+}
+
+// The lines of a round that begins with this stream, a batch for each worker, one behind the other. Each worker works in a thread
+// of its own, where one can be made. The gate is told of each block before its first stream.
+pub(crate) fn fill_round<'s, R: Threads + Sync, G: Gate>(
+    rt: &R,
+    job: &Job<'_, G>,
+    home: &State<'s>,
+    first: u64,
+    workers: &mut [Worker<'s>],
+)
+    requires job { IsReadyJob job.now.limits.now job.now.range.now }
+    requires workers { All (IsWorkerOf home.now) workers.old }
+    requires count { length workers.old ≤ MOST_WORKERS }
+    requires from { job.now.range.now.from ≤ first }
+    requires order { first ≤ job.now.range.now.to }
+    ensures { HaveRound home.now job.now.range.now first workers.old workers.new }
+{
+    for_each_mut(
+        rt,
+        workers,
+        MOST_WORKERS as usize,
+        &|number, w: &mut Worker<'_>|
+            requires { IsReadyJob job.now.limits.now job.now.range.now × IsWorkerOf home.now w.now
+                × (job.now.range.now.from ≤ first) × (first ≤ job.now.range.now.to) × (number < MOST_WORKERS) }
+            ensures { HasBatch home.entry.now job.entry.now.range.now first number w.exit.now }
+        { fill_batch(job, home, first, number, w) },
+    );
+}

@@ -1,0 +1,59 @@
+// The lines of a program's runs.
+
+ghost use Rattle.std.specs.Prelude.{◌≡◌, ◌<◌, ◌++◌, ℕ, length, take, IfOk, OnOk, OnErr, IsTrue};
+ghost use Rattle.gcl_core.specs.meaning.LimitRange.{InRange};
+ghost use Rattle.gcl_core.specs.meaning.Runs.{run_on};
+ghost use Rattle.gcl_core.specs.meaning.Views.{source_of};
+ghost use Rattle.stream_lines.specs.Lines.{lines_of_range};
+ghost use Rattle.stream_runs.specs.Ranges.{IsRange, IsWorkers};
+ghost use Rattle.zar_io.specs.Faults.{Counts};
+
+use crate::filling::workers_of;
+use crate::writing::write_lines;
+use gcl_core::{Checked, Limits};
+use sampler_run::compile;
+use std::alloc::{AllocError, Global};
+use std::thread::Threads;
+use stream_runs::{Job, SeedRange};
+use zar_io::{Failed, Gate, Sink};
+
+/// Writes the lines of a program's runs on the streams of a range, in the order of the streams: for each the line of its answer.
+/// The bytes are the same for any number of threads and any gate, which is told of each block of
+/// [`stream_runs::STREAMS_OF_A_BLOCK`] streams before its first.
+///
+/// All memory is taken before the first byte is written, and it does not grow with the range; an error comes only where it runs
+/// out, and nothing is written then. The first write that fails ends it: a part of the front of the lines, and not all, was
+/// appended then.
+pub fn write_runs<R: Threads + Sync, S: Sink, G: Gate>(
+    rt: &R,
+    alloc: Global,
+    sink: &mut S,
+    program: &Checked,
+    range: &SeedRange,
+    limits: &Limits,
+    gate: &G,
+) -> Result<Result<(), Failed>, AllocError>
+    requires limits { InRange limits.now }
+    requires range { IsRange range.now }
+    requires workers { IsWorkers range.now.workers }
+    ensures count { IfOk result (λ done. Counts done (S.faults sink.old) (S.faults sink.new)) }
+    ensures whole { IfOk result (λ done. OnOk done (IsTrue (S.told sink.old)
+        → S.written sink.new ≡ S.written sink.old ++ lines_of_range (run_on (source_of program.now) limits.now) range.now)) }
+    ensures front { IfOk result (λ done. OnErr done (IsTrue (S.told sink.old) → (n : ℕ)
+        × (n < length (lines_of_range (run_on (source_of program.now) limits.now) range.now))
+        × (S.written sink.new ≡ S.written sink.old
+        ++ take n (lines_of_range (run_on (source_of program.now) limits.now) range.now)))) }
+    ensures still_told { IsTrue (S.told sink.old) → IsTrue (S.told sink.new) }
+    ensures untouched { OnErr result (sink.new ≡ sink.old) }
+{
+    let sampler = compile(alloc, program)?;
+    let home = sampler.start(alloc, limits)?;
+    let mut workers = workers_of(alloc, &home, range.workers)?;
+    let job = Job {
+        sampler: &sampler,
+        limits,
+        range,
+        gate,
+    };
+    Ok(write_lines(rt, sink, &job, &home, workers.as_mut_slice()))
+}

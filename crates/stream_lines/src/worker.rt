@@ -1,0 +1,13 @@
+// What a worker works with.
+
+use crate::batch::Batch;
+use sampler_run::State;
+
+// A run that is begun anew on each stream, and the lines of the batch at hand. It may cross threads.
+#[derive(Drop)]
+pub struct Worker<'s> {
+    pub(crate) state: State<'s>,
+    pub(crate) batch: Batch,
+    // Room between workers that stand side by side, so that no two write to one line of a processor's cache.
+    pub(crate) apart: [u64; 16],
+}
