@@ -11,8 +11,8 @@ use gcl_core::{Checked, Limits};
 use sampler_run::{Progress, State, compile};
 use std::alloc::{AllocError, Global};
 
-/// Where the program's run under these limits stands after two lists of bits in a row, as its sampler tells that is fed one and then the
-/// other. An error comes only where memory runs out.
+/// Where the program's run under these limits stands after two lists of bits in a row, as its sampler tells that is fed one and
+/// then the other. An error comes only where memory runs out.
 pub fn fed_in_two(
     alloc: Global,
     p: &Checked,
@@ -29,8 +29,8 @@ pub fn fed_in_two(
     Ok(state.feed_all(second))
 }
 
-/// Goes on with the bits `here`, and answers another run that went on from the same place with the bits `there`. An error comes only where
-/// memory runs out; the run then stands where it stood.
+/// Goes on with the bits `here`, and answers another run that went on from the same place with the bits `there`. An error comes
+/// only where memory runs out; the run then stands where it stood.
 pub fn go_both_ways<'s>(
     state: &mut State<'s>,
     alloc: Global,
@@ -47,7 +47,8 @@ pub fn go_both_ways<'s>(
     Ok(other)
 }
 
-/// Begins a run anew and goes on with `bits`, after it has gone on with those `before`, which leave no trace. Answers where it stands then.
+/// Begins a run anew and goes on with `bits`, after it has gone on with those `before`, which leave no trace. Answers where it
+/// stands then.
 pub fn run_anew(state: &mut State<'_>, before: &[bool], bits: &[bool]) -> Progress
     ensures stands { StandsAfter bits.now (set_back state.old) state.new }
     ensures told { Tells state.new result }
@@ -57,7 +58,8 @@ pub fn run_anew(state: &mut State<'_>, before: &[bool], bits: &[bool]) -> Progre
     state.feed_all(bits)
 }
 
-/// Puts a run where another of the same sampler under the same limits stands, and goes on with the bits `next`. Answers where it stands then.
+/// Puts a run where another of the same sampler under the same limits stands, and goes on with the bits `next`. Answers where it
+/// stands then.
 pub fn go_on_from<'s>(state: &mut State<'s>, other: &State<'s>, next: &[bool]) -> Progress
     requires { set_back state.old ≡ set_back other.now }
     ensures stands { StandsAfter next.now other.now state.new }

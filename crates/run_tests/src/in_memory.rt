@@ -15,8 +15,8 @@ pub fn put_on_a_vector(bytes: Vec<u8>, piece: &[u8]) -> Result<HostSink<Vec<u8>>
     Ok(sink)
 }
 
-/// Files of two names, `bits` with two bytes and `text` with a program. None is open, and a read gives at most `step` bytes. Of the calls
-/// from here on, numbered from 0, those fail whose numbers are in `fails`. An error comes only where memory runs out.
+/// Files of two names, `bits` with two bytes and `text` with a program. None is open, and a read gives at most `step` bytes. Of
+/// the calls from here on, numbered from 0, those fail whose numbers are in `fails`. An error comes only where memory runs out.
 pub fn two_files(alloc: Global, step: usize, fails: &[u64]) -> Result<MemFiles, AllocError>
     requires { 0 < step }
     ensures closed { IfOk result (λ files. has_open files ≡ false) }

@@ -1,5 +1,5 @@
-//! Uses of runs and of the outside by public calls, each with what it promises. The tests of both, and of audits, tallies and hunts, stand
-//! here too, so that none of these crates is proved once more with its tests.
+//! Uses of runs and of the outside by public calls, each with what it promises. The tests of both, and of audits, tallies, hunts
+//! and lines, stand here too, so that none of these crates is proved once more with its tests.
 #![tactic(auto)]
 
 #[cfg(test)]
@@ -10,6 +10,8 @@ mod hunting;
 mod in_memory;
 #[cfg(test)]
 mod lending;
+#[cfg(test)]
+mod lines;
 #[cfg(test)]
 mod outside;
 #[cfg(test)]

@@ -4,7 +4,8 @@ ghost use Rattle.std.specs.Prelude.{◌≡◌};
 
 use stream_runs::SeedRange;
 
-/// A stream far from the first, 2^57. By words that RFC 8439 publishes, it begins with the bits 001, and stream 0 with the bits 101.
+/// A stream far from the first, 2^57. By words that RFC 8439 publishes, it begins with the bits 001, and stream 0 with the bits
+/// 101.
 pub const FAR: u64 = 0x0200000000000000;
 
 /// Streams of seed 0, from `from` up to but not including `to`.

@@ -12,11 +12,11 @@ use sampler_run::{RunError, Sampler, Stop, sample};
 use std::alloc::Global;
 use zar_io::Bits;
 
-/// Runs a sampler on bits, under these limits, and tries once more where there was no memory for it. The bits that the run reads are
-/// taken once.
+/// Runs a sampler on bits, under these limits, and tries once more where there was no memory for it. The bits that the run reads
+/// are taken once.
 ///
-/// `Read` comes only where the count of faults of `bits` rose in this call, and `OutOfMemory` only where memory ran out twice; no bit was
-/// asked for then.
+/// `Read` comes only where the count of faults of `bits` rose in this call, and `OutOfMemory` only where memory ran out twice; no
+/// bit was asked for then.
 pub fn sample_again<B: Bits>(
     alloc: Global,
     s: &Sampler,

@@ -34,7 +34,8 @@ struct Row {
     err: &'static [u8],
 }
 
-// Byte by byte, the text of 47 bytes takes an open, as many reads, and one that finds its end; the one byte of bits an open and a read.
+// Byte by byte, the text of 47 bytes takes an open, as many reads, and one that finds its end; the one byte of bits an open and a
+// read.
 const ROWS: [Row; 9] = [
     Row {
         words: &["sample", "p.gcl", "--bits", "b.bin"],

@@ -26,7 +26,7 @@ use std::process::ExitCode;
 use std::rt::Env;
 use std::{env, io};
 use zar_cli::statuses::{NO_WORDS, OUT_OF_MEMORY};
-use zar_cli::{Command, read_words, zar};
+use zar_cli::{Command, Work, read_words, zar};
 use zar_io::{HostFiles, HostSink};
 
 // The words after the program's name, or the status that says why there are none.
@@ -42,14 +42,19 @@ fn words<R: Env + AllocGlobal>(rt: &R) -> Result<Vec<String>, u8> {
     Ok(words)
 }
 
-// How many streams the words go over, if they name a range and memory suffices.
-fn streams_of_range(alloc: Global, words: &[String]) -> Option<u64>
+// How many streams the words go over, if they name a range and memory suffices. The lines of runs tell themselves how far they
+// are where they are seen.
+fn streams_of_range(alloc: Global, words: &[String], out_is_seen: bool) -> Option<u64>
     requires { length words.now < 2 ^ 32 }
 {
     match read_words(alloc, words) {
-        Ok(Command::Tally(_, range, _) | Command::Hunt(_, range, _, _)) => {
-            Some(range.to.saturating_sub(range.from))
-        }
+        Ok(Command::Checked(_, Work::Runs(_, _))) if out_is_seen => None,
+        Ok(
+            Command::Checked(
+                _,
+                Work::Tally(range, _) | Work::Runs(range, _) | Work::Hunt(range, _, _),
+            ),
+        ) => Some(range.to.saturating_sub(range.from)),
         _ => None,
     }
 }
@@ -62,15 +67,16 @@ fn main(rt: HostRuntime) -> ExitCode {
     if words.len() >= 1 << 32 {
         return ExitCode::from(NO_WORDS);
     }
+    let out_is_seen = rt.stdout().is_terminal();
     let streams = if rt.stderr().is_terminal() {
-        streams_of_range(rt.alloc(), words.as_slice())
+        streams_of_range(rt.alloc(), words.as_slice(), out_is_seen)
     } else {
         None
     };
     let progress = Progress::new(&rt, streams);
     let mut files = HostFiles::new(&rt);
-    let mut out = WipingSink::new(HostSink::new(rt.stdout()), &progress);
-    let mut err = WipingSink::new(HostSink::new(rt.stderr()), &progress);
+    let mut out = WipingSink::new(HostSink::new(rt.stdout()), &progress, out_is_seen);
+    let mut err = WipingSink::new(HostSink::new(rt.stderr()), &progress, true);
     let status = zar(
         &rt,
         rt.alloc(),
@@ -80,5 +86,6 @@ fn main(rt: HostRuntime) -> ExitCode {
         &mut err,
         &progress,
     );
+    progress.wipe();
     ExitCode::from(status)
 }

@@ -16,8 +16,8 @@ const BETWEEN_TWO: u64 = 100;
 // Back to the first column, and clear the line.
 const WIPE: &str = "\r\x1b[K";
 
-/// A gate that tells on standard error how many of the streams stand before the block that is entered: not before a second is over,
-/// at most ten times a second, and each time in the place of the line before. A clock or a write that fails is passed over.
+/// A gate that tells on standard error how many of the streams stand before the block that is entered: not before a second is
+/// over, at most ten times a second, and each time in the place of the line before. A clock or a write that fails is passed over.
 #[derive(Drop)]
 pub struct Progress<'r, R: Clock + Eprint> {
     rt: &'r R,

@@ -6,21 +6,26 @@ use std::io::Eprint;
 use std::time::Clock;
 use zar_io::{Failed, Sink};
 
-/// A sink that writes to another, and takes the line of progress away before it does.
+/// A sink that writes to another. Where what it writes is seen beside the line of progress, it takes the line away first.
 #[derive(Drop)]
 pub struct WipingSink<'p, S: Sink + Drop, R: Clock + Eprint> {
     sink: S,
     progress: &'p Progress<'p, R>,
+    is_seen: bool,
 }
 
 impl<'p, S: Sink + Drop, R: Clock + Eprint> WipingSink<'p, S, R> {
     /// What it tells is what the other sink does.
-    pub fn new(sink: S, progress: &'p Progress<'p, R>) -> WipingSink<'p, S, R>
+    pub fn new(sink: S, progress: &'p Progress<'p, R>, is_seen: bool) -> WipingSink<'p, S, R>
         ensures faults { ⟦<WipingSink<'p, S, R> as Sink>⟧.faults result ≡ S.faults sink }
         ensures told { ⟦<WipingSink<'p, S, R> as Sink>⟧.told result ≡ S.told sink }
         ensures written { ⟦<WipingSink<'p, S, R> as Sink>⟧.written result ≡ S.written sink }
     {
-        WipingSink { sink, progress }
+        WipingSink {
+            sink,
+            progress,
+            is_seen,
+        }
     }
 }
 
@@ -34,7 +39,9 @@ impl<S: Sink + Drop, R: Clock + Eprint> Sink for WipingSink<'_, S, R> {
     ghost bounded = { λ s. S.bounded s.sink };
 
     fn write(&mut self, piece: &[u8]) -> Result<usize, Failed> {
-        self.progress.wipe();
+        if self.is_seen {
+            self.progress.wipe();
+        }
         self.sink.write(piece)
     }
 }

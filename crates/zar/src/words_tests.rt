@@ -6,7 +6,7 @@ use crate::in_memory::spelled;
 use gcl_core::{Fault, Limit, Outcome, TallyKey};
 use std::alloc::{AllocError, Global};
 use std::test::Fail;
-use zar_cli::{Command, Source, Topic, Verb, WordsError, read_words};
+use zar_cli::{Command, Source, Topic, Verb, WordsError, Work, read_words};
 
 // What the words of a call answer.
 fn read(alloc: Global, call: &[&str]) -> Result<Result<Command, WordsError>, AllocError>
@@ -117,8 +117,8 @@ fn reads_the_options_of_sample(rt: HostRuntime) -> Result<(), Fail> {
         ),
     ];
     for (words, turns, attempts, rounds) in cases {
-        match read(rt.alloc(), words)? {
-            Ok(Command::Sample(program, source, limits)) => {
+        match &read(rt.alloc(), words)? {
+            Ok(Command::Checked(program, Work::Sample(source, limits))) => {
                 assert_eq!(rt; program.text(), "p");
                 match source {
                     Source::File(bits) => assert_eq!(rt; bits.text(), "b"),
@@ -185,12 +185,12 @@ fn names_the_first_wrong_word_of_counts(rt: HostRuntime) -> Result<(), Fail> {
 
 #[test]
 fn reads_the_numbers_of_counts(rt: HostRuntime) -> Result<(), Fail> {
-    match read(rt.alloc(), &["mass", "p", "--rounds", "2"])? {
-        Ok(Command::Mass(program, turns, attempts, rounds)) => {
+    match &read(rt.alloc(), &["mass", "p", "--rounds", "2"])? {
+        Ok(Command::Checked(program, Work::Mass(turns, attempts, rounds))) => {
             assert_eq!(rt; program.text(), "p");
-            assert_eq!(rt; turns, 30);
-            assert_eq!(rt; attempts, None);
-            assert_eq!(rt; rounds, Some(2));
+            assert_eq!(rt; *turns, 30);
+            assert_eq!(rt; *attempts, None);
+            assert_eq!(rt; *rounds, Some(2));
         }
         _ => panic!(rt; "no mass"),
     }
@@ -198,20 +198,20 @@ fn reads_the_numbers_of_counts(rt: HostRuntime) -> Result<(), Fail> {
         rt.alloc(),
         &["cost", "p", "--attempts", "5", "--rounds", "2"],
     )? {
-        Ok(Command::Cost(_, limits)) => {
+        Ok(Command::Checked(_, Work::Cost(limits))) => {
             assert_eq!(rt; (limits.turns, limits.attempts, limits.rounds), (30, 5, 2));
         }
         _ => panic!(rt; "no cost"),
     }
-    match read(rt.alloc(), &["posterior", "p"])? {
-        Ok(Command::Posterior(program, turns)) => {
+    match &read(rt.alloc(), &["posterior", "p"])? {
+        Ok(Command::Checked(program, Work::Posterior(turns))) => {
             assert_eq!(rt; program.text(), "p");
-            assert_eq!(rt; turns, 30);
+            assert_eq!(rt; *turns, 30);
         }
         _ => panic!(rt; "no posterior"),
     }
     match read(rt.alloc(), &["audit", "p", "--depth", "3"])? {
-        Ok(Command::Audit(_, depth, limits)) => {
+        Ok(Command::Checked(_, Work::Audit(depth, limits))) => {
             assert_eq!(rt; depth, 3);
             assert_eq!(rt; limits.attempts, 1000);
         }
@@ -230,7 +230,7 @@ fn reads_the_numbers_of_counts(rt: HostRuntime) -> Result<(), Fail> {
             "9",
         ],
     )? {
-        Ok(Command::Tally(_, range, _)) => {
+        Ok(Command::Checked(_, Work::Tally(range, _))) => {
             assert_eq!(rt; range.seed, u64::MAX);
             assert_eq!(rt; range.from, 5);
             assert_eq!(rt; range.to, 9);
@@ -299,7 +299,7 @@ fn reads_the_numbers_of_gen_and_fast(rt: HostRuntime) -> Result<(), Fail> {
 #[test]
 fn reads_the_file_of_check_and_show(rt: HostRuntime) -> Result<(), Fail> {
     match read(rt.alloc(), &["check", "p"])? {
-        Ok(Command::Check(program)) => assert_eq!(rt; program.text(), "p"),
+        Ok(Command::Checked(program, Work::Check)) => assert_eq!(rt; program.text(), "p"),
         _ => panic!(rt; "no check"),
     }
     match read(rt.alloc(), &["show", "--bits"])? {
@@ -342,18 +342,18 @@ fn names_the_first_wrong_word_of_hunts(rt: HostRuntime) -> Result<(), Fail> {
 
 #[test]
 fn reads_the_numbers_and_the_key_of_hunt(rt: HostRuntime) -> Result<(), Fail> {
-    match read(
+    match &read(
         rt.alloc(),
         &[
             "hunt", "p", "--want", "-5", "--to", "9", "--from", "5", "--seed", "7", "--turns", "3",
         ],
     )? {
-        Ok(Command::Hunt(program, range, limits, want)) => {
+        Ok(Command::Checked(program, Work::Hunt(range, limits, want))) => {
             assert_eq!(rt; program.text(), "p");
             assert_eq!(rt; (range.seed, range.from, range.to), (7, 5, 9));
             assert_eq!(rt; (range.budget, range.workers), (65_536, 4));
             assert_eq!(rt; (limits.turns, limits.attempts), (3, 1000));
-            assert_eq!(rt; want, TallyKey::Outcome(Outcome::Value(-5)));
+            assert_eq!(rt; *want, TallyKey::Outcome(Outcome::Value(-5)));
         }
         _ => panic!(rt; "no hunt"),
     }
@@ -366,7 +366,7 @@ fn wanted(alloc: Global, word: &str) -> Result<Result<TallyKey, WordsError>, All
         "hunt", "p", "--want", word, "--seed", "0", "--from", "0", "--to", "1",
     ];
     match read(alloc, &hunted)? {
-        Ok(Command::Hunt(_, _, _, want)) => Ok(Ok(want)),
+        Ok(Command::Checked(_, Work::Hunt(_, _, want))) => Ok(Ok(want)),
         Ok(_) => Ok(Err(WordsError::BadWords { at: 0 })),
         Err(error) => Ok(Err(error)),
     }

@@ -14,7 +14,7 @@ use Rattle.zar_cli.specs.Output.{IsOutput}
 use Rattle.zar_cli.specs.Rolls.{weights_text, weights_said}
 use Rattle.zar_cli.specs.Seen.{FilesSeen}
 use Rattle.zar_cli.specs.inner.Stage.{OfOutside}
-use Rattle.zar_cli.proofs.Saying.{outside_fits, said_all}
+use Rattle.zar_cli.proofs.Saying.{outside_may, said_all}
 
 pub generated_memory : (k : ℕ) → Fits (Gen k) (Err Memory)
 generated_memory k = inl refl
@@ -31,4 +31,4 @@ said_alone command other files said same counts is =
 
 -- a roll on the bits of a file is refused by the outside
 pub roll_refused : (labels flips : ℕ) (bits : CallWord) (e : Refusal) → OfOutside e → Fits (Fast labels flips (Some (File bits))) (Err e)
-roll_refused labels flips bits e of = outside_fits (Fast labels flips (Some (File bits))) (omega arith) refl e of
+roll_refused labels flips bits e of = inl (outside_may (Fast labels flips (Some (File bits))) (omega arith) refl e of)

@@ -11,7 +11,7 @@ use Rattle.report_text.specs.declared.refusals.Refusal.TheVariants.{Coded, Read,
 use Rattle.zar_io.specs.Faults.{CountsFault}
 use Rattle.zar_cli.specs.declared.command.Command.{Command}
 use Rattle.zar_cli.specs.declared.said.Said.{Said}
-use Rattle.zar_cli.specs.declared.said.Said.TheVariants.{Answered, Accepted, Costed, Shown, Found, Rolled, Helped}
+use Rattle.zar_cli.specs.declared.said.Said.TheVariants.{Answered, Accepted, Costed, Shown, Drawn, Found, Rolled, Helped}
 use Rattle.zar_cli.specs.declared.statuses.TheConstants.{DONE, WORDS_REFUSED, READ_FAULT, WRITE_FAULT, MASS_REFUSED, LIMIT_REACHED, NO_FILE}
 use Rattle.zar_cli.specs.declared.statuses.TheConstants as status
 use Rattle.zar_cli.specs.Answer.{FitsWords, MissesNamed, IsAnswer}
@@ -49,6 +49,7 @@ said_statuses (Answered a) = answer_statuses a
 said_statuses (Accepted statements names) = done
 said_statuses (Costed bits) = done
 said_statuses (Shown text) = done
+said_statuses (Drawn text) = done
 said_statuses (Found stream) = done
 said_statuses (Rolled roll) = roll_statuses roll
 said_statuses (Helped topic) = done

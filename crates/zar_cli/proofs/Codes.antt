@@ -10,8 +10,10 @@ use Rattle.gcl_core.specs.text.Texts.{IsRefusedText, too_long, no_piece, wide_nu
 use Rattle.report_text.specs.declared.refusals.Refusal.{Refusal}
 use Rattle.report_text.specs.declared.refusals.Refusal.TheVariants.{Coded, Read, Write, Memory, NoFile}
 use Rattle.zar_cli.specs.declared.command.Command.{Command}
-use Rattle.zar_cli.specs.declared.command.Command.TheVariants.{Sample, Mass, Cost, Posterior, Audit, Tally, Hunt, Check, Show, Code, Gen, Fast, Help}
+use Rattle.zar_cli.specs.declared.command.Command.TheVariants.{Checked, Show, Gen, Fast, Help}
 use Rattle.zar_cli.specs.declared.command.Source.TheVariants.{File, Stream}
+use Rattle.zar_cli.specs.declared.command.Work.{Work}
+use Rattle.zar_cli.specs.declared.command.Work.TheVariants.{Sample, Mass, Cost, Posterior, Audit, Tally, Runs, Hunt, Check, Code}
 use Rattle.zar_cli.specs.declared.said.Said.{Said}
 use Rattle.zar_cli.specs.declared.said.Said.TheVariants.{Answered, Rolled}
 use Rattle.zar_cli.specs.Costs as costs
@@ -21,7 +23,7 @@ use Rattle.zar_cli.specs.Forms.{CallWord}
 use Rattle.zar_cli.specs.Masses as masses
 use Rattle.zar_cli.specs.Masses.{SaysMasses}
 use Rattle.zar_cli.specs.ByStages.{Output, says, reading, on_bits, HasOrRefuses, if_spelled, if_written}
-use Rattle.zar_cli.specs.Output.{IsOutput}
+use Rattle.zar_cli.specs.Output.{IsWorkedOut, IsOutput}
 use Rattle.zar_cli.specs.Posterior as posterior
 use Rattle.zar_cli.specs.Posterior.{SaysBounds}
 use Rattle.zar_cli.specs.Rolls.{weights_text, weights_said}
@@ -112,18 +114,22 @@ module _ (e : Refusal) where
   of_written : (file : Option (List ℕ)) (go : SourceProgram → Output → Type 0) → reading file (if_written go) (Err e) → ((p : SourceProgram) → go p (Err e) → IsRefusal e) → IsRefusal e
   of_written file go is h = of_reading file (if_written go) (λ text there. of_program _ _ go (text_codes text) h there) is
 
+  work_codes : (file : CallWord → Option (List ℕ)) (p : SourceProgram) (work : Work) → IsWorkedOut file p work (Err e) → IsRefusal e
+  work_codes file p (Sample (File bits) limits) is = of_bits (file bits) (λ w. Answered (run_on p limits w)) is
+  work_codes file p (Sample (Stream seed stream budget) limits) is = of_said _ is
+  work_codes file p (Mass turns attempts rounds) is = masses_codes p turns attempts rounds e is
+  work_codes file p (Cost limits) is = costs_codes p limits e is
+  work_codes file p (Posterior turns) is = bounds_codes p turns e is
+  work_codes file p (Audit depth limits) is = of_shown _ is
+  work_codes file p (Tally range limits) is = of_shown _ is
+  work_codes file p (Runs range limits) is = of_said _ is
+  work_codes file p (Hunt range limits want) is = let same = is.2 in absurd (cc)
+  work_codes file p Check is = of_said _ is
+  work_codes file p Code is = of_said _ is
+
   pub output_codes : (file : CallWord → Option (List ℕ)) (c : Command) → IsOutput file c (Err e) → IsRefusal e
-  output_codes file (Sample program (File bits) limits) is = of_spelled _ _ is (λ p there. of_bits (file bits) (λ w. Answered (run_on p limits w)) there)
-  output_codes file (Sample program (Stream seed stream budget) limits) is = of_spelled _ _ is (λ p there. of_said _ there)
-  output_codes file (Mass program turns attempts rounds) is = of_spelled _ _ is (λ p there. masses_codes p turns attempts rounds e there)
-  output_codes file (Cost program limits) is = of_spelled _ _ is (λ p there. costs_codes p limits e there)
-  output_codes file (Posterior program turns) is = of_spelled _ _ is (λ p there. bounds_codes p turns e there)
-  output_codes file (Audit program depth limits) is = of_spelled _ _ is (λ p there. of_shown _ there)
-  output_codes file (Tally program range limits) is = of_spelled _ _ is (λ p there. of_shown _ there)
-  output_codes file (Hunt program range limits want) is = of_spelled _ _ is (λ p there. let same = there.2 in absurd (cc))
-  output_codes file (Check program) is = of_spelled _ _ is (λ p there. of_said _ there)
+  output_codes file (Checked program work) is = of_spelled (file program) (λ p. IsWorkedOut file p work) is (λ p there. work_codes file p work there)
   output_codes file (Show program) is = of_written _ _ is (λ p there. of_said _ there)
-  output_codes file (Code program) is = of_spelled _ _ is (λ p there. of_said _ there)
   output_codes file (Gen k) is = of_shown _ is
   output_codes file (Fast labels flips (Some (File bits))) is = of_bits (file bits) (λ w. Rolled (fast_roll labels flips w)) is
   output_codes file (Fast labels flips (Some (Stream seed stream budget))) is = of_said _ is

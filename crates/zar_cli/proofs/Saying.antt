@@ -1,26 +1,23 @@
 -- What a command says, from what its stages give.
 use Rattle.std.proofs.Common.{◌≡◌, ℕ, ◌<◌, ◌||◌, Bool, true, false, IsTrue, List, [], ◌∷◌, length, Option, Some, None, Ok, Err, ◌⊎◌, inl, inr, refl, sym, ◌∙◌, ap, subst, arith}
 use Rattle.std.specs.List.{list_any}
-use Rattle.gcl_core.specs.declared.answers.Answer.{Answer}
-use Rattle.gcl_core.specs.declared.answers.Limits.{Limits}
-use Rattle.gcl_core.specs.meaning.Runs.{run_on}
 use Rattle.gcl_core.specs.meaning.Syntax.{SourceProgram}
+use Rattle.gcl_core.specs.text.Canonical.{canonical_text}
 use Rattle.gcl_core.specs.text.Texts.{IsWrittenIn, IsRefusedText, Spells, SpellsNone}
 use Rattle.gcl_parse.specs.OneReading.{HasOneReadingAsWritten, HasOneReading}
 use Rattle.report_text.specs.declared.refusals.Refusal.{Refusal}
 use Rattle.report_text.specs.declared.refusals.Refusal.TheVariants.{Coded, Read, Write, Memory, NoFile}
 use Rattle.zar_io.specs.FileBits.{file_bits}
 use Rattle.zar_cli.specs.declared.command.Command.{Command}
-use Rattle.zar_cli.specs.declared.command.Command.TheVariants.{Sample}
-use Rattle.zar_cli.specs.declared.command.Source.TheVariants.{File}
+use Rattle.zar_cli.specs.declared.command.Command.TheVariants.{Show}
 use Rattle.zar_cli.specs.declared.said.Said.{Said}
-use Rattle.zar_cli.specs.declared.said.Said.TheVariants.{Answered}
+use Rattle.zar_cli.specs.declared.said.Said.TheVariants.{Shown}
 use Rattle.zar_cli.specs.Answer.{IsSaid}
-use Rattle.zar_cli.specs.Fits.{Fits}
+use Rattle.zar_cli.specs.Fits.{MaySay, Fits}
 use Rattle.zar_cli.specs.Needs.{names_in, takes_memory}
 use Rattle.zar_cli.specs.ByStages.{Output, says, reading, on_bits, if_written, if_spelled}
 use Rattle.zar_cli.specs.Output.{IsOutput, SaysOrRunsOut}
-use Rattle.zar_cli.specs.inner.Readings.{InFile, NoneInFile, OfFile, GivesOnBits, Gives}
+use Rattle.zar_cli.specs.inner.Readings.{InFile, NoneInFile, OfFile, GivesOnBits}
 use Rattle.zar_cli.specs.inner.Stage.{IsStage, OfOutside}
 use Rattle.zar_cli.specs.Seen.{FilesSeen, IsQuiet}
 use Rattle.zar_cli.specs.Stages.{CountsRead, MissesOneOf}
@@ -48,7 +45,7 @@ module _ (text : List ℕ) (go : SourceProgram → Output → Type 0) (output : 
     refusal = λ code at none. absurd (one.apart p code at is none);
   }
 
-  spelled_none : (code : ℕ) (at : Option ℕ) → HasOneReading text → SpellsNone text code at → output ≡ Err (Coded code at) → if_spelled go text output
+  pub spelled_none : (code : ℕ) (at : Option ℕ) → HasOneReading text → SpellsNone text code at → output ≡ Err (Coded code at) → if_spelled go text output
   spelled_none code at one none e = record {
     right = inr (code, at, none, e);
     program = λ q is. absurd (one.apart q code at is none);
@@ -87,29 +84,24 @@ module _ (file : Option (List ℕ)) where
   pub reading_bytes : (go : List ℕ → Output → Type 0) (output : Output) (bytes : List ℕ) → file ≡ Some bytes → go bytes output → reading file go output
   reading_bytes go output bytes there gone = subst (λ f. reading f go output) (sym there) gone
 
-  module _ (go : SourceProgram → Output → Type 0) where
-    -- its text spells this program
-    pub checked_ok : (output : Output) (p : SourceProgram) → InFile file HasOneReading (λ text. Spells text p) → go p output → reading file (if_spelled go) output
-    checked_ok output p h gone = reading_bytes (if_spelled go) output h.text h.there (spelled_ok h.text go output p h.one h.is gone)
+  -- a text of it is refused
+  pub text_refused : (One : List ℕ → Type 0) (Refuses : List ℕ → ℕ → Option ℕ → Type 0) (go : List ℕ → Output → Type 0)
+      → ((text : List ℕ) (code : ℕ) (at : Option ℕ) → One text → Refuses text code at → go text (Err (Coded code at)))
+      → (e : Refusal) → NoneInFile One Refuses file e → (e ≡ Read → ⊥) → OrMemory (reading file go) (Err e)
+  text_refused One Refuses go refused (Coded code at) none ne = inr (reading_bytes go _ none.text none.there (refused none.text code at none.one none.is))
+  text_refused One Refuses go refused Read none ne = absurd (ne refl)
+  text_refused One Refuses go refused Write none ne = absurd none
+  text_refused One Refuses go refused Memory none ne = inl refl
+  text_refused One Refuses go refused NoFile none ne = inr (reading_none go none)
 
-    pub checked_refused : (e : Refusal) → NoneInFile HasOneReading SpellsNone file e → (e ≡ Read → ⊥) → OrMemory (reading file (if_spelled go)) (Err e)
-    checked_refused (Coded code at) none ne = inr (reading_bytes (if_spelled go) _ none.text none.there (spelled_none none.text go _ code at none.one none.is refl))
-    checked_refused Read none ne = absurd (ne refl)
-    checked_refused Write none ne = absurd none
-    checked_refused Memory none ne = inl refl
-    checked_refused NoFile none ne = inr (reading_none (if_spelled go) none)
+  module _ (go : SourceProgram → Output → Type 0) (output : Output) (p : SourceProgram) where
+    -- its text spells this program
+    pub checked_ok : InFile file HasOneReading (λ text. Spells text p) → go p output → reading file (if_spelled go) output
+    checked_ok h gone = reading_bytes (if_spelled go) output h.text h.there (spelled_ok h.text go output p h.one h.is gone)
 
     -- its text has this program
-    pub written_there : (output : Output) (p : SourceProgram) (places : List ℕ) → InFile file HasOneReadingAsWritten (λ text. IsWrittenIn text p places) → go p output
-        → reading file (if_written go) output
-    written_there output p places h gone = reading_bytes (if_written go) output h.text h.there (written_ok h.text go output p places h.one h.is gone)
-
-    pub written_refused : (e : Refusal) → NoneInFile HasOneReadingAsWritten IsRefusedText file e → (e ≡ Read → ⊥) → OrMemory (reading file (if_written go)) (Err e)
-    written_refused (Coded code at) none ne = inr (reading_bytes (if_written go) _ none.text none.there (written_none none.text go _ code at none.one none.is refl))
-    written_refused Read none ne = absurd (ne refl)
-    written_refused Write none ne = absurd none
-    written_refused Memory none ne = inl refl
-    written_refused NoFile none ne = inr (reading_none (if_written go) none)
+    pub written_there : (places : List ℕ) → InFile file HasOneReadingAsWritten (λ text. IsWrittenIn text p places) → go p output → reading file (if_written go) output
+    written_there places h gone = reading_bytes (if_written go) output h.text h.there (written_ok h.text go output p places h.one h.is gone)
 
 -- ---- bits of files
 
@@ -159,18 +151,13 @@ said_memory command files takes counts = record { fits = inl takes; counts = cou
 
 -- ---- a command that names a file
 
-or_output : (file : CallWord → Option (List ℕ)) (command : Command) (Is : Output → Type 0) (output : Output) → (Is output → IsOutput file command output)
-    → OrMemory Is output → SaysOrRunsOut file command output
-or_output file command Is output is (inl memory) = inl memory
-or_output file command Is output is (inr h) = inr (is h)
-
 module _ (command : Command) (named : 0 < length (names_in command)) (takes : takes_memory command ≡ true) where
-  pub outside_fits : (e : Refusal) → OfOutside e → Fits command (Err e)
-  outside_fits (Coded code at) of = absurd of
-  outside_fits Read of = inl named
-  outside_fits Write of = absurd of
-  outside_fits Memory of = inl takes
-  outside_fits NoFile of = inl named
+  pub outside_may : (e : Refusal) → OfOutside e → MaySay command (Err e)
+  outside_may (Coded code at) of = absurd of
+  outside_may Read of = named
+  outside_may Write of = absurd of
+  outside_may Memory of = takes
+  outside_may NoFile of = named
 
   -- a text is refused over some bytes
   text_fits : (One : List ℕ → Type 0) (Refuses : List ℕ → ℕ → Option ℕ → Type 0) (file : Option (List ℕ)) (e : Refusal) → NoneInFile One Refuses file e
@@ -181,115 +168,55 @@ module _ (command : Command) (named : 0 < length (names_in command)) (takes : ta
   text_fits One Refuses file Memory none is = inl takes
   text_fits One Refuses file NoFile none is = inl named
 
--- ---- a command that takes an accepted program
-
-module _ (command : Command) (named : 0 < length (names_in command)) (takes : takes_memory command ≡ true) (files : FilesSeen) (name program : CallWord) (same : name ≡ program) where
-  pub refused_checked : (go : (CallWord → Option (List ℕ)) → SourceProgram → Output → Type 0) (e : Refusal) → IsStage (name ∷ []) files (Some e)
-      → OfFile files.told (files.file name) (λ file. NoneInFile HasOneReading SpellsNone file e)
-      → (list_any files.may_be_missing (program ∷ []) ≡ true → list_any files.may_be_missing (names_in command) ≡ true)
-      → ((file : CallWord → Option (List ℕ)) (other : Refusal) → reading (file program) (if_spelled (go file)) (Err other) → IsOutput file command (Err other)) → IsSaid (Ok command) files (Err e)
-  refused_checked go e stage none more is =
-      said_refused command files (name ∷ []) e
-      (text_fits command named takes HasOneReading SpellsNone none.some.0 e none.some.1
-      (λ code at text one refused. is (λ _. Some text) (Coded code at) (spelled_none text (go (λ _. Some text)) _ code at one refused refl)))
-      stage
-      (subst (λ n. list_any files.may_be_missing (n ∷ []) ≡ true → list_any files.may_be_missing (names_in command) ≡ true) (sym same) more)
-      (λ told quiet. or_output files.file command (reading (files.file program) (if_spelled (go files.file))) (Err e) (is files.file e)
-      (checked_refused (files.file program) (go files.file) e (subst (λ n. NoneInFile HasOneReading SpellsNone (files.file n) e) same (none.tells told))
-      (no_read files.faults files.faults_now e stage.counts quiet)))
-
-  module _ (go : SourceProgram → Output → Type 0) (p : SourceProgram) (there : OfFile files.told (files.file name) (λ file. InFile file HasOneReading (λ text. Spells text p)))
-      (is : (file : CallWord → Option (List ℕ)) (output : Output) → reading (file program) (if_spelled go) output → IsOutput file command output) where
-    -- over some bytes, and over those that are told
-    checked_fits : (output : Output) → go p output → Fits command output
-    checked_fits output gone = inr ((λ _. there.some.0), is (λ _. there.some.0) output (checked_ok there.some.0 go output p there.some.1 gone))
-
-    checked_tells : (output : Output) → go p output → IsTrue files.told → IsOutput files.file command output
-    checked_tells output gone told =
-        is files.file output (checked_ok (files.file program) go output p (subst (λ n. InFile (files.file n) HasOneReading (λ text. Spells text p)) same (there.tells told)) gone)
-
-    pub said_checked : (said : Said) → files.faults_now ≡ files.faults → go p (Ok said) → IsSaid (Ok command) files (Ok said)
-    said_checked said counts gone = said_all command files said (checked_fits (Ok said) gone) counts (checked_tells (Ok said) gone)
-
-    -- work on the program refuses it
-    pub work_refused : {A : Type 0} (say : A → Said) (e : Refusal) → files.faults_now ≡ files.faults → Gives say (go p) (Err e) → IsSaid (Ok command) files (Err e)
-    work_refused say (Coded code at) counts gives = record {
-      fits = checked_fits (Err (Coded code at)) gives;
-      counts = counts;
-      closes = tt;
-      misses = tt;
-      tells = λ told quiet. inr (checked_tells (Err (Coded code at)) gives told);
-    }
-    work_refused say Read counts gives = absurd gives
-    work_refused say Write counts gives = absurd gives
-    work_refused say Memory counts gives = said_memory command files takes counts
-    work_refused say NoFile counts gives = absurd gives
-
--- ---- a command that takes a program as it is written
-
-module _ (command : Command) (named : 0 < length (names_in command)) (takes : takes_memory command ≡ true) (files : FilesSeen) (name program : CallWord) (same : name ≡ program)
-    (go : SourceProgram → Output → Type 0) (is : (file : CallWord → Option (List ℕ)) (output : Output) → reading (file program) (if_written go) output → IsOutput file command output) where
-  pub refused_written : (e : Refusal) → IsStage (name ∷ []) files (Some e) → OfFile files.told (files.file name) (λ file. NoneInFile HasOneReadingAsWritten IsRefusedText file e)
-      → (list_any files.may_be_missing (program ∷ []) ≡ true → list_any files.may_be_missing (names_in command) ≡ true) → IsSaid (Ok command) files (Err e)
-  refused_written e stage none more =
-      said_refused command files (name ∷ []) e
-      (text_fits command named takes HasOneReadingAsWritten IsRefusedText none.some.0 e none.some.1
-      (λ code at text one refused. is (λ _. Some text) (Err (Coded code at)) (written_none text go _ code at one refused refl)))
-      stage
-      (subst (λ n. list_any files.may_be_missing (n ∷ []) ≡ true → list_any files.may_be_missing (names_in command) ≡ true) (sym same) more)
-      (λ told quiet. or_output files.file command (reading (files.file program) (if_written go)) (Err e) (is files.file (Err e))
-      (written_refused (files.file program) go e (subst (λ n. NoneInFile HasOneReadingAsWritten IsRefusedText (files.file n) e) same (none.tells told))
-      (no_read files.faults files.faults_now e stage.counts quiet)))
-
-  pub said_written : (p : SourceProgram) (places : List ℕ) (said : Said) → files.faults_now ≡ files.faults
-      → OfFile files.told (files.file name) (λ file. InFile file HasOneReadingAsWritten (λ text. IsWrittenIn text p places)) → go p (Ok said) → IsSaid (Ok command) files (Ok said)
-  said_written p places said counts there gone =
-      said_all command files said
-      (inr ((λ _. there.some.0), is (λ _. there.some.0) (Ok said) (written_there there.some.0 go (Ok said) p places there.some.1 gone))) counts
-      (λ told. is files.file (Ok said) (written_there (files.file program) go (Ok said) p places
-      (subst (λ n. InFile (files.file n) HasOneReadingAsWritten (λ text. IsWrittenIn text p places)) same (there.tells told)) gone))
-
--- ---- a stage that comes after another
-
-pub stage_after : (name other : CallWord) (told : Bool) (file is : CallWord → Option (List ℕ)) (may might : CallWord → Bool) (faults before now : ℕ) (is_open : Bool) (r : Option Refusal)
-    → other ≡ name → might ≡ may → before ≡ faults
-    → IsStage (other ∷ []) (record { told = told; file = is; may_be_missing = might; faults = before; faults_now = now; open_now = is_open }) r
-    → IsStage (name ∷ []) (record { told = told; file = file; may_be_missing = may; faults = faults; faults_now = now; open_now = is_open }) r
-stage_after name other told file is may might faults before now is_open r same names_same faults_same stage = record {
-  counts = subst (λ n. CountsRead r n now) faults_same stage.counts;
-  closes = stage.closes;
-  misses = subst (λ n. MissesOneOf (n ∷ []) may r) same (subst (λ m. MissesOneOf (other ∷ []) m r) names_same stage.misses);
-}
-
--- ---- `sample` over a file of bits
-
-or_first : (a b : Bool) → (a || false) ≡ true → (a || (b || false)) ≡ true
+or_first : (a b : Bool) → (a || false) ≡ true → (a || b) ≡ true
 or_first true b e = refl
 or_first false b e = absurd (cc)
 
-or_second : (a b : Bool) → (b || false) ≡ true → (a || (b || false)) ≡ true
+pub or_second : (a b : Bool) → b ≡ true → (a || b) ≡ true
 or_second true b e = refl
 or_second false b e = e
 
-pub first_missing : (may : CallWord → Bool) (program bits : CallWord) → list_any may (program ∷ []) ≡ true → list_any may (program ∷ bits ∷ []) ≡ true
-first_missing may program bits e = or_first (may program) (may bits) e
+or_output : (file : CallWord → Option (List ℕ)) (command : Command) (Is : Output → Type 0) (output : Output) → (Is output → IsOutput file command output)
+    → OrMemory Is output → SaysOrRunsOut file command output
+or_output file command Is output is (inl memory) = inl memory
+or_output file command Is output is (inr h) = inr (is h)
 
-module _ (files : FilesSeen) (program bits : CallWord) (limits : Limits) (p : SourceProgram) (there : IsTrue files.told → InFile (files.file program) HasOneReading (λ text. Spells text p)) where
-  abbrev run_said : SourceProgram → Output → Type 0
-  run_said q = on_bits (files.file bits) (λ w. Answered (run_on q limits w))
+-- the text of its first file is refused
+module _ (command : Command) (takes : takes_memory command ≡ true) (files : FilesSeen) (name program : CallWord) (rest : List CallWord) (same : name ≡ program)
+    (names : names_in command ≡ program ∷ rest) (One : List ℕ → Type 0) (Refuses : List ℕ → ℕ → Option ℕ → Type 0) (go : (CallWord → Option (List ℕ)) → List ℕ → Output → Type 0)
+    (refused : (file : CallWord → Option (List ℕ)) (text : List ℕ) (code : ℕ) (at : Option ℕ) → One text → Refuses text code at → go file text (Err (Coded code at)))
+    (is : (file : CallWord → Option (List ℕ)) (output : Output) → reading (file program) (go file) output → IsOutput file command output) where
+  some_names : 0 < length (names_in command)
+  some_names = subst (λ l. 0 < length l) (sym names) (omega arith)
 
-  run_refused : (told : IsTrue files.told) (e : Refusal) → OrMemory (run_said p) (Err e) → SaysOrRunsOut files.file (Sample program (File bits) limits) (Err e)
-  run_refused told e (inl memory) = inl memory
-  run_refused told e (inr none) = inr (checked_ok (files.file program) run_said (Err e) p (there told) none)
+  among : list_any files.may_be_missing (name ∷ []) ≡ true → list_any files.may_be_missing (names_in command) ≡ true
+  among = subst (λ n. list_any files.may_be_missing (n ∷ []) ≡ true → list_any files.may_be_missing (names_in command) ≡ true) (sym same)
+      (subst (λ l. list_any files.may_be_missing (program ∷ []) ≡ true → list_any files.may_be_missing l ≡ true) (sym names)
+      (or_first (files.may_be_missing program) (list_any files.may_be_missing rest)))
 
-  pub sample_refused : (e : Refusal) → OfOutside e → IsStage (bits ∷ []) files (Some e) → (IsTrue files.told → GivesOnBits (run_on p limits) (files.file bits) (Err e))
-      → IsSaid (Ok (Sample program (File bits) limits)) files (Err e)
-  sample_refused e of stage answers =
-      said_refused (Sample program (File bits) limits) files (bits ∷ []) e (outside_fits (Sample program (File bits) limits) (omega arith) refl e of) stage (or_second (files.may_be_missing program) (files.may_be_missing bits))
-      (λ told quiet. run_refused told e (bits_refused (files.file bits) (run_on p limits) (λ w. Answered (run_on p limits w)) e (answers told) (no_read files.faults files.faults_now e stage.counts quiet)))
+  pub refused_text : (e : Refusal) → IsStage (name ∷ []) files (Some e) → OfFile files.told (files.file name) (λ file. NoneInFile One Refuses file e) → IsSaid (Ok command) files (Err e)
+  refused_text e stage none =
+      said_refused command files (name ∷ []) e
+      (text_fits command some_names takes One Refuses none.some.0 e none.some.1 (λ code at text one h. is (λ _. Some text) (Err (Coded code at)) (refused (λ _. Some text) text code at one h)))
+      stage among
+      (λ told quiet. or_output files.file command (reading (files.file program) (go files.file)) (Err e) (is files.file (Err e))
+      (text_refused (files.file program) One Refuses (go files.file) (refused files.file) e (subst (λ n. NoneInFile One Refuses (files.file n) e) same (none.tells told))
+      (no_read files.faults files.faults_now e stage.counts quiet)))
 
-  pub sample_answered : (answer : Answer) → files.faults_now ≡ files.faults → (IsTrue files.told → GivesOnBits (run_on p limits) (files.file bits) (Ok answer))
-      → IsSaid (Ok (Sample program (File bits) limits)) files (Ok (Answered answer))
-  sample_answered answer counts answers =
-      said_all (Sample program (File bits) limits) files (Answered answer) (inl tt) counts
-      (λ told. checked_ok (files.file program) run_said (Ok (Answered answer)) p (there told) (bits_given (files.file bits) (run_on p limits) Answered answer (answers told)))
+-- ---- a command that takes a program as it is written
+
+module _ (files : FilesSeen) (name program : CallWord) (same : name ≡ program) where
+  abbrev shown : SourceProgram → Output → Type 0
+  shown p = says (Shown (canonical_text p))
+
+  pub refused_written : (e : Refusal) → IsStage (name ∷ []) files (Some e) → OfFile files.told (files.file name) (λ file. NoneInFile HasOneReadingAsWritten IsRefusedText file e)
+      → IsSaid (Ok (Show program)) files (Err e)
+  refused_written = refused_text (Show program) refl files name program [] same refl HasOneReadingAsWritten IsRefusedText (λ file. if_written shown)
+      (λ file text code at one none. written_none text shown _ code at one none refl) (λ file output is. is)
+
+  pub said_written : (p : SourceProgram) (places : List ℕ) (said : Said) → files.faults_now ≡ files.faults
+      → OfFile files.told (files.file name) (λ file. InFile file HasOneReadingAsWritten (λ text. IsWrittenIn text p places)) → shown p (Ok said) → IsSaid (Ok (Show program)) files (Ok said)
+  said_written p places said counts there gone =
+      said_all (Show program) files said (inr ((λ _. there.some.0), written_there there.some.0 shown (Ok said) p places there.some.1 gone)) counts
+      (λ told. written_there (files.file program) shown (Ok said) p places
+      (subst (λ n. InFile (files.file n) HasOneReadingAsWritten (λ text. IsWrittenIn text p places)) same (there.tells told)) gone)

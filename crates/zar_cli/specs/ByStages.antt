@@ -1,5 +1,5 @@
--- What is said in stages over the bytes of files: the program's file, its text, the other files, the work. The first stage that is
--- refused ends it. The order of the stages is this project's own rule.
+-- What is said in stages over the bytes of files: the program's file, its text, the other files, the work. The first stage that
+-- is refused ends it. The order of the stages is this project's own rule.
 use Rattle.std.specs.Prelude.{◌≡◌, ℕ, Bool, List, Option, Some, None, Result, Ok, Err, ◌⊎◌}
 use Rattle.gcl_core.specs.meaning.Syntax.{SourceProgram}
 use Rattle.gcl_core.specs.text.Texts.{IsWrittenIn, IsRefusedText, Spells, SpellsNone}
@@ -27,8 +27,10 @@ abbrev pub on_bits : Option (List ℕ) → (List Bool → Said) → Output → T
 on_bits file say = reading file (λ bytes. says (say (file_bits bytes)))
 
 -- on with the program that a text has; where the text is refused instead, that is said, with the code and the place
-pub record HasOrRefuses (Has : SourceProgram → Type 0) (Refuses : ℕ → Option ℕ → Type 0) (go : SourceProgram → Output → Type 0) (output : Output) : Type 0 where
-  pub right : ((p : SourceProgram) × Has p × go p output) ⊎ ((code : ℕ) × (at : Option ℕ) × Refuses code at × (output ≡ Err (Coded code at)))
+pub record HasOrRefuses (Has : SourceProgram → Type 0) (Refuses : ℕ → Option ℕ → Type 0) (go : SourceProgram → Output → Type 0)
+    (output : Output) : Type 0 where
+  pub right : ((p : SourceProgram) × Has p × go p output)
+      ⊎ ((code : ℕ) × (at : Option ℕ) × Refuses code at × (output ≡ Err (Coded code at)))
   pub program : (p : SourceProgram) → Has p → go p output
   pub refusal : (code : ℕ) (at : Option ℕ) → Refuses code at → output ≡ Err (Coded code at)
 

@@ -13,9 +13,9 @@ abbrev pub NamesMissing : Result Command ℕ → (CallWord → Bool) → Type 0
 NamesMissing (Ok command) may_be_missing = IsTrue (list_any may_be_missing (names_in command))
 NamesMissing (Err at) may_be_missing = ⊥
 
--- The statuses have their causes. A write fault comes exactly where a write failed; else a read fault exactly where a read failed; else
--- the refusal of words exactly where they are no command. A file is missing only where one that the words name may be. After a failed
--- read, and where a file is missing, none is open.
+-- The statuses have their causes. A write fault comes exactly where a write failed; else a read fault exactly where a read
+-- failed; else the refusal of words exactly where they are no command. A file is missing only where one that the words name may
+-- be. After a failed read, and where a file is missing, none is open.
 pub record HasCause (words : List CallWord) (status : ℕ) (files : FilesSeen) (out err : SinkSeen) : Type 0 where
   pub write_fault : status ≡ WRITE_FAULT → CountsFault out.faults out.faults_now ⊎ CountsFault err.faults err.faults_now
   pub failed_write : (out.faults < out.faults_now) ⊎ (err.faults < err.faults_now) → status ≡ WRITE_FAULT

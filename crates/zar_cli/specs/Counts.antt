@@ -1,4 +1,5 @@
--- What is said of all strings of one length, and of the streams of a range: exactly the rows of the definitions, by the runs of the program.
+-- What is said of all strings of one length, and of the streams of a range: exactly the rows of the definitions, by the runs of
+-- the program.
 use Rattle.std.specs.Prelude.{◌≡◌, ℕ, ◌++◌, List, length, Result, Ok}
 use Rattle.gcl_core.specs.declared.answers.Limits.{Limits}
 use Rattle.gcl_core.specs.text.Canonical.{canonical_text}
@@ -40,7 +41,8 @@ pub record IsTallyText (p : SourceProgram) (range : SeedRange) (limits : Limits)
 
 -- how large a program is, and how many streams it is tallied over
 abbrev pub size_text : SourceProgram → List ℕ
-size_text p = number_text Statements (count_all p.body) ++ number_text Bytes (length (canonical_text p)) ++ number_text Streams GENERATED_STREAMS
+size_text p = number_text Statements (count_all p.body) ++ number_text Bytes (length (canonical_text p))
+    ++ number_text Streams GENERATED_STREAMS
 
 -- the first streams of the seed k
 abbrev pub generated_range : ℕ → SeedRange

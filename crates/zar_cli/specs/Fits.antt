@@ -3,8 +3,9 @@ use Rattle.std.specs.Prelude.{ℕ, ◌<◌, IsTrue, List, length, Option, Some, 
 use Rattle.report_text.specs.declared.refusals.Refusal.TheVariants.{Read, Memory, NoFile}
 use Rattle.zar_cli.specs.declared.said.Said.TheVariants.{Answered, Rolled}
 use Rattle.zar_cli.specs.declared.command.Command.{Command}
-use Rattle.zar_cli.specs.declared.command.Command.TheVariants.{Sample, Fast}
+use Rattle.zar_cli.specs.declared.command.Command.TheVariants.{Checked, Fast}
 use Rattle.zar_cli.specs.declared.command.Source.TheVariants.{File}
+use Rattle.zar_cli.specs.declared.command.Work.TheVariants.{Sample}
 use Rattle.zar_cli.specs.ByStages.{Output}
 use Rattle.zar_cli.specs.Forms.{CallWord}
 use Rattle.zar_cli.specs.Needs.{names_in, takes_memory}
@@ -15,7 +16,7 @@ abbrev pub MaySay : Command → Output → Type 0
 MaySay command (Err Read) = 0 < length (names_in command)
 MaySay command (Err NoFile) = 0 < length (names_in command)
 MaySay command (Err Memory) = IsTrue (takes_memory command)
-MaySay (Sample program (File bits) limits) (Ok (Answered answer)) = Unit {0}
+MaySay (Checked program (Sample (File bits) limits)) (Ok (Answered answer)) = Unit {0}
 MaySay (Fast labels flips (Some (File bits))) (Ok (Rolled roll)) = Unit {0}
 MaySay _ _ = ⊥
 

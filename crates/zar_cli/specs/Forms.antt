@@ -1,14 +1,14 @@
 -- The forms of the words of a call: the name of a file, a number, and a key of a tally.
-use Rattle.std.specs.Prelude.{ℕ, ◌-◌, ◌^◌, nat_le, Bool, true, false, ◌&&◌, ◌==◌, ℤ, pos, neg_ℤ, List, [], ◌∷◌, length, codes, Option, Some, None, option_map, if◌then◌else◌}
+use Rattle.std.specs.Prelude.{ℕ, ◌-◌, ◌^◌, nat_le, Bool, true, false, ◌&&◌, ◌==◌, ℤ, pos, neg_ℤ, List, [], ◌∷◌, length, map, Option, Some, None, option_map, if◌then◌else◌}
 use Rattle.std.specs.List.{list_all}
-use Rattle.std.specs.Str.{bytes_eq}
+use Rattle.std.specs.Option.{option_or}
 use Rattle.std.specs.Str.Parse.{digits_value}
+use Rattle.gcl_core.specs.text.Names.{value_named}
 use Rattle.gcl_core.specs.text.Pieces.{is_digit}
-use Rattle.gcl_core.specs.declared.answers.Fault.TheVariants as fault
-use Rattle.gcl_core.specs.declared.answers.Limit.TheVariants as limit
 use Rattle.gcl_core.specs.declared.answers.Outcome.TheVariants as outcome
 use Rattle.gcl_core.specs.declared.answers.TallyKey.{TallyKey}
 use Rattle.gcl_core.specs.declared.answers.TallyKey.TheVariants as key
+use Rattle.zar_cli.specs.declared.keys.TheConstants.{WANTS}
 use Rattle.zar_cli.specs.declared.settings.TheConstants.{MOST_DIGITS}
 
 abbrev pub CallWord : Type 0
@@ -22,25 +22,20 @@ is_name (b ∷ bs) = true
 -- a number is 1 to `MOST_DIGITS` digits, leading zeros allowed, with a value in its range
 abbrev pub number_in : ℕ → ℕ → CallWord → Option ℕ
 number_in least most word =
-    if nat_le 1 (length word) && nat_le (length word) MOST_DIGITS && list_all is_digit word && nat_le least (digits_value 10 word) && nat_le (digits_value 10 word) most
+    if nat_le 1 (length word) && nat_le (length word) MOST_DIGITS && list_all is_digit word && nat_le least (digits_value 10 word)
+    && nat_le (digits_value 10 word) most
     then Some (digits_value 10 word) else None
 
 -- a value is a number with an optional minus sign, the code 45, before it, and has 64 bits
 abbrev pub value_in : CallWord → Option ℤ
 value_in [] = None
-value_in (b ∷ bs) = if b == 45 then option_map (λ n. neg_ℤ (pos n)) (number_in 0 (2 ^ 63) bs) else option_map pos (number_in 0 (2 ^ 63 - 1) (b ∷ bs))
+value_in (b ∷ bs) = if b == 45 then option_map (λ n. neg_ℤ (pos n)) (number_in 0 (2 ^ 63) bs)
+    else option_map pos (number_in 0 (2 ^ 63 - 1) (b ∷ bs))
 
--- to end in a value
-abbrev pub value_key : CallWord → Option TallyKey
-value_key word = option_map (λ v. key.Outcome (outcome.Value v)) (value_in word)
+-- the way to end that has this word
+unfoldable pub want_named : CallWord → Option TallyKey
+want_named word = value_named (map (λ want. (want.0.now, want.1)) WANTS) word
 
 -- to end in a fault, at a limit or where the bits run out, by a word, and else in a value
 abbrev pub key_named : CallWord → Option TallyKey
-key_named word =
-    if bytes_eq word (codes "overflow") then Some (key.Outcome (outcome.Fault fault.Overflow))
-    else (if bytes_eq word (codes "zero-divisor") then Some (key.Outcome (outcome.Fault fault.ZeroDivisor))
-    else (if bytes_eq word (codes "bad-bound") then Some (key.Outcome (outcome.Fault fault.BadBound))
-    else (if bytes_eq word (codes "turns") then Some (key.Outcome (outcome.Limit limit.Turns))
-    else (if bytes_eq word (codes "attempts") then Some (key.Outcome (outcome.Limit limit.Attempts))
-    else (if bytes_eq word (codes "rounds") then Some (key.Outcome (outcome.Limit limit.Rounds))
-    else (if bytes_eq word (codes "more-bits") then Some key.MoreBits else value_key word))))))
+key_named word = option_or (want_named word) (option_map (λ v. key.Outcome (outcome.Value v)) (value_in word))

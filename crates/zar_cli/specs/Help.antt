@@ -1,6 +1,6 @@
 -- What `help` and `--version` print: pages of words and numbers, which are constants of the code.
 use Rattle.std.specs.Prelude.{ℕ, List, ◌++◌, flat_map, Option, Some, None, decimal}
-use Rattle.zar_cli.specs.declared.help.TheConstants.{VERSION, COMMANDS, SAMPLE, MASS, COST, POSTERIOR, AUDIT, TALLY, HUNT, CHECK, SHOW, CODE, GEN, FAST}
+use Rattle.zar_cli.specs.declared.help.TheConstants.{VERSION, COMMANDS, SAMPLE, MASS, COST, POSTERIOR, AUDIT, TALLY, RUNS, HUNT, CHECK, SHOW, CODE, GEN, FAST}
 use Rattle.zar_cli.specs.declared.help.Topic.{Topic}
 use Rattle.zar_cli.specs.declared.help.Topic.TheVariants.{Everything, One, Version}
 use Rattle.zar_cli.specs.declared.settings.Verb.TheVariants as verb
@@ -25,6 +25,7 @@ page_of (One verb.Cost) = COST
 page_of (One verb.Posterior) = POSTERIOR
 page_of (One verb.Audit) = AUDIT
 page_of (One verb.Tally) = TALLY
+page_of (One verb.Runs) = RUNS
 page_of (One verb.Hunt) = HUNT
 page_of (One verb.Check) = CHECK
 page_of (One verb.Show) = SHOW

@@ -1,4 +1,5 @@
--- What is said of a hunt: the least stream of the range on whose bits the run of the program ends in the wanted way, or that there is none.
+-- What is said of a hunt: the least stream of the range on whose bits the run of the program ends in the wanted way, or that
+-- there is none.
 use Rattle.std.specs.Prelude.{◌≡◌, ℕ, Option, Result, Ok}
 use Rattle.gcl_core.specs.declared.answers.Limits.{Limits}
 use Rattle.gcl_core.specs.declared.answers.TallyKey.{TallyKey}

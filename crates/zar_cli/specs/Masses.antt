@@ -14,10 +14,13 @@ use Rattle.zar_cli.specs.declared.said.Said.TheVariants.{Shown}
 use Rattle.zar_cli.specs.Narrow.{IsNarrow}
 use Rattle.zar_cli.specs.Tables.{masses_text}
 
--- The rows are exact, and no fraction is wider than 128 bits. Without a limit of rounds there are none where every round fails. A refusal comes only by its cause.
+-- The rows are exact, and no fraction is wider than 128 bits. Without a limit of rounds there are none where every round fails. A
+-- refusal comes only by its cause.
 pub data SaysMasses (p : SourceProgram) (turns : ℕ) (attempts rounds : Option ℕ) : Result Said Refusal → Type 0 where
-  exact : (rows : Rows) → AreMasses (mass_of p turns attempts rounds) rows → IfNone rounds (IsBelowOne (failed_mass p turns attempts))
+  exact : (rows : Rows) → AreMasses (mass_of p turns attempts rounds) rows
+      → IfNone rounds (IsBelowOne (failed_mass p turns attempts))
       → All (λ row. IsNarrow row.1) rows → SaysMasses p turns attempts rounds (Ok (Shown (masses_text rows)))
   too_wide : MassRefused TooWide p turns attempts rounds → SaysMasses p turns attempts rounds (Err (Coded TOO_WIDE None))
-  too_many_states : MassRefused TooManyStates p turns attempts rounds → SaysMasses p turns attempts rounds (Err (Coded TOO_MANY_STATES None))
+  too_many_states : MassRefused TooManyStates p turns attempts rounds
+      → SaysMasses p turns attempts rounds (Err (Coded TOO_MANY_STATES None))
   all_failed : MassRefused AllFailed p turns attempts rounds → SaysMasses p turns attempts rounds (Err (Coded ALL_FAILED None))

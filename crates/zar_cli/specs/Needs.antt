@@ -1,26 +1,28 @@
 -- What a command needs: the files that it names, and memory.
 use Rattle.std.specs.Prelude.{Bool, true, false, List, [], ◌∷◌, Some, None}
 use Rattle.zar_cli.specs.declared.command.Command.{Command}
-use Rattle.zar_cli.specs.declared.command.Command.TheVariants.{Sample, Mass, Cost, Posterior, Audit, Tally, Hunt, Check, Show, Code, Gen, Fast, Help}
+use Rattle.zar_cli.specs.declared.command.Command.TheVariants.{Checked, Show, Gen, Fast, Help}
+use Rattle.zar_cli.specs.declared.command.Source.{Source}
 use Rattle.zar_cli.specs.declared.command.Source.TheVariants.{File, Stream}
+use Rattle.zar_cli.specs.declared.command.Work.{Work}
+use Rattle.zar_cli.specs.declared.command.Work.TheVariants.{Sample}
 use Rattle.zar_cli.specs.Forms.{CallWord}
+
+abbrev pub names_of_bits : Source → List CallWord
+names_of_bits (File bits) = bits ∷ []
+names_of_bits (Stream seed stream budget) = []
+
+-- those of the files that work reads, beside its program's
+abbrev pub names_in_work : Work → List CallWord
+names_in_work (Sample source limits) = names_of_bits source
+names_in_work _ = []
 
 -- the names of the files that a command reads, in their order
 abbrev pub names_in : Command → List CallWord
-names_in (Sample program (File bits) limits) = program ∷ bits ∷ []
-names_in (Sample program (Stream seed stream budget) limits) = program ∷ []
-names_in (Mass program turns attempts rounds) = program ∷ []
-names_in (Cost program limits) = program ∷ []
-names_in (Posterior program turns) = program ∷ []
-names_in (Audit program depth limits) = program ∷ []
-names_in (Tally program range limits) = program ∷ []
-names_in (Hunt program range limits want) = program ∷ []
-names_in (Check program) = program ∷ []
+names_in (Checked program work) = program ∷ names_in_work work
 names_in (Show program) = program ∷ []
-names_in (Code program) = program ∷ []
 names_in (Gen k) = []
-names_in (Fast labels flips (Some (File bits))) = bits ∷ []
-names_in (Fast labels flips (Some (Stream seed stream budget))) = []
+names_in (Fast labels flips (Some source)) = names_of_bits source
 names_in (Fast labels flips None) = []
 names_in (Help topic) = []
 

@@ -1,191 +1,128 @@
 -- The options among the words of a call: pairs of an option and its value, in any order, each option once.
-use Rattle.std.specs.Prelude.{ℕ, ◌+◌, ◌-◌, ◌^◌, nat_le, Bool, true, false, not, ◌&&◌, ◌||◌, List, [], ◌∷◌, codes, Option, Some, None, is_some, option_map, unwrap_or, Result, Ok, Err, if◌then◌else◌}
+use Rattle.std.specs.Prelude.{ℕ, ◌+◌, ◌-◌, nat_le, Bool, false, ◌&&◌, ◌||◌, List, [], ◌∷◌, ◌++◌, Option, Some, None, is_some, unwrap_or, if◌then◌else◌}
+use Rattle.std.specs.Option.{option_or, option_and_then}
 use Rattle.std.specs.Str.{bytes_eq}
-use Rattle.dice_roll.specs.declared.rules.TheConstants.{MOST_FLIPS}
+use Rattle.gcl_core.specs.text.Names.{value_named}
 use Rattle.gcl_core.specs.declared.answers.Limits.{Limits}
 use Rattle.gcl_core.specs.declared.answers.TallyKey.{TallyKey}
-use Rattle.gcl_core.specs.declared.rules.TheConstants.{MOST_LIMIT}
+use Rattle.gcl_core.specs.declared.answers.TallyKey.TheVariants as key
 use Rattle.stream_runs.specs.declared.range.SeedRange.{SeedRange}
+use Rattle.stream_runs.specs.declared.range.TheConstants.{MOST_STREAMS}
 use Rattle.zar_cli.specs.declared.command.Source.{Source}
 use Rattle.zar_cli.specs.declared.command.Source.TheVariants as source
-use Rattle.zar_cli.specs.declared.settings.Purpose.{Purpose}
-use Rattle.zar_cli.specs.declared.settings.Purpose.TheVariants as purpose
-use Rattle.zar_cli.specs.declared.settings.Setting.{Setting}
-use Rattle.zar_cli.specs.declared.settings.Setting.TheVariants.{Bits, Seed, Stream, Budget, From, To, Workers, Depth, Flips, Turns, Attempts, Rounds, Want}
-use Rattle.zar_io.specs.declared.stream_bits.TheConstants.{MOST_BUDGET}
-use Rattle.audit_walk.specs.declared.auditing.TheConstants.{MOST_DEPTH}
-use Rattle.stream_runs.specs.declared.range.TheConstants.{MOST_STREAMS, MOST_WORKERS}
-use Rattle.zar_cli.specs.declared.settings.TheConstants.{USUAL_LIMIT, USUAL_BUDGET, USUAL_WORKERS}
-use Rattle.zar_cli.specs.declared.settings.Verb.{Verb}
-use Rattle.zar_cli.specs.declared.settings.Verb.TheVariants as verb
+use Rattle.zar_cli.specs.declared.settings.Form.{Form}
+use Rattle.zar_cli.specs.declared.settings.Form.TheVariants as form
+use Rattle.zar_cli.specs.declared.settings.TheConstants.{BITS, SEED, STREAM, BUDGET, FROM, TO, WORKERS, TURNS, ATTEMPTS, ROUNDS, WANT, USUAL_LIMIT, USUAL_BUDGET, USUAL_WORKERS}
 use Rattle.zar_cli.specs.Forms.{CallWord, is_name, number_in, key_named}
 
-abbrev pub setting_named : CallWord → Option Setting
-setting_named word =
-    if bytes_eq word (codes "--bits") then Some Bits
-    else (if bytes_eq word (codes "--seed") then Some Seed
-    else (if bytes_eq word (codes "--stream") then Some Stream
-    else (if bytes_eq word (codes "--budget") then Some Budget
-    else (if bytes_eq word (codes "--from") then Some From
-    else (if bytes_eq word (codes "--to") then Some To
-    else (if bytes_eq word (codes "--workers") then Some Workers
-    else (if bytes_eq word (codes "--depth") then Some Depth
-    else (if bytes_eq word (codes "--flips") then Some Flips
-    else (if bytes_eq word (codes "--turns") then Some Turns
-    else (if bytes_eq word (codes "--attempts") then Some Attempts
-    else (if bytes_eq word (codes "--rounds") then Some Rounds
-    else (if bytes_eq word (codes "--want") then Some Want else None))))))))))))
+-- an option: its word, and the form of its value
+abbrev pub Setting : Type 0
+Setting = CallWord × Form
 
--- what an option is for
-abbrev pub purpose_of : Setting → Purpose
-purpose_of Bits = purpose.OneRun
-purpose_of Seed = purpose.Streams
-purpose_of Stream = purpose.OneRun
-purpose_of Budget = purpose.Streams
-purpose_of From = purpose.Range
-purpose_of To = purpose.Range
-purpose_of Workers = purpose.Range
-purpose_of Depth = purpose.Depth
-purpose_of Flips = purpose.Flips
-purpose_of Turns = purpose.Turns
-purpose_of Attempts = purpose.Tries
-purpose_of Rounds = purpose.Tries
-purpose_of Want = purpose.Want
+-- an option as the code has it
+abbrev pub of_code : record { now : List ℕ } × Form → Setting
+of_code s = (s.0.now, s.1)
 
--- the command takes the options for this purpose
-abbrev pub takes : Verb → Purpose → Bool
-takes verb.Sample purpose.OneRun = true
-takes verb.Sample purpose.Streams = true
-takes verb.Sample purpose.Turns = true
-takes verb.Sample purpose.Tries = true
-takes verb.Mass purpose.Turns = true
-takes verb.Mass purpose.Tries = true
-takes verb.Cost purpose.Turns = true
-takes verb.Cost purpose.Tries = true
-takes verb.Posterior purpose.Turns = true
-takes verb.Audit purpose.Depth = true
-takes verb.Audit purpose.Turns = true
-takes verb.Audit purpose.Tries = true
-takes verb.Tally purpose.Streams = true
-takes verb.Tally purpose.Range = true
-takes verb.Tally purpose.Turns = true
-takes verb.Tally purpose.Tries = true
-takes verb.Hunt purpose.Streams = true
-takes verb.Hunt purpose.Range = true
-takes verb.Hunt purpose.Turns = true
-takes verb.Hunt purpose.Tries = true
-takes verb.Hunt purpose.Want = true
-takes verb.Fast purpose.OneRun = true
-takes verb.Fast purpose.Streams = true
-takes verb.Fast purpose.Flips = true
-takes v p = false
-
-abbrev pub allows : Verb → Setting → Bool
-allows v setting = takes v (purpose_of setting)
-
--- what the options said so far
-pub record Options : Type 0 where
-  pub bits : Option CallWord
-  pub seed : Option ℕ
-  pub stream : Option ℕ
-  pub budget : Option ℕ
-  pub from : Option ℕ
-  pub to : Option ℕ
-  pub workers : Option ℕ
-  pub depth : Option ℕ
-  pub flips : Option ℕ
-  pub turns : Option ℕ
-  pub attempts : Option ℕ
-  pub rounds : Option ℕ
-  pub want : Option TallyKey
-
-abbrev pub no_options : Options
-no_options = record { bits = None; seed = None; stream = None; budget = None; from = None; to = None; workers = None; depth = None; flips = None; turns = None; attempts = None; rounds = None; want = None }
-
-abbrev pub is_given : Setting → Options → Bool
-is_given Bits o = is_some o.bits
-is_given Seed o = is_some o.seed
-is_given Stream o = is_some o.stream
-is_given Budget o = is_some o.budget
-is_given From o = is_some o.from
-is_given To o = is_some o.to
-is_given Workers o = is_some o.workers
-is_given Depth o = is_some o.depth
-is_given Flips o = is_some o.flips
-is_given Turns o = is_some o.turns
-is_given Attempts o = is_some o.attempts
-is_given Rounds o = is_some o.rounds
-is_given Want o = is_some o.want
+-- a word is of this form
+abbrev pub fits : Form → CallWord → Bool
+fits form.Name word = is_name word
+fits (form.Number least most) word = is_some (number_in least most word)
+fits form.Wanted word = is_some (key_named word)
 
 -- bits of a file and bits of a stream exclude each other
-abbrev pub excludes : Setting → Options → Bool
-excludes Bits o = is_some o.seed || is_some o.stream || is_some o.budget
-excludes Seed o = is_some o.bits
-excludes Stream o = is_some o.bits
-excludes Budget o = is_some o.bits
-excludes setting o = false
+abbrev pub excludes : CallWord → CallWord → Bool
+excludes a b = bytes_eq BITS.0.now a && (bytes_eq SEED.0.now b || bytes_eq STREAM.0.now b || bytes_eq BUDGET.0.now b)
 
--- the option that a word is, if the command takes it, it was not given before, and none before excludes it
-abbrev pub if_taken : Verb → Option Setting → Options → Option Setting
-if_taken v None o = None
-if_taken v (Some setting) o = if not (allows v setting) || is_given setting o || excludes setting o then None else Some setting
+-- the option was given before, or one that was excludes it
+abbrev pub is_barred : CallWord → List CallWord → Bool
+is_barred name [] = false
+is_barred name (other ∷ []) = false
+is_barred name (other ∷ value ∷ before) =
+    bytes_eq other name || excludes other name || excludes name other || is_barred name before
 
--- the options with this value, if it is of the option's form
-abbrev pub with_value : Setting → CallWord → Options → Option Options
-with_value Bits value o = if is_name value then Some (record o { bits = Some value }) else None
-with_value Seed value o = option_map (λ n. record o { seed = Some n }) (number_in 0 (2 ^ 64 - 1) value)
-with_value Stream value o = option_map (λ n. record o { stream = Some n }) (number_in 0 (2 ^ 64 - 1) value)
-with_value Budget value o = option_map (λ n. record o { budget = Some n }) (number_in 0 MOST_BUDGET value)
-with_value From value o = option_map (λ n. record o { from = Some n }) (number_in 0 (2 ^ 64 - 1) value)
-with_value To value o = option_map (λ n. record o { to = Some n }) (number_in 0 (2 ^ 64 - 1) value)
-with_value Workers value o = option_map (λ n. record o { workers = Some n }) (number_in 1 MOST_WORKERS value)
-with_value Depth value o = option_map (λ n. record o { depth = Some n }) (number_in 0 MOST_DEPTH value)
-with_value Flips value o = option_map (λ n. record o { flips = Some n }) (number_in 0 MOST_FLIPS value)
-with_value Turns value o = option_map (λ n. record o { turns = Some n }) (number_in 0 MOST_LIMIT value)
-with_value Attempts value o = option_map (λ n. record o { attempts = Some n }) (number_in 1 MOST_LIMIT value)
-with_value Rounds value o = option_map (λ n. record o { rounds = Some n }) (number_in 1 MOST_LIMIT value)
-with_value Want value o = option_map (λ key. record o { want = Some key }) (key_named value)
+-- the form of the value behind an option, if it is one of these and not barred
+abbrev pub form_behind : List Setting → List CallWord → CallWord → Option Form
+form_behind takes before name = if is_barred name before then None else value_named takes name
 
--- the options with those of a pair, or which of its two words is wrong
-abbrev pub or_bad_value : Option Options → Result Options ℕ
-or_bad_value (Some o) = Ok o
-or_bad_value None = Err 1
+-- the wrong word of a pair at place i, by the form of its value
+abbrev pub wrong_in_pair : Option Form → ℕ → CallWord → Option ℕ
+wrong_in_pair None i value = Some i
+wrong_in_pair (Some form) i value = if fits form value then None else Some (i + 1)
 
-abbrev pub or_bad_name : Option Setting → CallWord → Options → Result Options ℕ
-or_bad_name None value o = Err 0
-or_bad_name (Some setting) value o = or_bad_value (with_value setting value o)
+-- the first wrong word of those from place i on, behind the pairs before them
+abbrev pub wrong_option : List Setting → ℕ → List CallWord → List CallWord → Option ℕ
+wrong_option takes i before [] = None
+wrong_option takes i before (name ∷ []) = Some (if is_some (form_behind takes before name) then i + 1 else i)
+wrong_option takes i before (name ∷ value ∷ rest) =
+    option_or (wrong_in_pair (form_behind takes before name) i value)
+    (wrong_option takes (i + 2) (before ++ name ∷ value ∷ []) rest)
 
-abbrev pub with_pair : Verb → CallWord → CallWord → Options → Result Options ℕ
-with_pair v name value o = or_bad_name (if_taken v (setting_named name) o) value o
+-- ---- what the options give, where none is wrong
 
--- the options that the words from place i on give, where these were given before, or the place of the first wrong word
-abbrev pub options_from : Verb → ℕ → Options → List CallWord → Result Options ℕ
-options_from v i o [] = Ok o
-options_from v i o (name ∷ []) = Err (if is_some (if_taken v (setting_named name) o) then i + 1 else i)
-options_from v i o (name ∷ value ∷ rest) = elim (with_pair v name value o) [ Ok more ↦ options_from v (i + 2) more rest | Err k ↦ Err (i + k) ]
+-- the words of the options
+abbrev pub Options : Type 0
+Options = List CallWord
 
--- ---- what the options give
+abbrev pub no_options : Options
+no_options = []
+
+abbrev pub value_of : CallWord → Options → Option CallWord
+value_of word [] = None
+value_of word (name ∷ []) = None
+value_of word (name ∷ value ∷ o) = if bytes_eq word name then Some value else value_of word o
+
+abbrev pub is_given : Setting → Options → Bool
+is_given s o = is_some (value_of s.0 o)
+
+abbrev pub number_of : Form → CallWord → Option ℕ
+number_of form.Name word = None
+number_of (form.Number least most) word = number_in least most word
+number_of form.Wanted word = None
+
+abbrev pub number_given : Setting → Options → Option ℕ
+number_given s o = option_and_then (number_of s.1) (value_of s.0 o)
+
+abbrev pub number_or : ℕ → Setting → Options → ℕ
+number_or usual s o = unwrap_or (number_given s o) usual
 
 -- the limits of a run, each the usual where it is not given
+abbrev pub limits_with : ℕ → Options → Limits
+limits_with turns o =
+    record {
+      turns = number_or turns (of_code TURNS) o;
+      attempts = number_or USUAL_LIMIT (of_code ATTEMPTS) o;
+      rounds = number_or USUAL_LIMIT (of_code ROUNDS) o;
+    }
+
 abbrev pub limits_of : Options → Limits
-limits_of o = record { turns = unwrap_or o.turns USUAL_LIMIT; attempts = unwrap_or o.attempts USUAL_LIMIT; rounds = unwrap_or o.rounds USUAL_LIMIT }
+limits_of o = limits_with USUAL_LIMIT o
 
--- where bits come from, if `--bits` or `--seed` says it
-abbrev pub source_from : Option CallWord → Option ℕ → ℕ → ℕ → Option Source
-source_from (Some bits) seed stream budget = Some (source.File bits)
-source_from None (Some seed) stream budget = Some (source.Stream seed stream budget)
-source_from None None stream budget = None
+-- where bits come from, where that is given
+abbrev pub has_source : Options → Bool
+has_source o = is_given (of_code BITS) o || is_given (of_code SEED) o
 
-abbrev pub source_of : Options → Option Source
-source_of o = source_from o.bits o.seed (unwrap_or o.stream 0) (unwrap_or o.budget USUAL_BUDGET)
+abbrev pub source_from : Option CallWord → Source → Source
+source_from (Some bits) stream = source.File bits
+source_from None stream = stream
 
--- the streams of a tally or a hunt, where the seed and both ends are given, and they are no more than can be
-abbrev pub range_from : Option ℕ → Option ℕ → Option ℕ → ℕ → ℕ → Option SeedRange
-range_from (Some seed) (Some from) (Some to) budget workers =
-    if nat_le from to && nat_le (to - from) MOST_STREAMS then Some (record { seed = seed; from = from; to = to; budget = budget; workers = workers }) else None
-range_from (Some seed) (Some from) None budget workers = None
-range_from (Some seed) None to budget workers = None
-range_from None from to budget workers = None
+abbrev pub source_of : Options → Source
+source_of o = source_from (value_of BITS.0.now o)
+    (source.Stream (number_or 0 (of_code SEED) o) (number_or 0 (of_code STREAM) o) (number_or USUAL_BUDGET (of_code BUDGET) o))
 
-abbrev pub range_of : Options → Option SeedRange
-range_of o = range_from o.seed o.from o.to (unwrap_or o.budget USUAL_BUDGET) (unwrap_or o.workers USUAL_WORKERS)
+-- the streams of a range
+abbrev pub range_of : Options → SeedRange
+range_of o = record {
+  seed = number_or 0 (of_code SEED) o;
+  from = number_or 0 (of_code FROM) o;
+  to = number_or 0 (of_code TO) o;
+  budget = number_or USUAL_BUDGET (of_code BUDGET) o;
+  workers = number_or USUAL_WORKERS (of_code WORKERS) o;
+}
+
+-- their order, and that they are no more than can be
+abbrev pub is_range : SeedRange → Bool
+is_range r = nat_le r.from r.to && nat_le (r.to - r.from) MOST_STREAMS
+
+-- the way to end that a hunt wants
+abbrev pub wanted : Options → TallyKey
+wanted o = unwrap_or (option_and_then key_named (value_of WANT.0.now o)) key.MoreBits

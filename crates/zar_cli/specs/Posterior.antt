@@ -1,5 +1,5 @@
--- What is said of the bounds of a program: those of each value and fault that has a mass, outcomes ascending, and of all others; or why they
--- are refused.
+-- What is said of the bounds of a program: those of each value and fault that has a mass, outcomes ascending, and of all others;
+-- or why they are refused.
 use Rattle.std.specs.Prelude.{◌≡◌, ℕ, ◌≤◌, All, None, Result, Ok, Err}
 use Rattle.frac128.specs.Fraction.{lowest}
 use Rattle.gcl_core.specs.declared.refusals.TheConstants.{TOO_WIDE, TOO_MANY_STATES, ALL_FAILED}
@@ -27,7 +27,8 @@ pub record AreExact (p : SourceProgram) (n : ℕ) (rows : Rows) (other : Fractio
 
 -- The rows are exact. There are none where every round fails. A refusal comes only by its cause.
 pub data SaysBounds (p : SourceProgram) (turns : ℕ) : Result Said Refusal → Type 0 where
-  exact : (rows : Rows) (other : Fraction) → AreExact p turns rows other → SaysBounds p turns (Ok (Shown (bounds_text rows other)))
+  exact : (rows : Rows) (other : Fraction) → AreExact p turns rows other
+      → SaysBounds p turns (Ok (Shown (bounds_text rows other)))
   too_wide : MassRefused TooWide p turns None None → SaysBounds p turns (Err (Coded TOO_WIDE None))
   too_many_states : MassRefused TooManyStates p turns None None → SaysBounds p turns (Err (Coded TOO_MANY_STATES None))
   all_failed : MassRefused AllFailed p turns None None → SaysBounds p turns (Err (Coded ALL_FAILED None))

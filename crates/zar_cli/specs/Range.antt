@@ -7,9 +7,11 @@ use Rattle.generated_program.specs.declared.generating.TheConstants.{GREATEST_NU
 use Rattle.mass_fold.specs.Refused.{IsLimit}
 use Rattle.stream_runs.specs.Ranges.{IsRange, IsWorkers}
 use Rattle.zar_cli.specs.declared.command.Command.{Command}
-use Rattle.zar_cli.specs.declared.command.Command.TheVariants.{Sample, Mass, Cost, Posterior, Audit, Tally, Hunt, Check, Show, Code, Gen, Fast, Help}
+use Rattle.zar_cli.specs.declared.command.Command.TheVariants.{Checked, Show, Gen, Fast, Help}
 use Rattle.zar_cli.specs.declared.command.Source.{Source}
 use Rattle.zar_cli.specs.declared.command.Source.TheVariants.{File, Stream}
+use Rattle.zar_cli.specs.declared.command.Work.{Work}
+use Rattle.zar_cli.specs.declared.command.Work.TheVariants.{Sample, Mass, Cost, Posterior, Audit, Tally, Runs, Hunt, Check, Code}
 use Rattle.zar_io.specs.declared.stream_bits.TheConstants.{MOST_BUDGET}
 use Rattle.audit_walk.specs.declared.auditing.TheConstants.{MOST_DEPTH}
 
@@ -17,17 +19,22 @@ abbrev pub SourceHasRange : Source → Type 0
 SourceHasRange (File name) = Unit {0}
 SourceHasRange (Stream seed stream budget) = budget ≤ MOST_BUDGET
 
+abbrev pub WorkHasRange : Work → Type 0
+WorkHasRange (Sample source limits) = InRange limits × SourceHasRange source
+WorkHasRange (Mass turns attempts rounds) = (turns ≤ MOST_LIMIT) × IfSome attempts IsLimit × IfSome rounds IsLimit
+WorkHasRange (Cost limits) = InRange limits
+WorkHasRange (Posterior turns) = turns ≤ MOST_LIMIT
+WorkHasRange (Audit depth limits) = (depth ≤ MOST_DEPTH) × InRange limits
+WorkHasRange (Tally range limits) = InRange limits × IsRange range × IsWorkers range.workers
+WorkHasRange (Runs range limits) = InRange limits × IsRange range × IsWorkers range.workers
+WorkHasRange (Hunt range limits want) = InRange limits × IsRange range × IsWorkers range.workers
+WorkHasRange Check = Unit {0}
+WorkHasRange Code = Unit {0}
+
 abbrev pub HasRange : Command → Type 0
-HasRange (Sample program source limits) = InRange limits × SourceHasRange source
-HasRange (Mass program turns attempts rounds) = (turns ≤ MOST_LIMIT) × IfSome attempts IsLimit × IfSome rounds IsLimit
-HasRange (Cost program limits) = InRange limits
-HasRange (Posterior program turns) = turns ≤ MOST_LIMIT
-HasRange (Audit program depth limits) = (depth ≤ MOST_DEPTH) × InRange limits
-HasRange (Tally program range limits) = InRange limits × IsRange range × IsWorkers range.workers
-HasRange (Hunt program range limits want) = InRange limits × IsRange range × IsWorkers range.workers
-HasRange (Check program) = Unit {0}
+HasRange (Checked program work) = WorkHasRange work
 HasRange (Show program) = Unit {0}
-HasRange (Code program) = Unit {0}
 HasRange (Gen k) = k ≤ GREATEST_NUMBER
-HasRange (Fast labels flips source) = (LEAST_LABELS ≤ labels) × (labels ≤ MOST_LABELS) × (flips ≤ MOST_FLIPS) × IfSome source SourceHasRange
+HasRange (Fast labels flips source) =
+    (LEAST_LABELS ≤ labels) × (labels ≤ MOST_LABELS) × (flips ≤ MOST_FLIPS) × IfSome source SourceHasRange
 HasRange (Help topic) = Unit {0}

@@ -2,8 +2,8 @@
 use Rattle.std.specs.Prelude.{◌≡◌, ℕ, ◌+◌, ◌^◌, ◌<◌, Bool, List, Option}
 use Rattle.zar_cli.specs.Forms.{CallWord}
 
--- files: whether they tell what they hold, the bytes of each name, the names that may be missing, the faults counted, and whether a
--- file is open after the call
+-- files: whether they tell what they hold, the bytes of each name, the names that may be missing, the faults counted, and whether
+-- a file is open after the call
 pub record FilesSeen : Type 0 where
   pub told : Bool
   pub file : CallWord → Option (List ℕ)
@@ -12,9 +12,17 @@ pub record FilesSeen : Type 0 where
   pub faults_now : ℕ
   pub open_now : Bool
 
-abbrev pub files_seen : {F : Type 0} → Bool → (F → CallWord → Option (List ℕ)) → (F → CallWord → Bool) → (F → ℕ) → (F → Bool) → F → F → FilesSeen
+abbrev pub files_seen : {F : Type 0} → Bool → (F → CallWord → Option (List ℕ)) → (F → CallWord → Bool) → (F → ℕ) → (F → Bool) → F
+    → F → FilesSeen
 files_seen told file may_be_missing faults is_open old new =
-    record { told = told; file = file old; may_be_missing = may_be_missing old; faults = faults old; faults_now = faults new; open_now = is_open new }
+    record {
+      told = told;
+      file = file old;
+      may_be_missing = may_be_missing old;
+      faults = faults old;
+      faults_now = faults new;
+      open_now = is_open new;
+    }
 
 -- a sink: whether it tells what was written, the faults counted, and the bytes written
 pub record SinkSeen : Type 0 where

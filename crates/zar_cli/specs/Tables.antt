@@ -30,7 +30,8 @@ abbrev pub audit_rows_text : ℕ → List (Outcome × ℕ) → List ℕ
 audit_rows_text depth rows = rows_text (λ row. mass_text row.0 (share_of depth row.1)) rows
 
 abbrev pub audit_text : ℕ → List (Outcome × ℕ) → ℕ → List ℕ
-audit_text depth rows undecided = audit_rows_text depth rows ++ (if undecided == 0 then [] else undecided_text (share_of depth undecided))
+audit_text depth rows undecided =
+    audit_rows_text depth rows ++ (if undecided == 0 then [] else undecided_text (share_of depth undecided))
 
 -- each key with how many streams have it
 abbrev pub tally_rows_text : List (TallyKey × ℕ) → List ℕ

@@ -3,3 +3,5 @@ pub mod Kept
 pub mod OptionsView
 pub mod Readings
 pub mod Stage
+pub mod Works
+pub mod AsWritten

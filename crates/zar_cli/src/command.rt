@@ -48,29 +48,38 @@ pub enum Source {
     Stream(u64, u64, u64),
 }
 
+/// What is worked out of a checked program.
+#[derive(Drop)]
+pub enum Work {
+    /// One run.
+    Sample(Source, Limits),
+    /// The mass of each outcome, with limits of turns, attempts and rounds.
+    Mass(u64, Option<u64>, Option<u64>),
+    /// How many bits a run reads on average.
+    Cost(Limits),
+    /// The bounds of each outcome for every greater limit of turns.
+    Posterior(u64),
+    /// The audit of its runs by all bit strings of one length.
+    Audit(u32, Limits),
+    /// The tally of its runs over the streams of a range.
+    Tally(SeedRange, Limits),
+    /// The answers of its runs on the streams of a range, a line each.
+    Runs(SeedRange, Limits),
+    /// The least stream of a range on which its run has this key.
+    Hunt(SeedRange, Limits, TallyKey),
+    /// How many statements and names it has.
+    Check,
+    /// The code that samples it.
+    Code,
+}
+
 /// A command, with the files that it reads and its numbers.
 #[derive(Drop)]
 pub enum Command {
-    /// Samples the program in the file once.
-    Sample(FileName, Source, Limits),
-    /// Weighs each outcome of the program in the file, with limits of turns, attempts and rounds.
-    Mass(FileName, u64, Option<u64>, Option<u64>),
-    /// Works out how many bits a run of the program in the file reads on average.
-    Cost(FileName, Limits),
-    /// Bounds each outcome of the program in the file for every greater limit of turns.
-    Posterior(FileName, u64),
-    /// Audits the program in the file by all bit strings of one length.
-    Audit(FileName, u32, Limits),
-    /// Tallies the program in the file over the streams of a range.
-    Tally(FileName, SeedRange, Limits),
-    /// Hunts the streams of a range for the least on which the program in the file has this key.
-    Hunt(FileName, SeedRange, Limits, TallyKey),
-    /// Checks the program in the file.
-    Check(FileName),
+    /// Works on the program in the file, once it is checked.
+    Checked(FileName, Work),
     /// Shows the canonical text of the program in the file.
     Show(FileName),
-    /// Lists the code that samples the program in the file.
-    Code(FileName),
     /// Tallies the generated program of this number.
     Gen(u32),
     /// Draws a label by the Fast Dice Roller: how many labels, the most flips, and the source of bits; without a source, weighs

@@ -5,12 +5,16 @@ ghost use Rattle.gcl_core.specs.meaning.LimitRange.{InRange};
 ghost use Rattle.gcl_core.specs.meaning.Views.{source_of};
 ghost use Rattle.stream_runs.specs.Ranges.{IsRange, IsWorkers};
 ghost use Rattle.audit_walk.specs.declared.auditing.TheConstants.{MOST_DEPTH};
-ghost use Rattle.zar_cli.specs.Counts.{IsAuditText, IsTallyText};
+ghost use Rattle.zar_cli.specs.declared.command.Work.TheVariants.{Audit, Tally};
+ghost use Rattle.zar_cli.specs.Counts.{IsTallyText};
+ghost use Rattle.zar_cli.specs.inner.Works.{WorksAlone};
 
+use crate::said::Said;
 use crate::tables::{audit_text, tally_rows_text};
 use audit_walk::audit;
 use gcl_core::{Checked, Limits};
 use gcl_print::Text;
+use report_text::Refusal;
 use sampler_run::compile;
 use std::alloc::{AllocError, Global};
 use std::marker::Sync;
@@ -19,26 +23,26 @@ use stream_runs::SeedRange;
 use tally_range::tally;
 use zar_io::Gate;
 
-/// How a program's runs end on all bit strings of a length, as lines. An error comes only where memory runs out.
+/// How a program's runs end on all bit strings of a length, as lines.
 pub fn audit_of<R: Threads + Sync>(
     rt: &R,
     alloc: Global,
     program: &Checked,
     depth: u32,
     limits: &Limits,
-) -> Result<Text, AllocError>
+) -> Result<Said, Refusal>
     requires depth { depth ≤ MOST_DEPTH }
     requires limits { InRange limits.now }
-    ensures { IfOk result (IsAuditText (source_of program.now) depth limits.now) }
+    ensures { WorksAlone (Audit depth limits.now) (source_of program.now) result }
 {
     let sampler = compile(alloc, program)?;
     let found = audit(rt, alloc, &sampler, limits, depth)?;
     let text = audit_text(alloc, depth, &found)?;
-    Ok(text)
+    Ok(Said::Shown(text))
 }
 
 /// How a program's runs end on the streams of a range, as lines. An error comes only where memory runs out.
-pub fn tally_of<R: Threads + Sync, G: Gate>(
+pub fn tally_text<R: Threads + Sync, G: Gate>(
     rt: &R,
     alloc: Global,
     program: &Checked,
@@ -55,4 +59,22 @@ pub fn tally_of<R: Threads + Sync, G: Gate>(
     let found = tally(rt, alloc, &sampler, limits, range, gate)?;
     let text = tally_rows_text(alloc, &found)?;
     Ok(text)
+}
+
+/// What is said of them.
+pub fn tally_of<R: Threads + Sync, G: Gate>(
+    rt: &R,
+    alloc: Global,
+    program: &Checked,
+    range: &SeedRange,
+    limits: &Limits,
+    gate: &G,
+) -> Result<Said, Refusal>
+    requires limits { InRange limits.now }
+    requires range { IsRange range.now }
+    requires workers { IsWorkers range.now.workers }
+    ensures { WorksAlone (Tally range.now limits.now) (source_of program.now) result }
+{
+    let text = tally_text(rt, alloc, program, range, limits, gate)?;
+    Ok(Said::Shown(text))
 }

@@ -6,8 +6,8 @@ ghost use Rattle.gcl_core.specs.meaning.Views.{source_of};
 ghost use Rattle.generated_program.specs.declared.generating.TheConstants.{GREATEST_NUMBER};
 ghost use Rattle.zar_cli.specs.Counts.{size_text, generated_range, IsGeneratedText};
 
-use crate::counting::tally_of;
-use crate::options::NO_OPTIONS;
+use crate::counting::tally_text;
+use crate::options::usual_limits;
 use crate::settings::{GENERATED_STREAMS, USUAL_BUDGET, USUAL_WORKERS};
 use gcl_core::{Checked, count_statements};
 use gcl_print::{Text, print};
@@ -46,8 +46,8 @@ fn generated_range(k: u32) -> SeedRange
     }
 }
 
-/// The size of the generated program of `k`, and how its runs end on the first streams of the seed `k`, as lines. An error comes only
-/// where memory runs out.
+/// The size of the generated program of `k`, and how its runs end on the first streams of the seed `k`, as lines. An error comes
+/// only where memory runs out.
 pub fn generated_text<R: Threads + Sync, G: Gate>(
     rt: &R,
     alloc: Global,
@@ -59,8 +59,8 @@ pub fn generated_text<R: Threads + Sync, G: Gate>(
 {
     let program = generate_checked(alloc, k)?;
     let mut text = size_text(alloc, &program)?;
-    let limits = NO_OPTIONS.limits();
-    let rows = tally_of(rt, alloc, &program, &generated_range(k), &limits, gate)?;
+    let limits = usual_limits();
+    let rows = tally_text(rt, alloc, &program, &generated_range(k), &limits, gate)?;
     text.push(rows.bytes())?;
     Ok(text)
 }

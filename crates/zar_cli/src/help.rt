@@ -138,6 +138,8 @@ zar audit FILE --depth N
     print how all strings of N bits end
 zar tally FILE --seed N --from N --to N
     count how the runs on a range of streams end
+zar runs FILE --seed N --from N --to N
+    run the program on each stream of a range, and print the outcomes in order
 zar hunt FILE --seed N --from N --to N --want OUTCOME
     print the least stream of a range with a wanted outcome
 zar check FILE
@@ -207,6 +209,14 @@ pub const TALLY: Page = (
     &[RANGE, WORK, LIMITS],
 );
 
+pub const RUNS: Page = (
+    "zar runs FILE --seed N --from N --to N
+    run the program on each stream of a range, and print the outcomes in order
+
+",
+    &[RANGE, WORK, LIMITS],
+);
+
 pub const HUNT: Page = (
     "zar hunt FILE --seed N --from N --to N --want OUTCOME
     print the least stream of a range with a wanted outcome
@@ -270,7 +280,8 @@ zar fast N --seed N
 
 /// The page that is asked for.
 pub fn page_of(topic: Topic) -> Page
-    ensures { result.0.now ++ flat_map (λ part. flat_map (λ piece. piece_text piece.0.now piece.1) part.now) result.1.now ≡ topic_text topic }
+    ensures { result.0.now ++ flat_map (λ part. flat_map (λ piece. piece_text piece.0.now piece.1) part.now) result.1.now
+        ≡ topic_text topic }
 {
     match topic {
         Topic::Everything => COMMANDS,
@@ -280,6 +291,7 @@ pub fn page_of(topic: Topic) -> Page
         Topic::One(Verb::Posterior) => POSTERIOR,
         Topic::One(Verb::Audit) => AUDIT,
         Topic::One(Verb::Tally) => TALLY,
+        Topic::One(Verb::Runs) => RUNS,
         Topic::One(Verb::Hunt) => HUNT,
         Topic::One(Verb::Check) => CHECK,
         Topic::One(Verb::Show) => SHOW,

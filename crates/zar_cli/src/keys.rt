@@ -1,10 +1,34 @@
 // The keys that words name.
 
 ghost use Rattle.std.specs.Prelude.{◌≡◌};
-ghost use Rattle.zar_cli.specs.Forms.{value_in, key_named};
+ghost use Rattle.zar_cli.specs.Forms.{value_in, want_named, key_named};
 
+use crate::lookup::value_named;
 use crate::settings::number_in;
 use gcl_core::{Fault, Limit, Outcome, TallyKey};
+
+/// Each way to end that has a word. Code and definitions read this table.
+pub const WANTS: [(&str, TallyKey); 7] = [
+    (
+        "overflow",
+        TallyKey::Outcome(Outcome::Fault(Fault::Overflow)),
+    ),
+    (
+        "zero-divisor",
+        TallyKey::Outcome(Outcome::Fault(Fault::ZeroDivisor)),
+    ),
+    (
+        "bad-bound",
+        TallyKey::Outcome(Outcome::Fault(Fault::BadBound)),
+    ),
+    ("turns", TallyKey::Outcome(Outcome::Limit(Limit::Turns))),
+    (
+        "attempts",
+        TallyKey::Outcome(Outcome::Limit(Limit::Attempts)),
+    ),
+    ("rounds", TallyKey::Outcome(Outcome::Limit(Limit::Rounds))),
+    ("more-bits", TallyKey::MoreBits),
+];
 
 // The value of 1 to 20 digits behind an optional minus sign, if it has 64 bits.
 fn value_in(word: &str) -> Option<i64>
@@ -16,19 +40,19 @@ fn value_in(word: &str) -> Option<i64>
     }
 }
 
+#[tactic(auto, unfolding(crate::specs::Forms::want_named))]
+fn want_named(word: &str) -> Option<TallyKey>
+    ensures { result ≡ want_named word.now }
+{
+    value_named(&WANTS, word)
+}
+
 // The way to end that a word names.
 pub fn key_named(word: &str) -> Option<TallyKey>
     ensures { result ≡ key_named word.now }
 {
-    let outcome = match word {
-        "overflow" => Outcome::Fault(Fault::Overflow),
-        "zero-divisor" => Outcome::Fault(Fault::ZeroDivisor),
-        "bad-bound" => Outcome::Fault(Fault::BadBound),
-        "turns" => Outcome::Limit(Limit::Turns),
-        "attempts" => Outcome::Limit(Limit::Attempts),
-        "rounds" => Outcome::Limit(Limit::Rounds),
-        "more-bits" => return Some(TallyKey::MoreBits),
-        _ => Outcome::Value(value_in(word)?),
-    };
-    Some(TallyKey::Outcome(outcome))
+    match want_named(word) {
+        Some(key) => Some(key),
+        None => Some(TallyKey::Outcome(Outcome::Value(value_in(word)?))),
+    }
 }

@@ -1,177 +1,153 @@
 // The options of a command.
 
-ghost use Rattle.std.specs.Prelude.{◌≡◌, ◌≤◌};
-ghost use Rattle.std.specs.Option.{ForSome};
-ghost use Rattle.dice_roll.specs.declared.rules.TheConstants.{MOST_FLIPS};
+ghost use Rattle.std.specs.Prelude.{◌≡◌, ◌≤◌, map, option_map, IfSome};
+ghost use Rattle.std.specs.List.{list_all};
 ghost use Rattle.gcl_core.specs.declared.rules.TheConstants.{MOST_LIMIT};
+ghost use Rattle.gcl_core.specs.meaning.LimitRange.{InRange};
 ghost use Rattle.zar_io.specs.declared.stream_bits.TheConstants.{MOST_BUDGET};
-ghost use Rattle.audit_walk.specs.declared.auditing.TheConstants.{MOST_DEPTH};
-ghost use Rattle.stream_runs.specs.declared.range.TheConstants.{MOST_WORKERS};
+ghost use Rattle.zar_cli.specs.OptionWords.{value_of, is_given, number_given, number_or, limits_with, limits_of, has_source, no_options, range_of, is_range, wanted};
+ghost use Rattle.stream_runs.specs.Ranges.{IsWorkers};
+ghost use Rattle.zar_cli.specs.inner.OptionsView.{options_of, IsIn};
 
 use crate::keys::key_named;
 use crate::settings::{
-    Setting, USUAL_BUDGET, USUAL_LIMIT, USUAL_WORKERS, Verb, number_in, setting_named,
+    ATTEMPTS, BITS, BUDGET, FROM, Form, ROUNDS, SEED, Setting, TO, TURNS, USUAL_BUDGET,
+    USUAL_LIMIT, USUAL_WORKERS, WANT, WORKERS, number_in,
 };
-use audit_walk::MOST_DEPTH;
-use dice_roll::MOST_FLIPS;
-use gcl_core::{Limits, MOST_LIMIT, TallyKey};
-use stream_runs::{MOST_STREAMS, MOST_WORKERS, SeedRange};
-use zar_io::MOST_BUDGET;
+use gcl_core::{Limits, TallyKey};
+use stream_runs::{MOST_STREAMS, SeedRange};
 
-// What the options said so far.
+/// The options of a command: words in pairs, of an option and its value.
 #[derive(Clone, Copy)]
 pub struct Options<'a> {
-    pub bits: Option<&'a str>,
-    pub seed: Option<u64>,
-    pub stream: Option<u64>,
-    pub budget: Option<u64>,
-    pub from: Option<u64>,
-    pub to: Option<u64>,
-    pub workers: Option<u64>,
-    pub depth: Option<u64>,
-    pub flips: Option<u64>,
-    pub turns: Option<u64>,
-    pub attempts: Option<u64>,
-    pub rounds: Option<u64>,
-    pub want: Option<TallyKey>,
-    ghost budget_in_range: { ForSome budget (λ n. n ≤ MOST_BUDGET) },
-    ghost workers_in_range: { ForSome workers (λ n. (1 ≤ n) × (n ≤ MOST_WORKERS)) },
-    ghost depth_in_range: { ForSome depth (λ n. n ≤ MOST_DEPTH) },
-    ghost flips_in_range: { ForSome flips (λ n. n ≤ MOST_FLIPS) },
-    ghost turns_in_range: { ForSome turns (λ n. n ≤ MOST_LIMIT) },
-    ghost attempts_in_range: { ForSome attempts (λ n. (1 ≤ n) × (n ≤ MOST_LIMIT)) },
-    ghost rounds_in_range: { ForSome rounds (λ n. (1 ≤ n) × (n ≤ MOST_LIMIT)) },
+    pub words: &'a [String],
 }
 
-pub const NO_OPTIONS: Options<'static> = Options {
-    bits: None,
-    seed: None,
-    stream: None,
-    budget: None,
-    from: None,
-    to: None,
-    workers: None,
-    depth: None,
-    flips: None,
-    turns: None,
-    attempts: None,
-    rounds: None,
-    want: None,
-};
+/// The limits of a run where no option is given.
+pub fn usual_limits() -> Limits
+    ensures limits { result ≡ limits_of no_options }
+    ensures range { InRange result }
+{
+    Options { words: &[] }.limits()
+}
 
 impl<'a> Options<'a> {
-    ghost use Rattle.std.specs.Prelude.{option_map, IfSome};
-    ghost use Rattle.gcl_core.specs.meaning.LimitRange.{InRange};
-    ghost use Rattle.zar_cli.specs.OptionWords.{setting_named, is_given, excludes, if_taken, with_value, limits_of, range_of};
-    ghost use Rattle.stream_runs.specs.Ranges.{IsRange, IsWorkers};
-    ghost use Rattle.zar_cli.specs.inner.OptionsView.{options_of};
-
-    fn is_given(&self, setting: Setting) -> bool
-        ensures { result ≡ is_given setting (options_of self.now) }
+    /// The word behind an option, where it is given.
+    pub fn value_of(self, word: &str) -> Option<&'a str>
+        ensures { option_map (λ word. word.now) result ≡ value_of word.now (options_of self.entry) }
     {
-        match setting {
-            Setting::Bits => self.bits.is_some(),
-            Setting::Seed => self.seed.is_some(),
-            Setting::Stream => self.stream.is_some(),
-            Setting::Budget => self.budget.is_some(),
-            Setting::From => self.from.is_some(),
-            Setting::To => self.to.is_some(),
-            Setting::Workers => self.workers.is_some(),
-            Setting::Depth => self.depth.is_some(),
-            Setting::Flips => self.flips.is_some(),
-            Setting::Turns => self.turns.is_some(),
-            Setting::Attempts => self.attempts.is_some(),
-            Setting::Rounds => self.rounds.is_some(),
-            Setting::Want => self.want.is_some(),
-        }
-    }
-
-    // Bits of a file and bits of a stream exclude each other.
-    fn excludes(&self, setting: Setting) -> bool
-        ensures { result ≡ excludes setting (options_of self.now) }
-    {
-        match setting {
-            Setting::Bits => self.seed.is_some() || self.stream.is_some() || self.budget.is_some(),
-            Setting::Seed | Setting::Stream | Setting::Budget => self.bits.is_some(),
-            Setting::From
-            | Setting::To
-            | Setting::Workers
-            | Setting::Depth
-            | Setting::Flips
-            | Setting::Turns
-            | Setting::Attempts
-            | Setting::Rounds
-            | Setting::Want => false,
-        }
-    }
-
-    // The options with this value of one more, if it is of its form.
-    pub fn with(&self, setting: Setting, value: &'a str) -> Option<Options<'a>>
-        ensures { option_map options_of result ≡ with_value setting value.now (options_of self.now) }
-    {
-        let mut options = *self;
-        match setting {
-            Setting::Bits if value.is_empty() => return None,
-            Setting::Bits => options.bits = Some(value),
-            Setting::Seed => options.seed = Some(number_in(0, u64::MAX, value)?),
-            Setting::Stream => options.stream = Some(number_in(0, u64::MAX, value)?),
-            Setting::Budget => options.budget = Some(number_in(0, MOST_BUDGET, value)?),
-            Setting::From => options.from = Some(number_in(0, u64::MAX, value)?),
-            Setting::To => options.to = Some(number_in(0, u64::MAX, value)?),
-            Setting::Workers => options.workers = Some(number_in(
-                1,
-                u64::from(MOST_WORKERS),
-                value,
-            )?),
-            Setting::Depth => options.depth = Some(number_in(0, u64::from(MOST_DEPTH), value)?),
-            Setting::Flips => options.flips = Some(number_in(0, MOST_FLIPS, value)?),
-            Setting::Turns => options.turns = Some(number_in(0, MOST_LIMIT, value)?),
-            Setting::Attempts => options.attempts = Some(number_in(1, MOST_LIMIT, value)?),
-            Setting::Rounds => options.rounds = Some(number_in(1, MOST_LIMIT, value)?),
-            Setting::Want => options.want = Some(key_named(value)?),
-        }
-        Some(options)
-    }
-
-    // The option that a word is, if the command takes it, it was not given before, and none before excludes it.
-    pub fn taken(&self, verb: Verb, word: &str) -> Option<Setting>
-        ensures { result ≡ if_taken verb (setting_named word.now) (options_of self.now) }
-    {
-        let setting = setting_named(word)?;
-        if !verb.allows(setting) || self.is_given(setting) || self.excludes(setting) {
-            return None;
-        }
-        Some(setting)
-    }
-
-    /// The streams that are gone through, where the seed and both ends are given, and they are no more than can be.
-    pub fn range(&self) -> Option<SeedRange>
-        ensures range { result ≡ range_of (options_of self.now) }
-        ensures within { IfSome result (λ r. IsRange r × IsWorkers r.workers) }
-    {
-        match (self.seed, self.from, self.to) {
-            (Some(seed), Some(from), Some(to)) if from <= to && to - from <= MOST_STREAMS => {
-                Some(SeedRange {
-                    seed,
-                    from,
-                    to,
-                    budget: self.budget.unwrap_or(USUAL_BUDGET),
-                    workers: self.workers.unwrap_or(USUAL_WORKERS) as u32,
-                })
+        let mut words = self.words;
+        while let [name, value, rest @ ..] = words {
+            if word == name.as_str() {
+                return Some(value.as_str());
             }
-            _ => None,
+            words = rest;
+        }
+        None
+    }
+
+    /// The option is given.
+    pub fn is_given(self, setting: Setting) -> bool
+        ensures { result ≡ is_given (setting.entry.0.now, setting.entry.1) (options_of self.entry) }
+    {
+        self.value_of(setting.0).is_some()
+    }
+
+    /// Each of these is given.
+    pub fn are_given(self, mut settings: &[Setting]) -> bool
+        ensures { result ≡ list_all (λ s. is_given s (options_of self.entry)) (map (λ s. (s.0.now, s.1)) settings.entry.now) }
+    {
+        while let [setting, rest @ ..] = settings {
+            if !self.is_given(*setting) {
+                return false;
+            }
+            settings = rest;
+        }
+        true
+    }
+
+    /// The number behind an option, where it is given.
+    pub fn number(self, setting: Setting) -> Option<u64>
+        ensures number { result ≡ number_given (setting.entry.0.now, setting.entry.1) (options_of self.entry) }
+        ensures range { IfSome result (IsIn setting.entry.1) }
+    {
+        let word = self.value_of(setting.0)?;
+        match setting.1 {
+            Form::Number(least, most) => number_in(least, most, word),
+            Form::Name | Form::Wanted => None,
+        }
+    }
+
+    /// The number behind an option, or the usual where it is not given.
+    pub fn number_or(self, usual: u64, setting: Setting) -> u64
+        requires range { IsIn setting.1 usual }
+        ensures number { result ≡ number_or usual (setting.entry.0.now, setting.entry.1) (options_of self.entry) }
+        ensures range { IsIn setting.entry.1 result }
+    {
+        match self.number(setting) {
+            Some(number) => number,
+            None => usual,
+        }
+    }
+
+    /// It is given where bits come from.
+    pub fn has_source(self) -> bool
+        ensures { result ≡ has_source (options_of self.entry) }
+    {
+        self.is_given(BITS) || self.is_given(SEED)
+    }
+
+    /// The streams that are gone through.
+    pub fn range(self) -> SeedRange
+        ensures range { result ≡ range_of (options_of self.entry) }
+        ensures budget { result.budget ≤ MOST_BUDGET }
+        ensures workers { IsWorkers result.workers }
+    {
+        SeedRange {
+            seed: self.number_or(0, SEED),
+            from: self.number_or(0, FROM),
+            to: self.number_or(0, TO),
+            budget: self.number_or(USUAL_BUDGET, BUDGET),
+            workers: self.number_or(USUAL_WORKERS, WORKERS) as u32,
+        }
+    }
+
+    /// The streams are in order, and no more than can be.
+    pub fn has_range(self) -> bool
+        ensures { result ≡ is_range (range_of (options_of self.entry)) }
+    {
+        let range = self.range();
+        range.from <= range.to && range.to - range.from <= MOST_STREAMS
+    }
+
+    /// The way to end that a hunt wants.
+    pub fn wanted(self) -> TallyKey
+        ensures { result ≡ wanted (options_of self.entry) }
+    {
+        match self.value_of(WANT.0) {
+            Some(word) => key_named(word).unwrap_or(TallyKey::MoreBits),
+            None => TallyKey::MoreBits,
+        }
+    }
+
+    /// The limits of a run, each the usual where it is not given, and so many turns where none are.
+    pub fn limits_with(self, turns: u64) -> Limits
+        requires turns { turns ≤ MOST_LIMIT }
+        ensures limits { result ≡ limits_with turns (options_of self.entry) }
+        ensures range { InRange result }
+    {
+        Limits {
+            turns: self.number_or(turns, TURNS),
+            attempts: self.number_or(USUAL_LIMIT, ATTEMPTS),
+            rounds: self.number_or(USUAL_LIMIT, ROUNDS),
         }
     }
 
     /// The limits of a run, each the usual where it is not given.
-    pub fn limits(&self) -> Limits
-        ensures limits { result ≡ limits_of (options_of self.now) }
+    pub fn limits(self) -> Limits
+        ensures limits { result ≡ limits_of (options_of self.entry) }
         ensures range { InRange result }
     {
-        Limits {
-            turns: self.turns.unwrap_or(USUAL_LIMIT),
-            attempts: self.attempts.unwrap_or(USUAL_LIMIT),
-            rounds: self.rounds.unwrap_or(USUAL_LIMIT),
-        }
+        self.limits_with(USUAL_LIMIT)
     }
 }

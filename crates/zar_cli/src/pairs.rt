@@ -1,37 +1,62 @@
 // The pairs of an option and its value.
 
-ghost use Rattle.std.specs.Prelude.{◌≡◌, ◌+◌, ◌^◌, ◌<◌, length, Ok, Err, map, string_bytes, MatchResult};
-ghost use Rattle.zar_cli.specs.OptionWords.{options_from};
-ghost use Rattle.zar_cli.specs.inner.OptionsView.{options_of};
+ghost use Rattle.std.specs.Prelude.{◌≡◌, ◌+◌, ◌^◌, ◌<◌, [], length, map, string_bytes};
+ghost use Rattle.zar_cli.specs.OptionWords.{excludes, is_barred, form_behind, wrong_option};
 
-use crate::options::Options;
-use crate::settings::Verb;
+use crate::lookup::value_named;
+use crate::settings::{BITS, BUDGET, Form, SEED, STREAM, Setting};
 
-// The options that the words from place `at` on give, or the place of the first that is wrong. Since each option is given once,
-// no call goes deeper than the number of options.
-#[tactic(auto, using(crate::proofs::OnePair::options_go))]
-pub fn options_from<'a>(
-    verb: Verb,
-    options: Options<'a>,
-    at: u32,
-    words: &'a [String],
-) -> Result<Options<'a>, u32>
-    requires { at + length words.now < 2 ^ 32 }
-    ensures { MatchResult result (λ all. options_from verb at (options_of options.entry) (map string_bytes words.now) ≡ Ok (options_of all))
-        (λ place. options_from verb at (options_of options.entry) (map string_bytes words.now) ≡ Err place) }
+// Bits of a file and bits of a stream exclude each other.
+fn excludes(name: &str, other: &str) -> bool
+    ensures { result ≡ excludes name.now other.now }
 {
-    match words {
-        [] => Ok(options),
-        [name] => match options.taken(verb, name.as_str()) {
-            Some(_) => Err(at + 1),
-            None => Err(at),
-        },
-        [name, value, rest @ ..] => match options.taken(verb, name.as_str()) {
-            Some(setting) => match options.with(setting, value.as_str()) {
-                Some(more) => options_from(verb, more, at + 2, rest),
-                None => Err(at + 1),
-            },
-            None => Err(at),
-        },
+    BITS.0 == name && (SEED.0 == other || STREAM.0 == other || BUDGET.0 == other)
+}
+
+// The option was given before, or one that was excludes it.
+fn is_barred(name: &str, mut before: &[String]) -> bool
+    ensures { result ≡ is_barred name.now (map string_bytes before.entry.now) }
+{
+    while let [other, _, rest @ ..] = before {
+        let other = other.as_str();
+        if other == name || excludes(other, name) || excludes(name, other) {
+            return true;
+        }
+        before = rest;
     }
+    false
+}
+
+// The form of the value behind an option, if it is one of these and not barred.
+fn form_behind(takes: &[Setting], before: &[String], name: &str) -> Option<Form>
+    ensures { result ≡ form_behind (map (λ s. (s.0.now, s.1)) takes.now) (map string_bytes before.now) name.now }
+{
+    if is_barred(name, before) {
+        None
+    } else {
+        value_named(takes, name)
+    }
+}
+
+/// The place of the first wrong word of the options, which begin at place 2.
+pub fn wrong_option(takes: &[Setting], words: &[String]) -> Option<u32>
+    requires { 2 + length words.now < 2 ^ 32 }
+    ensures { result ≡ wrong_option (map (λ s. (s.0.now, s.1)) takes.now) 2 [] (map string_bytes words.now) }
+{
+    let mut at = 0;
+    while at < words.len() {
+        match form_behind(takes, &words[..at], words[at].as_str()) {
+            None => return Some(2 + at as u32),
+            Some(form) => {
+                if at + 1 == words.len() {
+                    return Some(3 + at as u32);
+                }
+                if form.number(words[at + 1].as_str()).is_none() {
+                    return Some(3 + at as u32);
+                }
+            }
+        }
+        at += 2;
+    }
+    None
 }

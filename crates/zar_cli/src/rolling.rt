@@ -12,12 +12,13 @@ ghost use Rattle.zar_cli.specs.Stages.{refusal_in};
 ghost use Rattle.zar_io.specs.declared.stream_bits.TheConstants.{MOST_BUDGET};
 ghost use Rattle.zar_io.specs.StreamBits.{stream_bits};
 
+use crate::source::open_bits;
 use dice_roll::{Roll, roll, share};
 use frac128::Frac;
 use gcl_print::Text;
 use report_text::{Refusal, each_line, flips_line};
 use std::alloc::{AllocError, Global};
-use zar_io::{Failed, FileBits, Files, OpenError, StreamBits};
+use zar_io::{Failed, FileBits, Files, StreamBits};
 
 /// A roll on the bits of the file of this name.
 pub fn roll_on_file<F: Files>(
@@ -31,14 +32,11 @@ pub fn roll_on_file<F: Files>(
     requires few { flips ≤ MOST_FLIPS }
     ensures answer { IsTrue F.told → GivesOnBits (fast_roll labels flips) (F.file files.old name.now) result }
     ensures refused { IfErr result OfOutside }
-    ensures stage { IsStage (name.now ∷ []) (files_seen F.told F.file F.may_be_missing F.faults F.is_open files.old files.new) (refusal_in result) }
+    ensures stage { IsStage
+        (name.now ∷ []) (files_seen F.told F.file F.may_be_missing F.faults F.is_open files.old files.new) (refusal_in result) }
     ensures kept { KeepsFiles F.file F.may_be_missing files.old files.new }
 {
-    match files.open(name) {
-        Ok(()) => {}
-        Err(OpenError::Missing) => return Err(Refusal::NoFile),
-        Err(OpenError::Failed) => return Err(Refusal::Read),
-    }
+    open_bits(files, name)?;
     let mut bits = FileBits::new(files);
     match roll(labels, flips, &mut bits) {
         Ok(rolled) => Ok(rolled),

@@ -1,16 +1,24 @@
-// The verbs of the commands, their options, and the numbers that these take.
+// The commands by their words, the options that each takes, and the forms of the words behind them.
 
-ghost use Rattle.std.specs.Prelude.{◌≡◌, ◌≤◌, true, length, IfSome};
+ghost use Rattle.std.specs.Prelude.{◌≡◌, ◌≤◌, true, length, is_some, map, option_map, IfSome};
 ghost use Rattle.std.specs.List.{list_all};
 ghost use Rattle.std.specs.Str.Parse.{digits_value};
 ghost use Rattle.gcl_core.specs.text.Pieces.{is_digit};
 ghost use Rattle.zar_cli.specs.declared.settings.TheConstants.{MOST_DIGITS};
 ghost use Rattle.zar_cli.specs.Forms.{number_in};
-ghost use Rattle.zar_cli.specs.OptionWords.{setting_named, purpose_of, allows};
-ghost use Rattle.zar_cli.specs.Words.{verb_named, number_of, is_first};
+ghost use Rattle.zar_cli.specs.OptionWords.{fits};
+ghost use Rattle.gcl_core.specs.text.Names.{value_named};
+ghost use Rattle.zar_cli.specs.Words.{Row, row_named};
+ghost use Rattle.zar_cli.specs.inner.OptionsView.{first_form, IsNumberOf};
 
-use dice_roll::{LEAST_LABELS, MOST_LABELS};
+use crate::keys::key_named;
+use crate::lookup::is_same;
+use audit_walk::MOST_DEPTH;
+use dice_roll::{LEAST_LABELS, MOST_FLIPS, MOST_LABELS};
+use gcl_core::MOST_LIMIT;
 use generated_program::GREATEST_NUMBER;
+use stream_runs::MOST_WORKERS;
+use zar_io::MOST_BUDGET;
 
 /// The word of a command.
 #[derive(Clone, Copy, Debug, PartialEq, Eq)]
@@ -21,6 +29,7 @@ pub enum Verb {
     Posterior,
     Audit,
     Tally,
+    Runs,
     Hunt,
     Check,
     Show,
@@ -29,44 +38,98 @@ pub enum Verb {
     Fast,
 }
 
-/// An option of a command.
-#[derive(Clone, Copy, Debug, PartialEq, Eq)]
-pub enum Setting {
-    Bits,
-    Seed,
-    Stream,
-    Budget,
-    From,
-    To,
-    Workers,
-    Depth,
-    Flips,
-    Turns,
-    Attempts,
-    Rounds,
-    Want,
+/// What a word has to be.
+#[derive(Clone, Copy)]
+pub enum Form {
+    /// The name of a file: any word that is not empty.
+    Name,
+    /// A number, from the least to the most.
+    Number(u64, u64),
+    /// A way to end: a word of `WANTS`, or a value.
+    Wanted,
 }
 
-/// What an option is for.
-#[derive(Clone, Copy)]
-pub enum Purpose {
-    /// The bits of one run.
-    OneRun,
-    /// The bits of a stream, or of each stream of a range.
-    Streams,
-    /// Which streams are gone through, and by how many workers.
-    Range,
-    /// How deep an audit goes.
-    Depth,
-    /// How many flips a roll may make.
-    Flips,
-    /// How many turns each entry of a loop has.
-    Turns,
-    /// How many attempts each draw has, and a run how many rounds.
-    Tries,
-    /// Which way to end is wanted.
-    Want,
-}
+/// An option: its word, and the form of its value.
+pub type Setting = (&'static str, Form);
+
+// The options, with the ranges of their values.
+pub const BITS: Setting = ("--bits", Form::Name);
+
+pub const SEED: Setting = ("--seed", Form::Number(0, u64::MAX));
+
+pub const STREAM: Setting = ("--stream", Form::Number(0, u64::MAX));
+
+pub const BUDGET: Setting = ("--budget", Form::Number(0, MOST_BUDGET));
+
+pub const FROM: Setting = ("--from", Form::Number(0, u64::MAX));
+
+pub const TO: Setting = ("--to", Form::Number(0, u64::MAX));
+
+pub const WORKERS: Setting = ("--workers", Form::Number(1, MOST_WORKERS as u64));
+
+pub const DEPTH: Setting = ("--depth", Form::Number(0, MOST_DEPTH as u64));
+
+pub const FLIPS: Setting = ("--flips", Form::Number(0, MOST_FLIPS));
+
+pub const TURNS: Setting = ("--turns", Form::Number(0, MOST_LIMIT));
+
+pub const ATTEMPTS: Setting = ("--attempts", Form::Number(1, MOST_LIMIT));
+
+pub const ROUNDS: Setting = ("--rounds", Form::Number(1, MOST_LIMIT));
+
+pub const WANT: Setting = ("--want", Form::Wanted);
+
+// The options of commands.
+const SAMPLE: &[Setting] = &[BITS, SEED, STREAM, BUDGET, TURNS, ATTEMPTS, ROUNDS];
+
+const LIMITS: &[Setting] = &[TURNS, ATTEMPTS, ROUNDS];
+
+const AUDIT: &[Setting] = &[DEPTH, TURNS, ATTEMPTS, ROUNDS];
+
+const TALLY: &[Setting] = &[SEED, FROM, TO, BUDGET, WORKERS, TURNS, ATTEMPTS, ROUNDS];
+
+const HUNT: &[Setting] = &[
+    SEED, FROM, TO, WANT, BUDGET, WORKERS, TURNS, ATTEMPTS, ROUNDS,
+];
+
+const ROLL: &[Setting] = &[BITS, SEED, STREAM, BUDGET, FLIPS];
+
+// The numbers behind `gen` and `fast`.
+const GENERATED: Form = Form::Number(LEAST_GENERATED, GREATEST_NUMBER as u64);
+
+const LABELS: Form = Form::Number(LEAST_LABELS, MOST_LABELS);
+
+/// A command: what it is, the form of the word behind it, the options that it takes, and those of them that it needs.
+pub type Row = (Verb, Form, &'static [Setting], &'static [Setting]);
+
+/// Each command by its word. Code and definitions read this table.
+pub const VERBS: [(&str, Row); 13] = [
+    ("sample", (Verb::Sample, Form::Name, SAMPLE, &[])),
+    ("mass", (Verb::Mass, Form::Name, LIMITS, &[])),
+    (
+        "cost",
+        (Verb::Cost, Form::Name, LIMITS, &[ATTEMPTS, ROUNDS]),
+    ),
+    ("posterior", (Verb::Posterior, Form::Name, &[TURNS], &[])),
+    ("audit", (Verb::Audit, Form::Name, AUDIT, &[DEPTH])),
+    ("tally", (Verb::Tally, Form::Name, TALLY, &[SEED, FROM, TO])),
+    ("runs", (Verb::Runs, Form::Name, TALLY, &[SEED, FROM, TO])),
+    (
+        "hunt",
+        (Verb::Hunt, Form::Name, HUNT, &[SEED, FROM, TO, WANT]),
+    ),
+    ("check", (Verb::Check, Form::Name, &[], &[])),
+    ("show", (Verb::Show, Form::Name, &[], &[])),
+    ("code", (Verb::Code, Form::Name, &[], &[])),
+    ("gen", (Verb::Gen, GENERATED, &[], &[])),
+    ("fast", (Verb::Fast, LABELS, ROLL, &[])),
+];
+
+/// The words that ask for help.
+pub const HELP: [&str; 3] = ["help", "--help", "-h"];
+
+/// The word that asks for the version.
+pub const VERSION_WORD: &str = "--version";
 
 /// The most digits of a number.
 pub const MOST_DIGITS: usize = 20;
@@ -76,138 +139,58 @@ pub const USUAL_LIMIT: u64 = 1000;
 pub const USUAL_MASS_TURNS: u64 = 30;
 /// The budget of bits of a stream where none is given.
 pub const USUAL_BUDGET: u64 = 65_536;
-/// The workers of a tally or a hunt where no number is given.
+/// The workers on a range of streams where no number is given.
 pub const USUAL_WORKERS: u64 = 4;
 /// The least number of a generated program.
 pub const LEAST_GENERATED: u64 = 1;
 /// How many streams a generated program is tallied over.
 pub const GENERATED_STREAMS: u64 = 1000;
-/// The limit of flips of a roll on bits where none is given.
+/// The limit of flips under which a label is drawn where none is given.
 pub const USUAL_FLIPS: u64 = 1000;
 /// The limit of flips under which the labels of a roll are weighed where none is given.
 pub const USUAL_WEIGHED_FLIPS: u64 = 30;
 
-pub fn verb_named(word: &str) -> Option<Verb>
-    ensures { result ≡ verb_named word.now }
+// What stands beside a word in such a table, at its first place.
+fn row_in(mut table: &[(&str, Row)], word: &str) -> Option<Row>
+    ensures { option_map {U = Row} (λ r. (r.0, r.1, map (λ s. (s.0.now, s.1)) r.2.now, map (λ s. (s.0.now, s.1)) r.3.now)) result
+        ≡ value_named {A = Row} (map (λ r. (
+          r.0.now,
+          (r.1.0, r.1.1, map (λ s. (s.0.now, s.1)) r.1.2.now, map (λ s. (s.0.now, s.1)) r.1.3.now),
+        )) table.entry.now) word.now }
 {
-    match word {
-        "sample" => Some(Verb::Sample),
-        "mass" => Some(Verb::Mass),
-        "cost" => Some(Verb::Cost),
-        "posterior" => Some(Verb::Posterior),
-        "audit" => Some(Verb::Audit),
-        "tally" => Some(Verb::Tally),
-        "hunt" => Some(Verb::Hunt),
-        "check" => Some(Verb::Check),
-        "show" => Some(Verb::Show),
-        "code" => Some(Verb::Code),
-        "gen" => Some(Verb::Gen),
-        "fast" => Some(Verb::Fast),
-        _ => None,
+    while let [row, rest @ ..] = table {
+        if is_same(word, row.0) {
+            return Some(row.1);
+        }
+        table = rest;
     }
+    None
 }
 
-pub fn setting_named(word: &str) -> Option<Setting>
-    ensures { result ≡ setting_named word.now }
+/// The row of the command that a word is.
+#[tactic(auto, unfolding(crate::specs::Words::row_named))]
+pub fn row_named(word: &str) -> Option<Row>
+    ensures row { option_map {U = Row}
+        (λ r. (r.0, r.1, map (λ s. (s.0.now, s.1)) r.2.now, map (λ s. (s.0.now, s.1)) r.3.now)) result ≡ row_named word.now }
+    ensures first { IfSome result (λ r. r.1 ≡ first_form r.0) }
 {
-    match word {
-        "--bits" => Some(Setting::Bits),
-        "--seed" => Some(Setting::Seed),
-        "--stream" => Some(Setting::Stream),
-        "--budget" => Some(Setting::Budget),
-        "--from" => Some(Setting::From),
-        "--to" => Some(Setting::To),
-        "--workers" => Some(Setting::Workers),
-        "--depth" => Some(Setting::Depth),
-        "--flips" => Some(Setting::Flips),
-        "--turns" => Some(Setting::Turns),
-        "--attempts" => Some(Setting::Attempts),
-        "--rounds" => Some(Setting::Rounds),
-        "--want" => Some(Setting::Want),
-        _ => None,
-    }
+    row_in(&VERBS, word)
 }
 
-impl Setting {
-    fn purpose(self) -> Purpose
-        ensures { result ≡ purpose_of self }
+impl Form {
+    /// The word is of this form: its number where it is one, and else 0.
+    pub fn number(self, word: &str) -> Option<u64>
+        ensures fits { is_some result ≡ fits self word.now }
+        ensures number { IfSome result (IsNumberOf self word.now) }
     {
         match self {
-            Setting::Bits | Setting::Stream => Purpose::OneRun,
-            Setting::Seed | Setting::Budget => Purpose::Streams,
-            Setting::From | Setting::To | Setting::Workers => Purpose::Range,
-            Setting::Depth => Purpose::Depth,
-            Setting::Flips => Purpose::Flips,
-            Setting::Turns => Purpose::Turns,
-            Setting::Attempts | Setting::Rounds => Purpose::Tries,
-            Setting::Want => Purpose::Want,
-        }
-    }
-}
-
-impl Verb {
-    /// The number that the word behind the verb is, where the verb takes a number.
-    pub(crate) fn number(self, word: &str) -> Option<u64>
-        ensures number { result ≡ number_of self word.now }
-    {
-        match self {
-            Verb::Gen => number_in(LEAST_GENERATED, u64::from(GREATEST_NUMBER), word),
-            Verb::Fast => number_in(LEAST_LABELS, MOST_LABELS, word),
-            Verb::Sample
-            | Verb::Mass
-            | Verb::Cost
-            | Verb::Posterior
-            | Verb::Audit
-            | Verb::Tally
-            | Verb::Hunt
-            | Verb::Check
-            | Verb::Show
-            | Verb::Code => None,
-        }
-    }
-
-    /// The word behind the verb is of its form: a number in its range, or the name of a file.
-    pub(crate) fn is_first(self, word: &str) -> bool
-        ensures { result ≡ is_first self word.now }
-    {
-        match self {
-            Verb::Gen | Verb::Fast => self.number(word).is_some(),
-            Verb::Sample
-            | Verb::Mass
-            | Verb::Cost
-            | Verb::Posterior
-            | Verb::Audit
-            | Verb::Tally
-            | Verb::Hunt
-            | Verb::Check
-            | Verb::Show
-            | Verb::Code => !word.is_empty(),
-        }
-    }
-
-    // The command takes the option.
-    pub(crate) fn allows(self, setting: Setting) -> bool
-        ensures { result ≡ allows self setting }
-    {
-        let purpose = setting.purpose();
-        match self {
-            Verb::Sample => matches!(
-                purpose,
-                Purpose::OneRun | Purpose::Streams | Purpose::Turns | Purpose::Tries
-            ),
-            Verb::Mass | Verb::Cost => matches!(purpose, Purpose::Turns | Purpose::Tries),
-            Verb::Posterior => matches!(purpose, Purpose::Turns),
-            Verb::Audit => matches!(purpose, Purpose::Depth | Purpose::Turns | Purpose::Tries),
-            Verb::Tally => matches!(
-                purpose,
-                Purpose::Streams | Purpose::Range | Purpose::Turns | Purpose::Tries
-            ),
-            Verb::Hunt => matches!(
-                purpose,
-                Purpose::Streams | Purpose::Range | Purpose::Turns | Purpose::Tries | Purpose::Want
-            ),
-            Verb::Fast => matches!(purpose, Purpose::OneRun | Purpose::Streams | Purpose::Flips),
-            Verb::Check | Verb::Show | Verb::Code | Verb::Gen => false,
+            Form::Name if word.is_empty() => None,
+            Form::Name => Some(0),
+            Form::Number(least, most) => number_in(least, most, word),
+            Form::Wanted => match key_named(word) {
+                Some(_) => Some(0),
+                None => None,
+            },
         }
     }
 }

@@ -1,9 +1,10 @@
 // How an output is shown: by its status, and on two sinks.
 
-ghost use Rattle.std.specs.Prelude.{◌≡◌, is_err, if◌then◌else◌};
+ghost use Rattle.std.specs.Prelude.{◌≡◌, is_err, IsTrue, IfOk, OnErr, if◌then◌else◌};
 ghost use Rattle.report_text.specs.Lines.{refusal_text};
 ghost use Rattle.zar_cli.specs.Delivery.{answer_status, roll_status, said_status, is_of_masses, refusal_status, status_of, said_text, out_text, err_text, IsWrittenOn};
 ghost use Rattle.zar_cli.specs.Seen.{sink_seen};
+ghost use Rattle.zar_cli.specs.inner.AsWritten.{is_drawn, IsDrawn};
 
 use crate::said::Said;
 use crate::statuses::{
@@ -15,7 +16,9 @@ use dice_roll::Roll;
 use gcl_core::refusals::{BAD_WORDS, TOO_FINE};
 use gcl_core::{Answer, Outcome};
 use report_text::{Refusal, check_line, cost_line, fault_line, hunt_line, roll_line, sample_line};
-use zar_io::{Failed, Sink};
+use std::alloc::{AllocError, Global};
+use std::thread::Threads;
+use zar_io::{Failed, Gate, Sink};
 
 // Whether a write to `out`, and whether one to `err`, has failed.
 #[derive(Clone, Copy)]
@@ -53,6 +56,7 @@ fn said_status(said: &Said) -> u8
         Said::Accepted(_, _) => DONE,
         Said::Costed(_) => DONE,
         Said::Shown(_) => DONE,
+        Said::Drawn(_) => DONE,
         Said::Found(_) => DONE,
         Said::Rolled(roll) => roll_status(roll),
         Said::Helped(_) => DONE,
@@ -90,49 +94,71 @@ pub fn status_of(output: &Result<Said, Refusal>) -> u8
     }
 }
 
-fn put_said<S: Sink>(sink: &mut S, said: &Said) -> Result<(), Failed>
-    ensures { IsWrittenOn (is_err result) (sink_seen S.told S.faults S.written sink.old sink.new) (said_text said.now) }
+// Writes what is said. Memory is taken for lines of runs alone, before their first byte. An error comes only where it runs out.
+fn put_said<R: Threads + Sync, S: Sink, G: Gate>(
+    rt: &R,
+    alloc: Global,
+    sink: &mut S,
+    said: &Said,
+    gate: &G,
+) -> Result<Result<(), Failed>, AllocError>
+    ensures written { IfOk result (λ done.
+        IsWrittenOn (is_err done) (sink_seen S.told S.faults S.written sink.old sink.new) (said_text said.now)) }
+    ensures untouched { OnErr result ((sink.new ≡ sink.old) × IsTrue (is_drawn said.now)) }
 {
     match said {
-        Said::Answered(answer) => put_text(sink, sample_line(answer).bytes()),
-        Said::Accepted(statements, names) => put_text(
+        Said::Answered(answer) => Ok(put_text(sink, sample_line(answer).bytes())),
+        Said::Accepted(statements, names) => Ok(put_text(
             sink,
             check_line(*statements, *names).bytes(),
-        ),
-        Said::Costed(bits) => put_text(sink, cost_line(bits).bytes()),
-        Said::Shown(text) => put_text(sink, text.bytes()),
-        Said::Found(stream) => put_text(sink, hunt_line(*stream).bytes()),
-        Said::Rolled(roll) => put_text(sink, roll_line(roll).bytes()),
-        Said::Helped(topic) => put_topic(sink, *topic),
+        )),
+        Said::Costed(bits) => Ok(put_text(sink, cost_line(bits).bytes())),
+        Said::Shown(text) => Ok(put_text(sink, text.bytes())),
+        Said::Drawn(drawn) => drawn.write(rt, alloc, sink, gate),
+        Said::Found(stream) => Ok(put_text(sink, hunt_line(*stream).bytes())),
+        Said::Rolled(roll) => Ok(put_text(sink, roll_line(roll).bytes())),
+        Said::Helped(topic) => Ok(put_topic(sink, *topic)),
     }
 }
 
-fn put_refusal<S: Sink>(sink: &mut S, refusal: &Refusal) -> Result<(), Failed>
+/// Writes the line of a refusal.
+pub fn put_refusal<S: Sink>(sink: &mut S, refusal: &Refusal) -> Result<(), Failed>
     ensures { IsWrittenOn (is_err result) (sink_seen S.told S.faults S.written sink.old sink.new) (refusal_text refusal.now) }
 {
     put_text(sink, fault_line(refusal).bytes())
 }
 
-/// Writes an output: what is said on `out`, and a refusal on `err`. Where a write to `out` fails, that is said on `err`.
-pub fn show<O: Sink, E: Sink>(output: &Result<Said, Refusal>, out: &mut O, err: &mut E) -> Delivery
-    ensures on_out { IsWrittenOn result.out_failed (sink_seen O.told O.faults O.written out.old out.new) (out_text output.now) }
-    ensures on_err { IsWrittenOn result.err_failed (sink_seen E.told E.faults E.written err.old err.new)
-        (if result.out_failed then refusal_text Refusal.Write else err_text output.now) }
+/// Writes an output: what is said on `out`, and a refusal on `err`. Where a write to `out` fails, that is said on `err`. An error
+/// comes only where memory runs out for lines of runs, before the first byte of any.
+pub fn show<R: Threads + Sync, O: Sink, E: Sink, G: Gate>(
+    rt: &R,
+    alloc: Global,
+    output: &Result<Said, Refusal>,
+    out: &mut O,
+    err: &mut E,
+    gate: &G,
+) -> Result<Delivery, AllocError>
+    ensures on_out { IfOk result (λ shown.
+        IsWrittenOn shown.out_failed (sink_seen O.told O.faults O.written out.old out.new) (out_text output.now)) }
+    ensures on_err { IfOk result (λ shown.
+        IsWrittenOn shown.err_failed (sink_seen E.told E.faults E.written err.old err.new)
+        (if shown.out_failed then refusal_text Refusal.Write else err_text output.now)) }
+    ensures untouched { OnErr result ((out.new ≡ out.old) × (err.new ≡ err.old) × IsDrawn output.now) }
 {
     match output {
-        Ok(said) => match put_said(out, said) {
-            Ok(()) => Delivery {
+        Ok(said) => match put_said(rt, alloc, out, said, gate)? {
+            Ok(()) => Ok(Delivery {
                 out_failed: false,
                 err_failed: false,
-            },
-            Err(Failed) => Delivery {
+            }),
+            Err(Failed) => Ok(Delivery {
                 out_failed: true,
                 err_failed: put_refusal(err, &Refusal::Write).is_err(),
-            },
+            }),
         },
-        Err(refusal) => Delivery {
+        Err(refusal) => Ok(Delivery {
             out_failed: false,
             err_failed: put_refusal(err, refusal).is_err(),
-        },
+        }),
     }
 }

@@ -25,7 +25,8 @@ fn put_number<S: Sink>(sink: &mut S, n: u64) -> Result<(), Failed>
 }
 
 fn put_piece<S: Sink>(sink: &mut S, words: &str, number: Option<u64>) -> Result<(), Failed>
-    ensures written { IsWrittenOn (is_err result) (sink_seen S.told S.faults S.written sink.old sink.new) (piece_text words.now number) }
+    ensures written { IsWrittenOn (is_err result) (sink_seen S.told S.faults S.written sink.old sink.new)
+        (piece_text words.now number) }
     ensures still_told { IsTrue (S.told sink.old) → IsTrue (S.told sink.new) }
 {
     put_text(sink, words.as_bytes())?;

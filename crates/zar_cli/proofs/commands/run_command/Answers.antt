@@ -1,12 +1,27 @@
-use Rattle.std.proofs.Common.{rules, ◌≡◌, Some, Ok, refl, ap}
+use Rattle.std.proofs.Common.{rules, ◌≡◌, Some, Ok, Err, refl, ap, arith}
 use Rattle.dice_roll.specs.FastRoll.{fast_roll}
+use Rattle.gcl_core.specs.meaning.Views.{source_of}
 use Rattle.zar_io.specs.StreamBits.{stream_bits}
 use Rattle.zar_cli.specs.declared.command.Command.TheVariants.{Gen, Fast, Help}
 use Rattle.zar_cli.specs.declared.command.Source.TheVariants.{Stream}
 use Rattle.zar_cli.specs.declared.said.Said.TheVariants.{Shown, Rolled, Helped}
 use Rattle.zar_cli.specs.Counts.{IsGeneratedText}
 use Rattle.zar_cli.proofs.Alone.{said_alone}
+use Rattle.zar_cli.proofs.Saying.{said_as}
+use Rattle.zar_cli.proofs.Worked.{refused_checked, worked_after}
 use Rattle.zar_cli.proofs.commands.run_command.Goals as goal
+
+pub returns-in_err-checked-in-Checked-clause-said : goal.returns-in_err-checked-in-Checked-clause-said
+returns-in_err-checked-in-Checked-clause-said g c =
+    let e = c.in_err-checked-in-Checked.field-0.0 in
+    let out : c.from_residual.result ≡ Err e = grind arith in
+    said_as _ _ _ _ out (refused_checked _ _ _ _ c.in-Checked.is c.text.ensures _ e c.in_err-checked-in-Checked.ensures.stage c.in_err-checked-in-Checked.ensures.program)
+
+pub returns-in_ok-checked-in-Checked-clause-said : goal.returns-in_ok-checked-in-Checked-clause-said
+returns-in_ok-checked-in-Checked-clause-said g c =
+    let read = c.in_ok-checked-in-Checked.ensures in
+    worked_after _ _ _ _ c.in-Checked.is c.text.ensures (source_of c.in_ok-checked-in-Checked.checked) _ _ _ _ _ _ _ _ _ _ read.kept.same_files read.kept.same_names read.stage.counts
+    read.program c.work_on.ensures.said
 
 pub returns-in_ok-generated_text-in-Gen-clause-said : goal.returns-in_ok-generated_text-in-Gen-clause-said
 returns-in_ok-generated_text-in-Gen-clause-said g c =

@@ -12,12 +12,12 @@ three_lines t t' t'' t''' a b c e f g h = h ∙ ap (λ s. s ++ c) (g ∙ ap (λ 
 pub returns : goal.returns
 returns c =
     let statements : c.bytes.result.now ≡ number_text Statements (count_all (source_of c.args.program.now).body) =
-    c.bytes.ensures ∙ c.number_line.ensures ∙ ap (number_text Statements) (c.count_statements.ensures ∙ ap (λ p. count_all (statements_of p.body)) c.program-p.ensures.same) in
+    c.bytes.ensures.text ∙ c.number_line.ensures ∙ ap (number_text Statements) (c.count_statements.ensures ∙ ap (λ p. count_all (statements_of p.body)) c.program-p.ensures.same) in
     let length_of : c.len.result ≡ length c.in_ok-printed.printed.items = omega (arith, c.len.ensures, c.in_ok-printed.printed.ok.0) in
     let bytes : c.bytes-2.result.now ≡ number_text Bytes (length (canonical_text (source_of c.args.program.now))) =
-    c.bytes-2.ensures ∙ c.number_line-2.ensures
+    c.bytes-2.ensures.text ∙ c.number_line-2.ensures
     ∙ ap (number_text Bytes) (length_of ∙ ap length c.in_ok-printed.ensures.text ∙ ap (λ p. length (canonical_text (source_of p))) c.program-p.ensures.same) in
     three_lines c.new-text.result c.push.new.self c.push-2.new.self c.push-3.new.self _ _ _ c.new-text.ensures
     (c.in_ok-push.ensures.ok ∙ ap (λ line. c.new-text.result ++ line) statements)
     (c.in_ok-push-2.ensures.ok ∙ ap (λ line. c.push.new.self ++ line) bytes)
-    (c.in_ok-push-3.ensures.ok ∙ ap (λ line. c.push-2.new.self ++ line) (c.bytes-3.ensures ∙ c.number_line-3.ensures))
+    (c.in_ok-push-3.ensures.ok ∙ ap (λ line. c.push-2.new.self ++ line) (c.bytes-3.ensures.text ∙ c.number_line-3.ensures))

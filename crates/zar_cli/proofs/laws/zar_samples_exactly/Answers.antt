@@ -13,9 +13,9 @@ use Rattle.zar_cli.proofs.laws.zar_samples_exactly.Goals as goal
 
 -- what is said of a file of bits, from what is said of the text
 said_of : (text : List ℕ) (p : SourceProgram) (l : Limits) → Spells text p → (file : CallWord → Option (List ℕ)) (program bits : CallWord) (bytes : List ℕ) (output : Output) →
-    file program ≡ Some text → file bits ≡ Some bytes → SaysSample file program (File bits) l output → output ≡ Ok (Answered (run_on p l (file_bits bytes)))
+    file program ≡ Some text → file bits ≡ Some bytes → reading (file program) (if_spelled (λ q. SaysSample file q (File bits) l)) output → output ≡ Ok (Answered (run_on p l (file_bits bytes)))
 said_of text p l spells file program bits bytes output e d is =
-    let of_text = subst (λ b. reading b (if_spelled (λ q. on_bits (file bits) (λ w. Answered (run_on q l w)))) output) e is in
+    let of_text = subst (λ b. reading b (if_spelled (λ q. SaysSample file q (File bits) l)) output) e is in
     subst (λ b. on_bits b (λ w. Answered (run_on p l w)) output) d (of_text.program p spells)
 
 pub returns : goal.returns

@@ -1,0 +1,54 @@
+// The masses of a program, and the bits that a run of it reads on average.
+
+ghost use Rattle.std.specs.Prelude.{◌≤◌, IfSome};
+ghost use Rattle.gcl_core.specs.declared.rules.TheConstants.{MOST_LIMIT};
+ghost use Rattle.gcl_core.specs.meaning.LimitRange.{InRange};
+ghost use Rattle.gcl_core.specs.meaning.Views.{source_of};
+ghost use Rattle.mass_fold.specs.Refused.{IsLimit};
+ghost use Rattle.zar_cli.specs.declared.command.Work.TheVariants.{Cost, Mass};
+ghost use Rattle.zar_cli.specs.inner.Works.{WorksAlone};
+
+use crate::narrow::is_narrow;
+use crate::refusing::mass_refusal;
+use crate::said::Said;
+use crate::tables::masses_text;
+use cost_fold::{CostError, cost};
+use gcl_core::{Checked, Limits, refusals};
+use mass_fold::mass;
+use report_text::Refusal;
+use std::alloc::Global;
+
+/// The lines of a program's masses.
+pub fn masses_of(
+    alloc: Global,
+    program: &Checked,
+    turns: u64,
+    attempts: Option<u64>,
+    rounds: Option<u64>,
+) -> Result<Said, Refusal>
+    requires turns { turns ≤ MOST_LIMIT }
+    requires attempts { IfSome attempts IsLimit }
+    requires rounds { IfSome rounds IsLimit }
+    ensures { WorksAlone (Mass turns attempts rounds) (source_of program.now) result }
+{
+    match mass(alloc, program, turns, attempts, rounds) {
+        Ok(rows) => Ok(Said::Shown(masses_text(alloc, &rows)?)),
+        Err(error) => Err(mass_refusal(error)),
+    }
+}
+
+/// The bits that a run of a program reads on average.
+pub fn bits_of(alloc: Global, program: &Checked, limits: &Limits) -> Result<Said, Refusal>
+    requires { InRange limits.now }
+    ensures { WorksAlone (Cost limits.now) (source_of program.now) result }
+{
+    match cost(alloc, program, limits) {
+        Ok(bits) => {
+            is_narrow(&bits);
+            Ok(Said::Costed(bits))
+        }
+        Err(CostError::TooWide) => Err(Refusal::Coded(refusals::TOO_WIDE, None)),
+        Err(CostError::TooManyStates) => Err(Refusal::Coded(refusals::TOO_MANY_STATES, None)),
+        Err(CostError::OutOfMemory) => Err(Refusal::Memory),
+    }
+}

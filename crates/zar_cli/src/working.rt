@@ -1,0 +1,98 @@
+// The work on a checked program.
+
+ghost use Rattle.std.specs.Prelude.{◌-◌, ◌^◌, ◌<◌, Ok};
+ghost use Rattle.gcl_core.specs.meaning.LimitRange.{InRange};
+ghost use Rattle.gcl_core.specs.meaning.Views.{source_of};
+ghost use Rattle.gcl_core.specs.text.ReadingOrder.{count_all};
+ghost use Rattle.zar_cli.specs.declared.command.Work.TheVariants.{Runs, Check, Code};
+ghost use Rattle.stream_runs.specs.Ranges.{IsRange, IsWorkers};
+ghost use Rattle.zar_cli.specs.Range.{WorkHasRange};
+ghost use Rattle.zar_cli.specs.Seen.{files_seen};
+ghost use Rattle.zar_cli.specs.inner.Kept.{KeepsFiles};
+ghost use Rattle.zar_cli.specs.inner.Works.{Works, WorksAlone};
+
+use crate::command::{Source, Work};
+use crate::counting::{audit_of, tally_of};
+use crate::drawn::Drawn;
+use crate::hunting::found_of;
+use crate::posterior::bounds_of;
+use crate::said::Said;
+use crate::sampling::{run_on_file, run_on_stream};
+use crate::weighing::{bits_of, masses_of};
+use gcl_core::{Checked, Limits, count_statements};
+use gcl_print::Text;
+use report_text::Refusal;
+use sampler_code::list;
+use sampler_run::compile;
+use std::alloc::Global;
+use std::marker::Sync;
+use std::thread::Threads;
+use stream_runs::SeedRange;
+use zar_io::{Files, Gate};
+
+// How many statements and names a program has.
+fn size_of(program: &Checked) -> Said
+    requires { count_all (source_of program.now).body < 2 ^ 32 - 1 }
+    ensures { WorksAlone Check (source_of program.now) (Ok result) }
+{
+    let p = program.program();
+    Said::Accepted(count_statements(&p.body), p.names.count())
+}
+
+// The listing of the code that samples a program.
+fn code_of(alloc: Global, program: &Checked) -> Result<Said, Refusal>
+    ensures { WorksAlone Code (source_of program.now) result }
+{
+    let sampler = compile(alloc, program)?;
+    let text = list(alloc, sampler.code(), &program.program().names)?;
+    Ok(Said::Shown(Text::of(text)))
+}
+
+// The answers of a program's runs on the streams of a range.
+fn runs_of(program: Checked, range: &SeedRange, limits: &Limits) -> Said
+    requires limits { InRange limits.now }
+    requires range { IsRange range.now }
+    requires workers { IsWorkers range.now.workers }
+    ensures { WorksAlone (Runs range.now limits.now) (source_of program) (Ok result) }
+{
+    Said::Drawn(Drawn::of(program, *range, *limits))
+}
+
+/// What some work says of a program.
+pub fn work_on<R: Threads + Sync, F: Files, G: Gate>(
+    rt: &R,
+    alloc: Global,
+    program: Checked,
+    work: &Work,
+    files: &mut F,
+    gate: &G,
+) -> Result<Said, Refusal>
+    requires statements { count_all (source_of program).body < 2 ^ 32 - 1 }
+    requires range { WorkHasRange work.now }
+    ensures said { Works work.now (source_of program)
+        (files_seen F.told F.file F.may_be_missing F.faults F.is_open files.old files.new) result }
+    ensures kept { KeepsFiles F.file F.may_be_missing files.old files.new }
+{
+    match work {
+        Work::Sample(Source::File(bits), limits) => {
+            let answer = run_on_file(alloc, files, &program, limits, bits.text())?;
+            Ok(Said::Answered(answer))
+        }
+        Work::Sample(Source::Stream(seed, stream, budget), limits) => {
+            run_on_stream(alloc, &program, limits, *seed, *stream, *budget)
+        }
+        Work::Mass(turns, attempts, rounds) => {
+            masses_of(alloc, &program, *turns, *attempts, *rounds)
+        }
+        Work::Cost(limits) => bits_of(alloc, &program, limits),
+        Work::Posterior(turns) => bounds_of(alloc, &program, *turns),
+        Work::Audit(depth, limits) => audit_of(rt, alloc, &program, *depth, limits),
+        Work::Tally(range, limits) => tally_of(rt, alloc, &program, range, limits, gate),
+        Work::Runs(range, limits) => Ok(runs_of(program, range, limits)),
+        Work::Hunt(range, limits, want) => {
+            found_of(rt, alloc, &program, range, limits, want, gate)
+        }
+        Work::Check => Ok(size_of(&program)),
+        Work::Code => code_of(alloc, &program),
+    }
+}
