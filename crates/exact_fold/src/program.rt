@@ -119,6 +119,9 @@ fn divided(alloc: Global, round: LimitRound) -> Result<ExactMasses, SettleError>
 }
 
 /// The mass of each outcome of a program in the limit of turns, and that with which it runs for ever.
+///
+/// No clause says that it answers: of the causes `AllFailed` alone has one, and a call that always refused as too wide would keep
+/// this contract. What is tried is a table of programs, in the tests.
 pub fn exact(alloc: Global, p: &Checked) -> Result<ExactMasses, ExactError>
     ensures masses { IfOk result (λ e. IsExact (source_of p.now) e.rows e.endless) }
     ensures refused { IfErr result (WhyRefused (source_of p.now)) }

@@ -1,5 +1,5 @@
--- What strings of bits weigh comes together as the limits grow, so it tends to one number for each value and each fault. This
--- project's own rule.
+-- What strings of bits weigh in any two runs comes together as the limits grow: Cauchy's condition, in whole numbers, for that it
+-- tends to one real number for each value and each fault. This project's own rule.
 use Rattle.std.specs.Prelude.{◌≡◌, ℕ, ◌*◌, ◌≤◌, Bool, true, List}
 use Rattle.gcl_core.specs.declared.answers.Answer.{Answer}
 use Rattle.gcl_core.specs.declared.answers.Limits.{Limits}

@@ -36,7 +36,7 @@ pub fn strings_lie_between_the_bounds()
 
 /// It does nothing: its clause is the limit theorem, for every checked program where the bound of all others goes to 0 as the
 /// limit of turns grows. For each k there are limits from which on any two runs weigh each value and each fault alike, but for 1
-/// / k. So what they weigh tends to one number, which lies between the bounds at every limit of turns.
+/// / k. That is Cauchy's condition; the real number that they tend to is no part of the clause.
 pub fn runs_come_together()
     ensures { (p : SourceProgram) → IsChecked p → OthersVanish p → (k : ℕ) → ComeTogether p k }
 {}

@@ -3,8 +3,7 @@ use Rattle.std.proofs.Common.{◌≡◌, ◌∙◌, ℕ, zero, suc, ◌+◌, ◌
 use Rattle.std.proofs.Math.Seq.{take-append-add, drop-cons}
 use Rattle.std.proofs.lemmas.Grind.{flat_map-append}
 use Rattle.std.proofs.lemmas.List.{take-append-le, take-append-drop}
-use Rattle.stream_lines.specs.Lines.{texts_from}
-use Rattle.stream_lines.proofs.Fronts.{texts_joined}
+use Rattle.stream_lines.proofs.Fronts.{texts_from, texts_joined}
 
 -- texts of stretches that follow one another, from b 0 to b 1, from there to b 2, and so on
 pub follow : {X : Type 0} (f : ℕ → List ℕ) (text : X → List ℕ) (b : ℕ → ℕ) (xs : List X) → ((i : ℕ) → b i ≤ b (suc i))

@@ -1,26 +1,32 @@
 -- Texts of more numbers, and what is written of them round by round.
-use Rattle.std.proofs.Common.{◌≡◌, ◌∙◌, ℕ, zero, suc, ◌+◌, ◌-◌, ◌<◌, ◌≤◌, List, ◌++◌, length, take, append_assoc, append-nil, length-append, sym, ap, arith}
+use Rattle.std.proofs.Common.{◌≡◌, ◌∙◌, ℕ, zero, suc, ◌+◌, ◌-◌, ◌<◌, ◌≤◌, List, ◌++◌, flat_map, length, take, append_assoc, append-nil, length-append, sym, ap, arith}
+use Rattle.std.specs.List.{range_with_len}
 use Rattle.std.proofs.Math.Seq.{take-append-add}
 use Rattle.std.proofs.lemmas.List.{take-append-le}
-use Rattle.stream_lines.specs.Lines.{texts_from}
+
+-- the texts of n numbers from a on, one behind the other
+abbrev pub texts_from : (ℕ → List ℕ) → ℕ → ℕ → List ℕ
+texts_from text a n = flat_map text (range_with_len a n)
+
+-- those of n more
+texts_add : (f : ℕ → List ℕ) (a m n : ℕ) → texts_from f a (m + n) ≡ texts_from f a m ++ texts_from f (a + m) n
+texts_add f a zero n =
+    let none : 0 + n ≡ n = omega arith in
+    let place : a ≡ a + 0 = omega arith in
+    ap (texts_from f a) none ∙ ap (λ k. texts_from f k n) place
+texts_add f a (suc m) n =
+    let next : suc m + n ≡ suc (m + n) = omega arith in
+    let place : a + 1 + m ≡ a + suc m = omega arith in
+    ap (texts_from f a) next ∙ ap (λ w. f a ++ w) (texts_add f (a + 1) m n ∙ ap (λ k. texts_from f (a + 1) m ++ texts_from f k n) place)
+    ∙ sym (append_assoc (f a) (texts_from f (a + 1) m) (texts_from f (a + suc m) n))
 
 -- those of one more
 pub texts_more : (f : ℕ → List ℕ) (a at : ℕ) → a ≤ at → texts_from f a (at + 1 - a) ≡ texts_from f a (at - a) ++ f at
 texts_more f a at le =
-    let one : at + 1 - a ≡ suc (at - a) = omega arith in
+    let one : at + 1 - a ≡ (at - a) + 1 = omega arith in
     let place : a + (at - a) ≡ at = omega arith in
-    ap (texts_from f a) one ∙ ap (λ k. texts_from f a (at - a) ++ f k) place
-
--- those of n more
-texts_add : (f : ℕ → List ℕ) (a m n : ℕ) → texts_from f a (m + n) ≡ texts_from f a m ++ texts_from f (a + m) n
-texts_add f a m zero =
-    let none : m + zero ≡ m = omega arith in
-    ap (texts_from f a) none ∙ sym (append-nil (texts_from f a m))
-texts_add f a m (suc n) =
-    let next : m + suc n ≡ suc (m + n) = omega arith in
-    let place : a + (m + n) ≡ a + m + n = omega arith in
-    ap (texts_from f a) next ∙ ap (λ k. texts_from f a (m + n) ++ f k) place ∙ ap (λ w. w ++ f (a + m + n)) (texts_add f a m n)
-    ∙ append_assoc (texts_from f a m) (texts_from f (a + m) n) (f (a + m + n))
+    ap (texts_from f a) one ∙ texts_add f a (at - a) 1 ∙ ap (λ w. texts_from f a (at - a) ++ w) (append-nil (f (a + (at - a))))
+    ∙ ap (λ k. texts_from f a (at - a) ++ f k) place
 
 -- those up to `end` are those up to `at`, and those from there
 pub texts_joined : (f : ℕ → List ℕ) (a at end : ℕ) → a ≤ at → at ≤ end → texts_from f a (end - a) ≡ texts_from f a (at - a) ++ texts_from f at (end - at)

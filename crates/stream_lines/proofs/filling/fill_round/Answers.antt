@@ -1,8 +1,9 @@
 use Rattle.std.proofs.Common.{◌≡◌, ◌∙◌, ℕ, zero, suc, ◌+◌, ◌-◌, ◌<◌, ◌≤◌, List, length, get_or, ap, subst, arith}
 use Rattle.stream_lines.specs.declared.worker.Worker.{Worker}
 use Rattle.stream_lines.specs.inner.Rounds.{batch_start, lines_in, HasBatch}
-use Rattle.stream_lines.specs.Lines.{line_on, texts_from, lines_over}
+use Rattle.stream_lines.specs.Lines.{line_on, lines_over}
 use Rattle.stream_lines.proofs.Batches.{follow}
+use Rattle.stream_lines.proofs.Fronts.{texts_from}
 use Rattle.stream_lines.proofs.filling.fill_round.Goals as goal
 
 -- each worker, as its call left it
