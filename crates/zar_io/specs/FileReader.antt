@@ -1,20 +1,23 @@
--- What a reader of a file's bits shows: the files that it reads from, and the bits that it has at hand.
+-- What a reader of a file's bits shows: the record of the files that it reads from, and the bits that it has at hand.
 -- This project's own rule.
-use Rattle.std.specs.Prelude.{◌≡◌, ◌≤◌, ◌++◌, List, ℕ, Bool, [], length, slice_range}
+use Rattle.std.specs.Prelude.{◌≡◌, ◌≤◌, ◌++◌, ◌∷◌, ◌⊎◌, List, ℕ, Bool, [], length, slice_range}
 use Rattle.zar_io.specs.FileBits.{bits_left, file_bits}
+use Rattle.zar_io.specs.Trace.{World, left_in}
 use Rattle.zar_io.specs.declared.outside.Files.{Ghosts}
+use Rattle.zar_io.specs.declared.trace.Event.{Event}
+use Rattle.zar_io.specs.declared.trace.Event.TheVariants.{Read}
 use Rattle.zar_io.specs.declared.file_bits.FileBits.{FileBits}
 use Rattle.zar_io.specs.declared.file_bits.TheConstants.{BUFFER_BYTES}
 
--- the files
-abbrev pub files_of : {F : Type 0} {told : Ghosts F} → FileBits F told → F
-files_of reader = reader.files.now
+-- what the files answered
+abbrev pub answered_by : {F : Type 0} {told : Ghosts F} → (F → List Event) → FileBits F told → List Event
+answered_by answered reader = answered reader.files.now
 
--- the bits that are left, by what is left of the open file
-abbrev pub bits_to_come : {F : Type 0} {told : Ghosts F} → (F → List ℕ) → FileBits F told → List Bool
-bits_to_come unread reader =
+-- the bits that are left, over files with these bytes
+abbrev pub bits_to_come : {F : Type 0} {told : Ghosts F} → (F → List Event) → FileBits F told → World → List Bool
+bits_to_come answered reader file =
     bits_left reader.done reader.waiting reader.current (slice_range reader.buffer reader.start reader.end)
-    (unread (files_of reader))
+    (left_in file (answered_by answered reader))
 
 -- the bits of the bytes that were read, as far as they were not given yet
 abbrev pub at_hand : {F : Type 0} {told : Ghosts F} → FileBits F told → List Bool
@@ -33,9 +36,9 @@ has_failed reader = reader.broken
 abbrev pub source_of : {F : Type 0} {told : Ghosts F} → FileBits F told → ℕ
 source_of reader = reader.files.ghost_name
 
--- At most BUFFER_BYTES bytes of those that were left are read, and their bits come behind the bits at hand.
-pub record ReadsBehind (hand after : List Bool) (left rest : List ℕ) : Type 0 where
+-- Nothing is read, or one read gives at most BUFFER_BYTES bytes, and their bits come behind the bits at hand.
+pub record ReadsBehind (hand after : List Bool) (before now : List Event) : Type 0 where
   pub bytes : List ℕ
   pub few : length bytes ≤ BUFFER_BYTES
-  pub front : left ≡ bytes ++ rest
+  pub read : ((now ≡ before) × (bytes ≡ [])) ⊎ (now ≡ Read bytes ∷ before)
   pub behind : after ≡ hand ++ file_bits bytes

@@ -1,11 +1,13 @@
 //! Bits of a list, with a plan of their faults.
-ghost use Rattle.std.specs.Prelude.{◌≡◌, ◌≤◌, ◌↔◌, true, false, None, Ok, IfOk, OnErr, IsErr, IsTrue};
+ghost use Rattle.std.specs.Prelude.{◌≡◌, ◌≤◌, ◌↔◌, [], false, None, Ok, IfOk, OnErr, IsErr, IsTrue};
 ghost use Rattle.zar_io.specs.Bits.{Took, BeginsWith, ended_after, broken_after};
 ghost use Rattle.zar_io.specs.Calls.{next_number};
-ghost use Rattle.zar_io.specs.Faults.{Counts, one_more};
+ghost use Rattle.zar_io.specs.Trace.{Fails};
+ghost use Rattle.zar_io.specs.GoesOn.{GoesOn};
 ghost use Rattle.zar_io.specs.FileBits.{low_bits};
 
 use crate::calls::Calls;
+use crate::trace::{Note, Trace};
 use crate::{Bits, Failed, ListBits, Ready};
 use std::alloc::{AllocError, Global};
 
@@ -14,18 +16,18 @@ use std::alloc::{AllocError, Global};
 pub struct FaultyBits {
     list: ListBits,
     calls: Calls,
+    trace: Trace,
 }
 
 impl FaultyBits {
-    ghost use Rattle.zar_io.specs.FaultyBits.{bits_to_come, bits_faults, has_ended, has_failed, bits_fails, bits_number};
+    ghost use Rattle.zar_io.specs.FaultyBits.{bits_to_come, bits_answered, has_ended, has_failed, bits_fails, bits_number};
 
     /// The bits of the list, for which it takes the memory here, as it does for the numbers that are to fail. Its calls of `next`
     /// are numbered from 0 on. One whose number is in `fails` fails and takes no bit, unless a call before it found none left.
     /// Each other call is answered as by [`ListBits`].
     pub fn new(alloc: Global, bits: &[bool], fails: &[u64]) -> Result<FaultyBits, AllocError>
-        ensures told { IsTrue ⟦<FaultyBits as Bits>⟧.told }
         ensures left { IfOk result (λ source. bits_to_come source ≡ bits.now) }
-        ensures faults { IfOk result (λ source. bits_faults source ≡ 0) }
+        ensures answered { IfOk result (λ source. bits_answered source ≡ []) }
         ensures ended { IfOk result (λ source. has_ended source ≡ false) }
         ensures broken { IfOk result (λ source. has_failed source ≡ false) }
         ensures fails { IfOk result (λ source. bits_fails source ≡ fails.now) }
@@ -34,18 +36,18 @@ impl FaultyBits {
         Ok(FaultyBits {
             list: ListBits::new(alloc, bits)?,
             calls: Calls::new(alloc, fails)?,
+            trace: Trace::new(),
         })
     }
 }
 
+#[tactic(auto, using(crate::proofs::TraceLemmas::gone_on))]
 impl Bits for FaultyBits {
-    ghost use Rattle.zar_io.specs.FaultyBits.{bits_to_come, bits_faults, has_ended, has_failed, bits_fails, bits_number, IsToFail};
+    ghost use Rattle.zar_io.specs.FaultyBits.{bits_to_come, bits_answered, has_ended, has_failed, bits_fails, bits_number, IsToFail};
 
-    ghost faults = { bits_faults };
+    ghost answered = { bits_answered };
 
-    ghost told = { true };
-
-    ghost left = { bits_to_come };
+    ghost left = { λ s file. bits_to_come s };
 
     ghost ended = { has_ended };
 
@@ -53,17 +55,12 @@ impl Bits for FaultyBits {
 
     ghost source = { λ s. 0 };
 
-    ghost file = { λ s name. None };
-
-    ghost may_be_missing = { λ s name. false };
-
     ghost ready = { λ s. 0 };
-
-    ghost bounded = { λ s. s.calls.faults.in_range };
 
     fn next(&mut self) -> Result<Option<bool>, Failed>
         // Those of all bits.
-        ensures count { Counts result (bits_faults self.old) (bits_faults self.new) }
+        ensures failures { Fails result (bits_answered self.old) (bits_answered self.new) }
+        ensures goes_on { GoesOn [] (bits_answered self.old) (bits_answered self.new) }
         ensures bit { IfOk result (λ answer. Took answer (bits_to_come self.old) (bits_to_come self.new)) }
         ensures ended { has_ended self.new ≡ ended_after result (has_ended self.old) }
         ensures stays_ended { IsTrue (has_ended self.old) → result ≡ Ok None }
@@ -71,13 +68,13 @@ impl Bits for FaultyBits {
 
         // The plan.
         ensures fails { IsErr result ↔ IsToFail self.old }
-        ensures one_fault { OnErr result (bits_faults self.new ≡ one_more (bits_faults self.old)) }
         ensures same_bits { OnErr result (bits_to_come self.new ≡ bits_to_come self.old) }
         ensures next { bits_number self.new ≡ next_number (bits_number self.old) }
         ensures same_fails { bits_fails self.new ≡ bits_fails self.old }
     {
         if self.calls.begin() && !self.list.has_ended() {
-            return Err(self.calls.faults.count_fault());
+            self.trace = self.trace.then(&Note::Failed);
+            return Err(Failed);
         }
         Ok(self.list.take_first())
     }

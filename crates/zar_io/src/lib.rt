@@ -1,9 +1,8 @@
-//! The outside: files, sinks and sources of bits, each with a count of its faults.
+//! The outside: files, sinks and sources of bits, each with a record of what it answered.
 #![tactic(auto)]
 
 mod calls;
 mod copying;
-mod faults;
 mod faulty_bits;
 mod file_bits;
 mod gate;
@@ -16,6 +15,7 @@ mod one_file;
 mod outside;
 mod source;
 mod stream_bits;
+mod trace;
 mod writing;
 
 pub use faulty_bits::FaultyBits;
@@ -30,6 +30,7 @@ pub use one_file::OneFile;
 pub use outside::{Bits, Failed, Files, OpenError, Ready, Sink};
 pub use source::{MOST_BYTES, SourceError, read_source};
 pub use stream_bits::{MOST_BUDGET, StreamBits, streams_begin_as_published};
+pub use trace::{Event, Note, Trace};
 pub use writing::put;
 
 #[cfg(test)]

@@ -1,9 +1,9 @@
 //! The bits of a seeded stream.
-ghost use Rattle.std.specs.Prelude.{◌≡◌, ◌≢◌, ◌==◌, ◌+◌, ◌-◌, ◌/◌, ◌%◌, ◌^◌, ◌*◌, ◌<◌, ◌≤◌, min, true, false, None, IsTrue};
-ghost use Rattle.std.proofs.Common.{rules};
+ghost use Rattle.std.specs.Prelude.{◌≡◌, ◌≢◌, ◌==◌, ◌+◌, ◌-◌, ◌/◌, ◌%◌, ◌^◌, ◌*◌, ◌<◌, ◌≤◌, min, [], false, IsTrue};
 ghost use Rattle.rand_chacha.specs.ChaCha.{word_at};
 ghost use Rattle.zar_io.specs.FileBits.{low_bits};
 ghost use Rattle.zar_io.specs.StreamBits.{stream_bits, stream_word, word_bits};
+ghost use Rattle.zar_io.specs.Trace.{World};
 ghost use Rattle.zar_io.specs.declared.stream_bits.TheConstants.{MOST_BUDGET};
 
 use crate::{Bits, Failed, Ready};
@@ -14,8 +14,8 @@ use rand_core::utils::NextWord;
 /// The most bits that are read of a stream.
 pub const MOST_BUDGET: u64 = 1_000_000_000;
 
-/// The first bits of the stream that a seed and a number name, as many as the budget says. No fault is ever
-/// counted.
+/// The first bits of the stream that a seed and a number name, as many as the budget says. Nothing
+/// lies behind them, and no call fails.
 #[derive(Drop)]
 pub struct StreamBits {
     words: ChaCha20Rng,
@@ -39,9 +39,8 @@ impl StreamBits {
     /// The first `budget` bits of this stream of this seed.
     pub fn new(seed: u64, stream: u64, budget: u64) -> StreamBits
         requires { budget ≤ MOST_BUDGET }
-        ensures told { IsTrue ⟦<StreamBits as Bits>⟧.told }
-        ensures left { ⟦<StreamBits as Bits>⟧.left result ≡ stream_bits seed stream budget }
-        ensures faults { ⟦<StreamBits as Bits>⟧.faults result ≡ 0 }
+        ensures left { (file : World) → ⟦<StreamBits as Bits>⟧.left result file ≡ stream_bits seed stream budget }
+        ensures answered { ⟦<StreamBits as Bits>⟧.answered result ≡ [] }
         ensures ended { ⟦<StreamBits as Bits>⟧.ended result ≡ false }
         ensures broken { ⟦<StreamBits as Bits>⟧.broken result ≡ false }
     {
@@ -87,11 +86,9 @@ impl StreamBits {
 }
 
 impl Bits for StreamBits {
-    ghost faults = { λ s. 0 };
+    ghost answered = { λ s. [] };
 
-    ghost told = { true };
-
-    ghost left = { λ s. word_bits (word_at 10 s.words.key s.words.stream) s.given s.left };
+    ghost left = { λ s file. word_bits (word_at 10 s.words.key s.words.stream) s.given s.left };
 
     ghost ended = { λ s. s.ended };
 
@@ -99,16 +96,10 @@ impl Bits for StreamBits {
 
     ghost source = { λ s. 0 };
 
-    ghost file = { λ s name. None };
-
-    ghost may_be_missing = { λ s name. false };
-
     ghost ready = { λ s. min s.waiting s.left };
 
-    ghost bounded = { λ s. Prim.search rules };
-
     #[inline]
-    #[tactic(auto, using(crate::proofs::StreamBitsLemmas::none_left))]
+    #[tactic(auto, using(crate::proofs::StreamBitsLemmas::none_left, crate::proofs::TraceLemmas::gone_on))]
     fn next(&mut self) -> Result<Option<bool>, Failed> {
         if self.left == 0 {
             self.ended = true;

@@ -8,10 +8,10 @@ use Rattle.zar_io.proofs.stream_bits.StreamBitsBits.peek.Goals as goal
 
 pub returns-then-self-eq0-clause-bits : goal.returns-then-self-eq0-clause-bits
 unfolding low_bits
-returns-then-self-eq0-clause-bits c = λ told. (_, refl)
+returns-then-self-eq0-clause-bits c = λ file. (_, refl)
 
 pub returns-clause-bits : goal.returns-clause-bits
-returns-clause-bits c = λ told.
+returns-clause-bits c = λ file.
     let s = c.draw_word.new.self in
     let word = word_at 10 s.words.key s.words.stream in
     let count = c.min-count.result in

@@ -1,0 +1,2 @@
+pub mod AgreesOnce
+pub mod Orderly
