@@ -1,7 +1,8 @@
 //! A draw by the Fast Dice Roller over a source of bits.
-ghost use Rattle.std.specs.Prelude.{◌≡◌, ◌<◌, ◌≤◌, ◌^◌, IfOk, IsTrue};
-ghost use Rattle.zar_io.specs.Faults.{Counts};
+ghost use Rattle.std.specs.Prelude.{◌≡◌, ◌<◌, ◌≤◌, ◌^◌, [], IfOk, IsTrue};
 ghost use Rattle.zar_io.specs.Bits.{broken_after};
+ghost use Rattle.zar_io.specs.GoesOn.{GoesOn};
+ghost use Rattle.zar_io.specs.Trace.{World, Agrees, Fails};
 ghost use Rattle.dice_roll.specs.declared.rules.TheConstants as rule;
 ghost use Rattle.dice_roll.specs.FastRoll.{fast_roll};
 ghost use Rattle.dice_roll.specs.Fair.{IsFair};
@@ -15,22 +16,23 @@ use zar_io::{Bits, Failed};
 ///
 /// Where it answers `Ok`, just the bits that the answer counts are taken, each of them needed. `MoreBits` comes where a bit was
 /// needed and there was none, `Limit` where `flips` bits gave no label. `Failed` comes only where a read of the bits
-/// failed, and then a fault was counted.
-#[tactic(auto, using(crate::proofs::Fairness::fair))]
+/// failed.
+#[tactic(auto, using(crate::proofs::Fairness::fair, zar_io::proofs::TraceLemmas::gone_on))]
 pub fn roll<B: Bits>(m: u64, flips: u64, bits: &mut B) -> Result<Roll, Failed>
     requires low { rule.LEAST_LABELS ≤ m }
     requires high { m ≤ rule.MOST_LABELS }
     requires few { flips ≤ rule.MOST_FLIPS }
-    ensures answer { IfOk result (λ r. IsTrue B.told → fast_roll m flips (B.left bits.old) ≡ r) }
-    ensures taken { IfOk result (λ r. IsTrue B.told → TookEach (fast_roll m flips) r (B.left bits.old) (B.left bits.new)) }
+    ensures answer { IfOk result (λ r. (file : World) → Agrees file (B.answered bits.new)
+        → fast_roll m flips (B.left bits.old file) ≡ r) }
+    ensures taken { IfOk result (λ r. (file : World) → Agrees file (B.answered bits.new)
+        → TookEach (fast_roll m flips) r (B.left bits.old file) (B.left bits.new file)) }
     ensures within { IfOk result (IsWithin m flips) }
     ensures ended { B.ended bits.new ≡ ended_by result (B.ended bits.old) }
     ensures stays_ended { IsTrue (B.ended bits.old) → 0 < flips → result ≡ Ok (Roll.MoreBits 0) }
-    ensures count { Counts result (B.faults bits.old) (B.faults bits.new) }
+    ensures fails { Fails result (B.answered bits.old) (B.answered bits.new) }
+    ensures goes_on { GoesOn [] (B.answered bits.old) (B.answered bits.new) }
     ensures broken { B.broken bits.new ≡ broken_after result (B.broken bits.old) }
     ensures same_source { B.source bits.new ≡ B.source bits.old }
-    ensures same_files { B.file bits.new ≡ B.file bits.old }
-    ensures same_names { B.may_be_missing bits.new ≡ B.may_be_missing bits.old }
     ensures law { IsFair m }
 {
     // A number below `range`, each as likely: the strings of the bits so far that have no label, numbered.

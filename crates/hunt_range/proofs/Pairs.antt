@@ -1,5 +1,5 @@
 -- Hunters made of two lists of passes, and taken apart again.
-use Rattle.std.proofs.Common.{◌≡◌, ℕ, ◌+◌, ◌<◌, false, List, [], ◌∷◌, ◌++◌, length, All, sym, refl, ap, ◌∙◌, subst, arith}
+use Rattle.std.proofs.Common.{◌≡◌, ℕ, ◌+◌, ◌<◌, Ok, List, [], ◌∷◌, ◌++◌, length, All, sym, refl, ap, ◌∙◌, subst, arith}
 use Rattle.std.specs.List.{AllZip}
 use Rattle.std.proofs.lemmas.List.Elements.{All-nil, All-cons, All-head, All-tail}
 use Rattle.passes.specs.Total.{total}
@@ -42,9 +42,9 @@ pub record Pairing (b : Board) (l : LeastBoard) (ps : List Pass) (qs : List Leas
 
 module _ (b : Board) (l : LeastBoard) where
   pub pairing_more : (ps ps' : List Pass) (qs qs' : List LeastPass) (hs hs' : List Hunter) (p : Pass) (q : LeastPass) → Pairing b l ps qs hs → ps ≡ ps' ++ p ∷ [] → qs ≡ qs' ++ q ∷ [] →
-      hs' ≡ hs ++ record { pass = p; bid = q; failed = false } ∷ [] → Pairing b l ps' qs' hs'
+      hs' ≡ hs ++ record { pass = p; bid = q; done = Ok tt } ∷ [] → Pairing b l ps' qs' hs'
   pairing_more ps ps' qs qs' hs hs' p q i pp qq hh =
-      let h : Hunter = record { pass = p; bid = q; failed = false } in
+      let h : Hunter = record { pass = p; bid = q; done = Ok tt } in
       let a = all_pop (claim.IsPassOf b) ps ps' p pp i.passes in
       let n = all_pop claim.IsNew ps ps' p pp i.new_passes in
       let c = all_pop (least.IsPassOf l) qs qs' q qq i.bids in
@@ -67,7 +67,7 @@ pub record Parting (b : Board) (l : LeastBoard) (Hunted : Pass → LeastPass →
   pub hunted : AllZip Hunted ps qs
   pub left_passes : All (λ (h : Hunter). claim.IsPassOf b h.pass) hs
   pub left_bids : All (λ (h : Hunter). least.IsPassOf l h.bid) hs
-  pub left_hunted : All (λ (h : Hunter). h.failed ≡ false → Hunted h.pass h.bid) hs
+  pub left_hunted : All (λ (h : Hunter). h.done ≡ Ok tt → Hunted h.pass h.bid) hs
   pub each_pass : (x : ℕ) → in_passes x ps + passes_in x hs ≡ once_below x (claim.workers_of b)
   pub each_bid : (x : ℕ) → in_bids x qs + bids_in x hs ≡ once_below x (least.workers_of l)
 
@@ -82,11 +82,11 @@ zip_push R ps ps' qs qs' p q pp qq z r = subst (λ xs. AllZip R xs qs') (sym pp)
 
 module _ (b : Board) (l : LeastBoard) (Hunted : Pass → LeastPass → Type 0) where
   pub parting_more : (ps ps' : List Pass) (qs qs' : List LeastPass) (hs hs' : List Hunter) (h : Hunter) → Parting b l Hunted ps qs hs → ps' ≡ ps ++ h.pass ∷ [] → qs' ≡ qs ++ h.bid ∷ [] →
-      hs ≡ hs' ++ h ∷ [] → h.failed ≡ false → Parting b l Hunted ps' qs' hs'
+      hs ≡ hs' ++ h ∷ [] → h.done ≡ Ok tt → Parting b l Hunted ps' qs' hs'
   parting_more ps ps' qs qs' hs hs' h i pp qq hh fine =
       let a = all_pop (λ (h : Hunter). claim.IsPassOf b h.pass) hs hs' h hh i.left_passes in
       let c = all_pop (λ (h : Hunter). least.IsPassOf l h.bid) hs hs' h hh i.left_bids in
-      let w = all_pop (λ (h : Hunter). h.failed ≡ false → Hunted h.pass h.bid) hs hs' h hh i.left_hunted in
+      let w = all_pop (λ (h : Hunter). h.done ≡ Ok tt → Hunted h.pass h.bid) hs hs' h hh i.left_hunted in
       record {
         passes = all_push (claim.IsPassOf b) ps ps' h.pass pp i.passes a.1;
         bids = all_push (least.IsPassOf l) qs qs' h.bid qq i.bids c.1;
@@ -150,8 +150,8 @@ module _ (b : Board) (l : LeastBoard) (Hunted : Pass → LeastPass → Type 0) w
       bid_numbers x (h ∷ hs) [] z = absurd z
       bid_numbers x (h ∷ hs) (k ∷ ks) z = let r = bid_numbers x hs ks z.1 in let here : times x (least.numbers_of k.bid) ≡ times x (least.numbers_of h.bid) = ap (times x) z.0.same.1.1 in omega arith
 
-pub all_hunted : (Hunted : Pass → LeastPass → Type 0) (hs ks : List Hunter) → AllZip (HasWorked Hunted) hs ks → All (λ (h : Hunter). h.failed ≡ false → Hunted h.pass h.bid) ks
-all_hunted Hunted [] [] z = All-nil (λ (h : Hunter). h.failed ≡ false → Hunted h.pass h.bid)
+pub all_hunted : (Hunted : Pass → LeastPass → Type 0) (hs ks : List Hunter) → AllZip (HasWorked Hunted) hs ks → All (λ (h : Hunter). h.done ≡ Ok tt → Hunted h.pass h.bid) ks
+all_hunted Hunted [] [] z = All-nil (λ (h : Hunter). h.done ≡ Ok tt → Hunted h.pass h.bid)
 all_hunted Hunted [] (k ∷ ks) z = absurd z
 all_hunted Hunted (h ∷ hs) [] z = absurd z
-all_hunted Hunted (h ∷ hs) (k ∷ ks) z = All-cons (λ (h : Hunter). h.failed ≡ false → Hunted h.pass h.bid) k ks z.0.hunted (all_hunted Hunted hs ks z.1)
+all_hunted Hunted (h ∷ hs) (k ∷ ks) z = All-cons (λ (h : Hunter). h.done ≡ Ok tt → Hunted h.pass h.bid) k ks z.0.hunted (all_hunted Hunted hs ks z.1)

@@ -1,5 +1,6 @@
 -- One worker of a hunt: what its steps keep.
-use Rattle.std.proofs.Common.{◌≡◌, ℕ, ◌+◌, ◌-◌, max, ◌<◌, ◌≤◌, ◌⊎◌, inl, inr, ⊎_elim, Bool, true, false, Some, None, List, [], ◌∷◌, ◌++◌, sym, ap, ◌∙◌, subst, arith}
+use Rattle.std.proofs.Common.{◌≡◌, ℕ, ◌+◌, ◌-◌, max, ◌<◌, ◌≤◌, ◌⊎◌, inl, inr, ⊎_elim, Bool, true, false, Some, None, Result, List, [], ◌∷◌, ◌++◌, sym, ap, ◌∙◌, subst, arith}
+use Rattle.std.specs.declared.alloc.AllocError.{AllocError}
 use Rattle.std.proofs.lemmas.Bool.{cases_lt, true≢false}
 use Rattle.std.proofs.lemmas.Bool.Decides.{nat_tests}
 use mathlib.Core.Logic.{dite}
@@ -117,10 +118,10 @@ pub still_low : (blocks block : ℕ) (xs ys : List ℕ) → is_above block xs �
 still_low blocks block xs ys above lt is = let le = top_above block xs above in let t : top ys ≡ max (top xs) (block + 1) = ap top is ∙ top-snoc block xs in omega arith
 
 -- the worker is between two blocks again
-pub hunts_on : (b : Board) (l : LeastBoard) (Has : Pass → LeastPass → Type 0) (start h : Hunter) (p' : Pass) (q' : LeastPass) (block : ℕ) (failed : Bool) → Hunting b l Has start h →
+pub hunts_on : (b : Board) (l : LeastBoard) (Has : Pass → LeastPass → Type 0) (start h : Hunter) (p' : Pass) (q' : LeastPass) (block : ℕ) (done : Result (Unit {0}) AllocError) → Hunting b l Has start h →
     claim.IsSamePass h.pass p' → least.IsSamePass h.bid q' → block < claim.blocks_of b → is_above block (claim.dealt_to h.pass) ≡ true → claim.dealt_to p' ≡ claim.dealt_to h.pass ++ block ∷ [] →
-    claim.had_none p' ≡ false → Has p' q' → Hunting b l Has start (record { pass = p'; bid = q'; failed = failed })
-hunts_on b l Has start h p' q' block failed i same bid lt above is on searched = record {
+    claim.had_none p' ≡ false → Has p' q' → Hunting b l Has start (record { pass = p'; bid = q'; done = done })
+hunts_on b l Has start h p' q' block done i same bid lt above is on searched = record {
   pass = (same.0 ∙ i.pass.0, same.1 ∙ i.pass.1);
   bid = bid.0 ∙ i.bid;
   same = ((same.0 ∙ i.same.0.0, same.1 ∙ i.same.0.1, same.2 ∙ i.same.0.2), (bid.0 ∙ i.same.1.0, bid.1 ∙ i.same.1.1));

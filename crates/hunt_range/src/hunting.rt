@@ -1,5 +1,5 @@
 //! A hunt, from its boards to its answer.
-ghost use Rattle.std.specs.Prelude.{◌≡◌, false, Bool, List, All, IfOk, vec_len};
+ghost use Rattle.std.specs.Prelude.{◌≡◌, Bool, List, All, IfOk, Ok, vec_len};
 ghost use Rattle.gcl_core.specs.declared.answers.Answer.{Answer};
 ghost use Rattle.gcl_core.specs.meaning.LimitRange.{InRange};
 ghost use Rattle.sampler_code.specs.Assembled.{IsRunOf};
@@ -43,7 +43,7 @@ fn hunters_of(
         hunters.push(Hunter {
             pass,
             bid,
-            failed: false,
+            done: Ok(()),
         })?;
     }
     Ok(hunters)
@@ -61,7 +61,7 @@ fn close_both<G: Gate>(
     requires job { IsReadyJob job.now.limits.now job.now.range.now }
     requires fits { BelongTogether board least job.now.range.now }
     requires all { AreAll board least hunters.items }
-    requires hunted { All (λ h. h.failed ≡ false
+    requires hunted { All (λ h. h.done ≡ Ok tt
         → HasHuntedRuns job.now.sampler.now job.now.limits.now job.now.range.now want.now h.pass h.bid) hunters.items }
     ensures { IfOk result (λ found. (run : List Bool → Answer) → IsRunOf job.now.sampler.now job.now.limits.now run
         → LeastWanted (sought_of run job.now.range.now want.now) found) }
@@ -69,10 +69,8 @@ fn close_both<G: Gate>(
     let mut passes = Vec::with_capacity(alloc, hunters.len())?;
     let mut bids = Vec::with_capacity(alloc, hunters.len())?;
     while let Some(hunter) = hunters.pop() {
-        let Hunter { pass, bid, failed } = hunter;
-        if failed {
-            return Err(AllocError);
-        }
+        let Hunter { pass, bid, done } = hunter;
+        done?;
         passes.push(pass)?;
         bids.push(bid)?;
     }

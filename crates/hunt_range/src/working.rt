@@ -60,7 +60,7 @@ fn work_for<G: Gate>(
     requires ready { IsReadyHunter board.now least.now hunter.old }
     ensures { HasWorked (HasHuntedRuns job.now.sampler.now job.now.limits.now job.now.range.now want.now) hunter.old hunter.new }
 {
-    hunter.failed = work(alloc, board, least, job, want, hunter).is_err();
+    hunter.done = work(alloc, board, least, job, want, hunter);
 }
 
 /// Each hunter works in a thread of its own, where one can be made.

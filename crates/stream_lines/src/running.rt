@@ -1,12 +1,12 @@
 // The lines of a program's runs.
 
-ghost use Rattle.std.specs.Prelude.{◌≡◌, ◌<◌, ◌++◌, ℕ, length, take, IfOk, OnOk, OnErr, IsTrue};
+ghost use Rattle.std.specs.Prelude.{◌≡◌, is_err, IfOk, OnErr};
 ghost use Rattle.gcl_core.specs.meaning.LimitRange.{InRange};
 ghost use Rattle.gcl_core.specs.meaning.Runs.{run_on};
 ghost use Rattle.gcl_core.specs.meaning.Views.{source_of};
 ghost use Rattle.stream_lines.specs.Lines.{lines_of_range};
 ghost use Rattle.stream_runs.specs.Ranges.{IsRange, IsWorkers};
-ghost use Rattle.zar_io.specs.Faults.{Counts};
+ghost use Rattle.zar_io.specs.Written.{IsWritten};
 
 use crate::filling::workers_of;
 use crate::writing::write_lines;
@@ -36,14 +36,8 @@ pub fn write_runs<R: Threads + Sync, S: Sink, G: Gate>(
     requires limits { InRange limits.now }
     requires range { IsRange range.now }
     requires workers { IsWorkers range.now.workers }
-    ensures count { IfOk result (λ done. Counts done (S.faults sink.old) (S.faults sink.new)) }
-    ensures whole { IfOk result (λ done. OnOk done (IsTrue (S.told sink.old)
-        → S.written sink.new ≡ S.written sink.old ++ lines_of_range (run_on (source_of program.now) limits.now) range.now)) }
-    ensures front { IfOk result (λ done. OnErr done (IsTrue (S.told sink.old) → (n : ℕ)
-        × (n < length (lines_of_range (run_on (source_of program.now) limits.now) range.now))
-        × (S.written sink.new ≡ S.written sink.old
-        ++ take n (lines_of_range (run_on (source_of program.now) limits.now) range.now)))) }
-    ensures still_told { IsTrue (S.told sink.old) → IsTrue (S.told sink.new) }
+    ensures written { IfOk result (λ done. IsWritten (is_err done) (S.answered sink.old) (S.answered sink.new)
+        (lines_of_range (run_on (source_of program.now) limits.now) range.now)) }
     ensures untouched { OnErr result (sink.new ≡ sink.old) }
 {
     let sampler = compile(alloc, program)?;

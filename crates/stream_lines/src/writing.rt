@@ -1,13 +1,13 @@
 // Lines that are written as they come.
 
-ghost use Rattle.std.specs.Prelude.{◌≡◌, ◌<◌, ◌≤◌, ◌++◌, ℕ, Bool, List, flat_map, length, take, All, OnOk, OnErr, IsTrue};
+ghost use Rattle.std.specs.Prelude.{◌≡◌, ◌<◌, ◌≤◌, ◌++◌, ℕ, Bool, List, flat_map, length, take, All, OnOk, OnErr};
 ghost use Rattle.gcl_core.specs.declared.answers.Answer.{Answer};
 ghost use Rattle.sampler_run.specs.Held.{IsRestOf, set_back};
 ghost use Rattle.stream_lines.specs.Lines.{lines_of_range};
 ghost use Rattle.stream_lines.specs.inner.Rounds.{lines_in, IsWorkerOf};
 ghost use Rattle.stream_runs.specs.Jobs.{IsReadyJob};
 ghost use Rattle.stream_runs.specs.Ranges.{IsWorkers};
-ghost use Rattle.zar_io.specs.Faults.{Counts};
+ghost use Rattle.zar_io.specs.Trace.{Fails, written};
 
 use crate::filling::{batch_start, fill_round};
 use crate::worker::Worker;
@@ -19,12 +19,10 @@ use zar_io::{Failed, Gate, Sink, put};
 // Writes the batches of the workers, one behind the other. The first write that fails ends it: a part of their front was appended
 // then.
 fn put_round<'s, S: Sink>(sink: &mut S, workers: &[Worker<'s>]) -> Result<(), Failed>
-    ensures count { Counts result (S.faults sink.old) (S.faults sink.new) }
-    ensures whole { OnOk result (IsTrue (S.told sink.old)
-        → S.written sink.new ≡ S.written sink.old ++ flat_map lines_in workers.now) }
-    ensures front { OnErr result (IsTrue (S.told sink.old) → (n : ℕ) × (n < length (flat_map lines_in workers.now))
-        × (S.written sink.new ≡ S.written sink.old ++ take n (flat_map lines_in workers.now))) }
-    ensures still_told { IsTrue (S.told sink.old) → IsTrue (S.told sink.new) }
+    ensures fails { Fails result (S.answered sink.old) (S.answered sink.new) }
+    ensures whole { OnOk result (written (S.answered sink.new) ≡ written (S.answered sink.old) ++ flat_map lines_in workers.now) }
+    ensures front { OnErr result ((n : ℕ) × (n < length (flat_map lines_in workers.now))
+        × (written (S.answered sink.new) ≡ written (S.answered sink.old) ++ take n (flat_map lines_in workers.now))) }
 {
     for worker in workers {
         put(sink, worker.batch.bytes())?;
@@ -45,13 +43,12 @@ pub(crate) fn write_lines<'s, R: Threads + Sync, S: Sink, G: Gate>(
     requires job { IsReadyJob job.now.limits.now job.now.range.now }
     requires workers { All (IsWorkerOf home.now) workers.old }
     requires count { IsWorkers (length workers.old) }
-    ensures count { Counts result (S.faults sink.old) (S.faults sink.new) }
-    ensures whole { OnOk result ((run : List Bool → Answer) → IsRestOf (set_back home.now) run → IsTrue (S.told sink.old)
-        → S.written sink.new ≡ S.written sink.old ++ lines_of_range run job.now.range.now) }
-    ensures front { OnErr result ((run : List Bool → Answer) → IsRestOf (set_back home.now) run → IsTrue (S.told sink.old)
+    ensures fails { Fails result (S.answered sink.old) (S.answered sink.new) }
+    ensures whole { OnOk result ((run : List Bool → Answer) → IsRestOf (set_back home.now) run
+        → written (S.answered sink.new) ≡ written (S.answered sink.old) ++ lines_of_range run job.now.range.now) }
+    ensures front { OnErr result ((run : List Bool → Answer) → IsRestOf (set_back home.now) run
         → (n : ℕ) × (n < length (lines_of_range run job.now.range.now))
-        × (S.written sink.new ≡ S.written sink.old ++ take n (lines_of_range run job.now.range.now))) }
-    ensures still_told { IsTrue (S.told sink.old) → IsTrue (S.told sink.new) }
+        × (written (S.answered sink.new) ≡ written (S.answered sink.old) ++ take n (lines_of_range run job.now.range.now))) }
 {
     let to = job.range.to;
     let mut at = job.range.from;

@@ -1,5 +1,5 @@
 -- Lists of shares, before the workers run and after.
-use Rattle.std.proofs.Common.{◌≡◌, ℕ, Bool, true, false, List, [], ◌∷◌, All, length, map, reverse, take, drop, ◌++◌, refl, sym, ap, ◌∙◌, arith}
+use Rattle.std.proofs.Common.{◌≡◌, ℕ, Bool, true, false, Ok, List, [], ◌∷◌, All, length, map, reverse, take, drop, ◌++◌, refl, sym, ap, ◌∙◌, arith}
 use Rattle.std.specs.List.{AllZip}
 use Rattle.std.proofs.Math.Seq.{take-append_seam}
 use Rattle.std.proofs.lemmas.List.Elements.{All-nil, All-cons, All-head, All-tail, length_all_zip}
@@ -49,15 +49,15 @@ pub record Done (b : Board) (c : Assembled) (l : Limits) (r : SeedRange) (es fs 
       total (λ (f : Entry). count_in (entry_table f) key) fs ≡ total (λ (f : Entry). total (count_block run r key) (dealt_to (entry_pass f))) fs
 
 pub shares_done : (b : Board) (c : Assembled) (l : Limits) (r : SeedRange) (es fs : List Entry) → All (λ (e : Entry). IsReady b r e.share) es → AllZip (IsWorked c l r) es fs →
-    All (λ (f : Entry). f.failed ≡ false) fs → Done b c l r es fs
+    All (λ (f : Entry). f.done ≡ Ok tt) fs → Done b c l r es fs
 shares_done b c l r [] [] ready z ok = record { passes = All-nil (λ (f : Entry). IsPassOf b (entry_pass f)); ended = All-nil (λ (f : Entry). had_none (entry_pass f) ≡ true); numbers = λ x. refl; counts = λ run is key. refl }
 shares_done b c l r [] (f ∷ fs) ready z ok = absurd z
 shares_done b c l r (e ∷ es) [] ready z ok = absurd z
 shares_done b c l r (e ∷ es) (f ∷ fs) ready z ok =
     let first : IsReady b r e.share = All-head (λ (e : Entry). IsReady b r e.share) e es ready in
     let worked : IsWorked c l r e f = z.0 in
-    let counted : IsCounted c l r f.share = worked.counted (All-head (λ (f : Entry). f.failed ≡ false) f fs ok) in
-    let rest = shares_done b c l r es fs (All-tail (λ (e : Entry). IsReady b r e.share) e es ready) z.1 (All-tail (λ (f : Entry). f.failed ≡ false) f fs ok) in record {
+    let counted : IsCounted c l r f.share = worked.counted (All-head (λ (f : Entry). f.done ≡ Ok tt) f fs ok) in
+    let rest = shares_done b c l r es fs (All-tail (λ (e : Entry). IsReady b r e.share) e es ready) z.1 (All-tail (λ (f : Entry). f.done ≡ Ok tt) f fs ok) in record {
       passes = All-cons (λ (f : Entry). IsPassOf b (entry_pass f)) f fs (worked.pass.0 ∙ first.pass.0, worked.pass.1 ∙ first.pass.1) rest.passes;
       ended = All-cons (λ (f : Entry). had_none (entry_pass f) ≡ true) f fs counted.ended rest.ended;
       numbers = λ x. let same = ap (times x) worked.pass.2 in let t = rest.numbers x in omega arith;

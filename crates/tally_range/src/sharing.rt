@@ -1,6 +1,6 @@
 // Making shares, and taking them apart.
 
-ghost use Rattle.std.specs.Prelude.{◌≡◌, ◌<◌, ◌^◌, [], false, map, reverse, All, IfOk};
+ghost use Rattle.std.specs.Prelude.{◌≡◌, ◌<◌, ◌^◌, [], map, reverse, All, IfOk, Ok};
 ghost use Rattle.gcl_core.specs.declared.answers.TallyKey.{TallyKey};
 ghost use Rattle.passes.specs.Total.{total};
 ghost use Rattle.tally_range.specs.Rows.{IsTally};
@@ -49,28 +49,27 @@ pub(crate) fn share_out(alloc: Global, mut passes: Vec<Pass>) -> Result<Vec<Entr
     while let Some(pass) = passes.pop() {
         entries.push(Entry {
             share: Share::new(alloc, pass),
-            failed: false,
+            done: Ok(()),
         })?;
     }
     Ok(entries)
 }
 
-// The passes and the tables, in the opposite order. An error comes where memory runs out, or where a worker found none.
+// The passes and the tables, in the opposite order. An error comes where memory runs out, or
+// where it did for a worker.
 pub(crate) fn gather(
     alloc: Global,
     mut entries: Vec<Entry>,
 ) -> Result<(Vec<Pass>, Vec<Tally>), AllocError>
     ensures passes { IfOk result (λ r. reverse r.0.items ≡ map entry_pass entries.items) }
     ensures tables { IfOk result (λ r. reverse r.1.items ≡ map entry_table entries.items) }
-    ensures worked { IfOk result (λ r. All (λ e. e.failed ≡ false) entries.items) }
+    ensures worked { IfOk result (λ r. All (λ e. e.done ≡ Ok tt) entries.items) }
 {
     let mut passes = Vec::with_capacity(alloc, entries.len())?;
     let mut tables = Vec::with_capacity(alloc, entries.len())?;
     while let Some(entry) = entries.pop() {
-        let Entry { share, failed } = entry;
-        if failed {
-            return Err(AllocError);
-        }
+        let Entry { share, done } = entry;
+        done?;
         let (pass, table) = share.parts();
         passes.push(pass)?;
         tables.push(table)?;

@@ -51,7 +51,7 @@ fn work_entry<G: Gate>(board: &Board, job: &Job<'_, G>, entry: &mut Entry)
     requires ready { IsReady board.now job.now.range.now entry.old.share }
     ensures { IsWorked job.now.sampler.now job.now.limits.now job.now.range.now entry.old entry.new }
 {
-    let done = work(
+    entry.done = work(
         board,
         &mut entry.share,
         job.sampler,
@@ -59,7 +59,6 @@ fn work_entry<G: Gate>(board: &Board, job: &Job<'_, G>, entry: &mut Entry)
         job.range,
         job.gate,
     );
-    entry.failed = done.is_err();
 }
 
 // Each entry's worker runs in a thread of its own, where one can be made.

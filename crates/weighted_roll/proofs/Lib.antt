@@ -7,8 +7,10 @@ pub mod Costs
 pub mod Taking
 pub mod Places
 pub mod Tabled
+pub mod Stepping
 pub mod Optimality
 pub mod Fast
 pub mod Givens
 pub mod Weighing
 pub mod Listing
+pub mod Summing

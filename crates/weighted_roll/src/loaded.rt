@@ -1,7 +1,8 @@
 //! Weights that are laid out once and rolled by often: a loaded die.
-ghost use Rattle.std.specs.Prelude.{◌≡◌, ◌<◌, ◌≤◌, length, IfOk, IsTrue};
-ghost use Rattle.zar_io.specs.Faults.{Counts};
+ghost use Rattle.std.specs.Prelude.{◌≡◌, ◌<◌, ◌≤◌, [], length, IfOk, IsTrue};
 ghost use Rattle.zar_io.specs.Bits.{broken_after};
+ghost use Rattle.zar_io.specs.GoesOn.{GoesOn};
+ghost use Rattle.zar_io.specs.Trace.{World, Agrees, Fails};
 ghost use Rattle.dice_roll.specs.Rolled.{TookEach, IsWithin, ended_by};
 ghost use Rattle.dice_roll.specs.declared.rules.TheConstants as dice_rule;
 ghost use Rattle.weighted_roll.specs.declared.rules.TheConstants as rule;
@@ -10,6 +11,7 @@ ghost use Rattle.weighted_roll.specs.WeightedRoll.{weighted_roll};
 
 use crate::columns::Column;
 use crate::table::Table;
+use crate::word_flips::walk_on;
 use dice_roll::Roll;
 use std::alloc::{AllocError, Global};
 use std::marker::Model;
@@ -48,30 +50,34 @@ impl Loaded {
 
     /// Draws as [`roll`](crate::roll) does. `room` lends room for a number a label, which is used behind the columns that are
     /// laid out.
+    #[tactic(auto, using(zar_io::proofs::TraceLemmas::gone_on))]
     pub fn roll<B: Bits>(&self, room: &mut [u64], flips: u64, bits: &mut B) -> Result<Roll, Failed>
         requires long { length room.old ≡ length self.now }
         requires few { flips ≤ dice_rule.MOST_FLIPS }
-        ensures answer { IfOk result (λ r. IsTrue B.told → weighted_roll self.now flips (B.left bits.old) ≡ r) }
-        ensures taken { IfOk result (λ r. IsTrue B.told
-            → TookEach (weighted_roll self.now flips) r (B.left bits.old) (B.left bits.new)) }
+        ensures answer { IfOk result (λ r. (file : World) → Agrees file (B.answered bits.new)
+            → weighted_roll self.now flips (B.left bits.old file) ≡ r) }
+        ensures taken { IfOk result (λ r. (file : World) → Agrees file (B.answered bits.new)
+            → TookEach (weighted_roll self.now flips) r (B.left bits.old file) (B.left bits.new file)) }
         ensures within { IfOk result (IsWithin (length self.now) flips) }
         ensures ended { B.ended bits.new ≡ ended_by result (B.ended bits.old) }
         ensures stays_ended { IsTrue (B.ended bits.old) → 0 < flips → result ≡ Ok (Roll.MoreBits 0) }
-        ensures count { Counts result (B.faults bits.old) (B.faults bits.new) }
+        ensures fails { Fails result (B.answered bits.old) (B.answered bits.new) }
+        ensures goes_on { GoesOn [] (B.answered bits.old) (B.answered bits.new) }
         ensures broken { B.broken bits.new ≡ broken_after result (B.broken bits.old) }
         ensures same_source { B.source bits.new ≡ B.source bits.old }
-        ensures same_files { B.file bits.new ≡ B.file bits.old }
-        ensures same_names { B.may_be_missing bits.new ≡ B.may_be_missing bits.old }
+        ensures same_room { length room.new ≡ length room.old }
     {
         let table = &self.table;
+        let mut read: u64 = 0;
         let mut number: u64 = 0;
-        for read in 0..flips {
-            match bits.next()? {
+        while read < flips {
+            match walk_on(table, room, read, number, flips, bits)? {
                 None => return Ok(Roll::MoreBits(read)),
-                Some(bit) => match table.step(room, read as usize, 2 * number + u64::from(bit)) {
-                    Column::Leaf(label) => return Ok(Roll::Label(label, read + 1)),
-                    Column::Rest(left) => number = left,
-                },
+                Some((Column::Leaf(label), after)) => return Ok(Roll::Label(label, after)),
+                Some((Column::Rest(left), after)) => {
+                    number = left;
+                    read = after;
+                }
             }
         }
         Ok(Roll::Limit(flips))

@@ -1,8 +1,9 @@
 //! A draw by weights over a source of bits.
-ghost use Rattle.std.specs.Prelude.{◌≡◌, ◌<◌, ◌≤◌, length, IfOk, IsTrue};
+ghost use Rattle.std.specs.Prelude.{◌≡◌, ◌<◌, ◌≤◌, [], length, IfOk, IsTrue};
 ghost use Rattle.std.specs.List.{sum};
-ghost use Rattle.zar_io.specs.Faults.{Counts};
 ghost use Rattle.zar_io.specs.Bits.{broken_after};
+ghost use Rattle.zar_io.specs.GoesOn.{GoesOn};
+ghost use Rattle.zar_io.specs.Trace.{World, Agrees, Fails};
 ghost use Rattle.dice_roll.specs.Rolled.{TookEach, IsWithin, ended_by};
 ghost use Rattle.dice_roll.specs.declared.rules.TheConstants as dice_rule;
 ghost use Rattle.weighted_roll.specs.declared.rules.TheConstants as rule;
@@ -25,8 +26,8 @@ pub(crate) fn sum_of(weights: &[u64]) -> u64
 /// memory: `rests` lends room for a number a label.
 ///
 /// Where it answers `Ok`, just the bits that the answer counts are taken, each of them needed. `MoreBits` comes where a bit was
-/// needed and there was none, `Limit` where `flips` bits gave no label. `Failed` comes only where a read of the bits failed, and
-/// then a fault was counted.
+/// needed and there was none, `Limit` where `flips` bits gave no label. `Failed` comes only where a read of the bits failed.
+#[tactic(auto, using(zar_io::proofs::TraceLemmas::gone_on))]
 pub fn roll<B: Bits>(
     weights: &[u64],
     rests: &mut [u64],
@@ -36,17 +37,17 @@ pub fn roll<B: Bits>(
     requires room { length rests.old ≡ length weights.now }
     requires weights { AreWeights weights.now }
     requires few { flips ≤ dice_rule.MOST_FLIPS }
-    ensures answer { IfOk result (λ r. IsTrue B.told → weighted_roll weights.now flips (B.left bits.old) ≡ r) }
-    ensures taken { IfOk result (λ r. IsTrue B.told
-        → TookEach (weighted_roll weights.now flips) r (B.left bits.old) (B.left bits.new)) }
+    ensures answer { IfOk result (λ r. (file : World) → Agrees file (B.answered bits.new)
+        → weighted_roll weights.now flips (B.left bits.old file) ≡ r) }
+    ensures taken { IfOk result (λ r. (file : World) → Agrees file (B.answered bits.new)
+        → TookEach (weighted_roll weights.now flips) r (B.left bits.old file) (B.left bits.new file)) }
     ensures within { IfOk result (IsWithin (length weights.now) flips) }
     ensures ended { B.ended bits.new ≡ ended_by result (B.ended bits.old) }
     ensures stays_ended { IsTrue (B.ended bits.old) → 0 < flips → result ≡ Ok (Roll.MoreBits 0) }
-    ensures count { Counts result (B.faults bits.old) (B.faults bits.new) }
+    ensures fails { Fails result (B.answered bits.old) (B.answered bits.new) }
+    ensures goes_on { GoesOn [] (B.answered bits.old) (B.answered bits.new) }
     ensures broken { B.broken bits.new ≡ broken_after result (B.broken bits.old) }
     ensures same_source { B.source bits.new ≡ B.source bits.old }
-    ensures same_files { B.file bits.new ≡ B.file bits.old }
-    ensures same_names { B.may_be_missing bits.new ≡ B.may_be_missing bits.old }
     ensures same_room { length rests.new ≡ length rests.old }
 {
     let whole = sum_of(weights);

@@ -8,7 +8,7 @@ use frac128::Frac;
 use std::alloc::{AllocError, Global};
 use std::test::Fail;
 use std::thread::{Threads, join};
-use zar_io::ListBits;
+use zar_io::{FaultyBits, ListBits};
 
 // 3/6, 2/6 and 1/6 are .1, .0101.. and .0010..: on 0 label 0, on 10 label 1, on 110 label 2, on 1110 label 1.
 const ROLLS: &[(&[bool], u64, Roll)] = &[
@@ -35,7 +35,7 @@ fn rolls_by_weights(rt: HostRuntime) -> Result<(), Fail> {
     Ok(())
 }
 
-// Columns that are laid out, and those behind them.
+// Columns that are laid out, and those behind them, by words of bits and by single ones.
 #[test]
 fn rolls_alike_at_every_depth(rt: HostRuntime) -> Result<(), Fail> {
     let weights: [u64; 3] = [3, 2, 1];
@@ -45,12 +45,13 @@ fn rolls_alike_at_every_depth(rt: HostRuntime) -> Result<(), Fail> {
         for (bits, flips, want) in ROLLS {
             assert!(rt; *flips <= 9);
             let mut room: [u64; 3] = [0; 3];
-            let mut bits = ListBits::new(rt.alloc(), bits)?;
-            assert_eq!(rt;
-                loaded.roll(&mut room, *flips, &mut bits),
-                Ok(*want),
-                "depth {depth}"
-            );
+            let mut words = ListBits::new(rt.alloc(), bits)?;
+            let by_words = loaded.roll(&mut room, *flips, &mut words);
+            assert_eq!(rt; by_words, Ok(*want), "depth {depth}");
+            // None of these lies ready, and no call of them fails.
+            let mut single = FaultyBits::new(rt.alloc(), bits, &[])?;
+            let bit_by_bit = loaded.roll(&mut room, *flips, &mut single);
+            assert_eq!(rt; bit_by_bit, Ok(*want), "depth {depth}");
         }
     }
     Ok(())

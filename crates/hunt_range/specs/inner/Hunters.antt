@@ -1,5 +1,5 @@
 -- What a worker's passes say before and after its work.
-use Rattle.std.specs.Prelude.{ℕ, ◌<◌, ◌≤◌, ◌≡◌, ◌⊎◌, ◌+◌, true, false, Bool, List, [], All}
+use Rattle.std.specs.Prelude.{ℕ, ◌<◌, ◌≤◌, ◌≡◌, ◌⊎◌, ◌+◌, true, Ok, Bool, List, [], All}
 use Rattle.passes.specs.Numbers.{times, EachOnce}
 use Rattle.claim_board.specs.declared.pass.Board.{Board}
 use Rattle.claim_board.specs.declared.pass.Pass.{Pass}
@@ -62,7 +62,7 @@ IsSameHunter h k = claim.IsSamePass h.pass k.pass × least.IsSamePass h.bid k.bi
 -- the same passes, and where memory did not run out the worker has hunted
 pub record HasWorked (Hunted : Pass → LeastPass → Type 0) (h k : Hunter) : Type 0 where
   pub same : IsSameHunter h k
-  pub hunted : k.failed ≡ false → Hunted k.pass k.bid
+  pub hunted : k.done ≡ Ok tt → Hunted k.pass k.bid
 
 -- all passes of both boards, each once
 pub record AreAll (b : Board) (l : LeastBoard) (hs : List Hunter) : Type 0 where

@@ -1,5 +1,5 @@
 -- What is left of a share by the thread that worked on it.
-use Rattle.std.specs.Prelude.{◌≡◌, false, Bool, List}
+use Rattle.std.specs.Prelude.{◌≡◌, Ok, Bool, List}
 use Rattle.gcl_core.specs.declared.answers.Answer.{Answer}
 use Rattle.gcl_core.specs.declared.answers.Limits.{Limits}
 use Rattle.gcl_core.specs.declared.answers.TallyKey.{TallyKey}
@@ -23,7 +23,7 @@ entry_table e = table_of e.share
 -- the same pass, and where memory did not run out its blocks are counted
 pub record IsWorked (c : Assembled) (l : Limits) (r : SeedRange) (e f : Entry) : Type 0 where
   pub pass : IsSamePass (pass_of e.share) (pass_of f.share)
-  pub counted : f.failed ≡ false → IsCounted c l r f.share
+  pub counted : f.done ≡ Ok tt → IsCounted c l r f.share
 
 -- what the tables count together is what the blocks that were dealt to the passes count
 abbrev pub HaveCounted : Assembled → Limits → SeedRange → List Pass → List Rows → Type 0

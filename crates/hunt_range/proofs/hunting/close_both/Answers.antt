@@ -11,7 +11,7 @@ loop-hunter-preserved g c =
     parting_more c.args.board c.args.least (HasHuntedRuns c.args.job.now.sampler.now c.args.job.now.limits.now c.args.job.now.range.now c.args.want.now)
     c.loop-hunter.passes.items c.push.new.self.items c.loop-hunter.bids.items c.push-in-Some.new.self.items c.loop-hunter.hunters.items c.pop.new.self.items
     c.in-Some.hunter
-    c.loop-hunter.invariant c.in_ok-push.ensures.items c.in_ok-push-2.ensures.items c.in-Some.ensures.items c.if-failed.false
+    c.loop-hunter.invariant c.in_ok-push.ensures.items c.in_ok-push-2.ensures.items c.in-Some.ensures.items (search rules)
 
 pub returns-then-found-job : goal.returns-then-found-job
 returns-then-found-job g c = λ run is.

@@ -1,4 +1,4 @@
-use Rattle.std.proofs.Common.{rules, ◌≡◌, ℕ, false, List, ◌++◌, length, take, drop, All, sym, ap, ◌∙◌, subst}
+use Rattle.std.proofs.Common.{rules, ◌≡◌, ℕ, Ok, List, ◌++◌, length, take, drop, All, sym, ap, ◌∙◌, subst}
 use Rattle.std.specs.List.{AllZip}
 use Rattle.std.proofs.Math.Seq.{take-append_seam}
 use Rattle.std.proofs.lemmas.List.Elements.{length_all_zip}
@@ -27,5 +27,5 @@ close_both-requires-clause-hunted g c κs within =
     let new : List Hunter = c.run_all.new.hunters in
     let worked : AllZip R old new = subst (λ (l : List Hunter). AllZip R l new) c.as_mut_slice.ensures.value c.run_all.ensures in
     let wide : c.in_ok-hunters.hunters.len ≡ length old = search rules in
-    subst (All (λ (h : Hunter). h.failed ≡ false → HasHuntedRuns c.args.s.now c.args.l.now c.args.range.now c.args.want.now h.pass h.bid)) (sym
+    subst (All (λ (h : Hunter). h.done ≡ Ok tt → HasHuntedRuns c.args.s.now c.args.l.now c.args.range.now c.args.want.now h.pass h.bid)) (sym
     (left c.in_ok-hunters.hunters.len R old new wide worked)) (all_hunted (HasHuntedRuns c.args.s.now c.args.l.now c.args.range.now c.args.want.now) old new worked)

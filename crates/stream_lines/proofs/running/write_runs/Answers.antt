@@ -1,8 +1,8 @@
 use Rattle.std.proofs.Common.{refl, [], sym, subst}
-use Rattle.std.proofs.lemmas.Result.{on_err_weaker, on_ok_weaker}
 use Rattle.gcl_core.specs.meaning.Runs.{run_on}
 use Rattle.gcl_core.specs.meaning.Views.{source_of}
 use Rattle.sampler_run.specs.Held.{Held, IsRestOf, StandsAfter, set_back}
+use Rattle.stream_lines.proofs.Taken.{lines_taken}
 use Rattle.stream_lines.proofs.running.write_runs.Goals as goal
 
 pub workers_of-requires : goal.workers_of-requires
@@ -10,16 +10,9 @@ workers_of-requires g c =
     let start = c.in_ok-home.ensures.start in
     record { stands = subst (λ (s : Held). StandsAfter [] s c.in_ok-home.home) (sym start) c.in_ok-home.ensures.rest; same = refl }
 
-pub returns-clause-whole : goal.returns-clause-whole
-returns-clause-whole g c =
+pub returns-clause-written : goal.returns-clause-written
+returns-clause-written g c =
     let is : IsRestOf (set_back c.in_ok-home.home) (run_on (source_of c.args.program.now) c.args.limits.now) =
     subst (λ (h : Held). IsRestOf h (run_on (source_of c.args.program.now) c.args.limits.now)) (sym c.in_ok-home.ensures.start)
     (c.in_ok-sampler.ensures.runs c.args.limits.now c.requires.limits) in
-    on_ok_weaker c.write_lines.result (λ written. written (run_on (source_of c.args.program.now) c.args.limits.now) is) c.write_lines.ensures.whole
-
-pub returns-clause-front : goal.returns-clause-front
-returns-clause-front g c =
-    let is : IsRestOf (set_back c.in_ok-home.home) (run_on (source_of c.args.program.now) c.args.limits.now) =
-    subst (λ (h : Held). IsRestOf h (run_on (source_of c.args.program.now) c.args.limits.now)) (sym c.in_ok-home.ensures.start)
-    (c.in_ok-sampler.ensures.runs c.args.limits.now c.requires.limits) in
-    on_err_weaker c.write_lines.result (λ written. written (run_on (source_of c.args.program.now) c.args.limits.now) is) c.write_lines.ensures.front
+    lines_taken (run_on (source_of c.args.program.now) c.args.limits.now) c.args.range.now c.write_lines.result _ _ _ is c.write_lines.ensures.fails c.write_lines.ensures.whole c.write_lines.ensures.front

@@ -1,4 +1,5 @@
 use Rattle.std.proofs.Common.{◌≡◌, ◌∙◌, ◌≤◌, Result, Ok, Err, OnErr, flat_map, sym, ap, arith}
+use Rattle.zar_io.specs.Trace.{written}
 use Rattle.stream_lines.specs.Lines.{line_on, lines_over}
 use Rattle.stream_lines.specs.inner.Rounds.{lines_in}
 use Rattle.stream_lines.proofs.Fronts.{round_behind, round_cut}
@@ -9,16 +10,16 @@ on_err (Ok a) p = tt
 on_err (Err e) p = p
 
 pub returns-in_err-put_round-clause-front : goal.returns-in_err-put_round-clause-front
-returns-in_err-put_round-clause-front g c = on_err c.from_residual.result (λ run is told.
+returns-in_err-put_round-clause-front g c = on_err c.from_residual.result (λ run is.
     let i = c.loop-at.invariant in
     let r = c.args.job.now.range.now in
-    let cut = c.in_err-put_round.ensures.front (i.5 told) in
+    let cut = c.in_err-put_round.ensures.front in
     let end = c.batch_start-end.ensures in
     let lines : flat_map lines_in c.fill_round.new.workers ≡ lines_over run r.seed r.budget c.loop-at.at c.batch_start-end.result =
     c.fill_round.ensures.lines run is ∙ ap (lines_over run r.seed r.budget c.loop-at.at) (sym end) in
     round_cut (line_on run r.seed r.budget) r.from c.loop-at.at c.batch_start-end.result r.to cut.0
-    (g.S.Sink.written c.args.sink.now) (g.S.Sink.written c.loop-at.sink) (g.S.Sink.written c.put_round.new.sink) (flat_map lines_in c.fill_round.new.workers)
-    i.0 (omega (arith, end, i.1)) (omega (arith, end)) lines (i.6 run is told) cut.1 cut.2)
+    (written (g.S.Sink.answered c.args.sink.now)) (written (g.S.Sink.answered c.loop-at.sink)) (written (g.S.Sink.answered c.put_round.new.sink)) (flat_map lines_in c.fill_round.new.workers)
+    i.0 (omega (arith, end, i.1)) (omega (arith, end)) lines (i.5 run is) cut.1 cut.2)
 
 pub loop-at-preserved : goal.loop-at-preserved
 loop-at-preserved g c =
@@ -30,14 +31,13 @@ loop-at-preserved g c =
       omega (arith, end),
       c.fill_round.ensures.workers,
       c.fill_round.ensures.count ∙ i.3,
-      c.in_ok-put_round.ensures.count ∙ i.4,
-      λ told. c.put_round.ensures.still_told (i.5 told),
-      λ run is told.
+      c.in_ok-put_round.ensures.fails ∙ i.4,
+      λ run is.
           let lines : flat_map lines_in c.fill_round.new.workers ≡ lines_over run r.seed r.budget c.loop-at.at c.batch_start-end.result =
           c.fill_round.ensures.lines run is ∙ ap (lines_over run r.seed r.budget c.loop-at.at) (sym end) in
           round_behind (line_on run r.seed r.budget) r.from c.loop-at.at c.batch_start-end.result
-          (g.S.Sink.written c.args.sink.now) (g.S.Sink.written c.loop-at.sink) (g.S.Sink.written c.put_round.new.sink) (flat_map lines_in c.fill_round.new.workers)
-          i.0 on lines (i.6 run is told) (c.in_ok-put_round.ensures.whole (i.5 told)),
+          (written (g.S.Sink.answered c.args.sink.now)) (written (g.S.Sink.answered c.loop-at.sink)) (written (g.S.Sink.answered c.put_round.new.sink)) (flat_map lines_in c.fill_round.new.workers)
+          i.0 on lines (i.5 run is) c.in_ok-put_round.ensures.whole,
     )
 
 pub loop-at-smaller : goal.loop-at-smaller

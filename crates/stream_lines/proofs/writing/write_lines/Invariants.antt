@@ -1,7 +1,7 @@
 use Rattle.std.proofs.Common.{◌≡◌, ◌-◌, ◌≤◌, ◌++◌, Bool, List, All, length}
-use Rattle.std.specs.Prelude.{IsTrue}
 use Rattle.gcl_core.specs.declared.answers.Answer.{Answer}
 use Rattle.sampler_run.specs.Held.{IsRestOf, set_back}
+use Rattle.zar_io.specs.Trace.{failures, written}
 use Rattle.stream_lines.specs.Lines.{lines_over}
 use Rattle.stream_lines.specs.inner.Rounds.{IsWorkerOf}
 use Rattle.stream_lines.proofs.writing.write_lines.Given as goal
@@ -10,10 +10,8 @@ abbrev pub invariant-loop-at : goal.invariant-loop-at
 invariant-loop-at g l = (l.job.range.now.from ≤ l.at) × (l.at ≤ l.job.range.now.to)
     × All (IsWorkerOf l.home) l.workers
     × (length l.workers ≡ length l.initial.workers)
-    × (g.S.Sink.faults l.sink ≡ g.S.Sink.faults l.initial.sink)
-    × (IsTrue (g.S.Sink.told l.initial.sink) → IsTrue (g.S.Sink.told l.sink))
-    × ((run : List Bool → Answer) → IsRestOf (set_back l.home) run → IsTrue (g.S.Sink.told l.initial.sink)
-    → g.S.Sink.written l.sink ≡ g.S.Sink.written l.initial.sink ++ lines_over run l.job.range.now.seed l.job.range.now.budget l.job.range.now.from l.at)
+    × (failures (g.S.Sink.answered l.sink) ≡ failures (g.S.Sink.answered l.initial.sink))
+    × ((run : List Bool → Answer) → IsRestOf (set_back l.home) run → written (g.S.Sink.answered l.sink) ≡ written (g.S.Sink.answered l.initial.sink) ++ lines_over run l.job.range.now.seed l.job.range.now.budget l.job.range.now.from l.at)
 
 abbrev pub decreases-loop-at : goal.decreases-loop-at
 decreases-loop-at g l = l.job.range.now.to - l.at

@@ -1,4 +1,4 @@
-use Rattle.std.proofs.Common.{◌≡◌, ◌++◌, false, List, All, length, map, take, drop, sym, subst, ap, ◌∙◌, rules}
+use Rattle.std.proofs.Common.{◌≡◌, ◌++◌, Ok, List, All, length, map, take, drop, sym, subst, ap, ◌∙◌, rules}
 use Rattle.std.specs.List.{AllZip}
 use Rattle.tally_range.specs.declared.share.Entry.{Entry}
 use Rattle.tally_range.specs.Shares.{IsReady}
@@ -23,7 +23,7 @@ done g c = let e = c.in_ok-entries.ensures in
     shares_done c.args.board.now c.args.job.now.sampler.now c.args.job.now.limits.now c.args.job.now.range.now c.in_ok-entries.entries.items c.run_workers.new.entries
     (shares_ready c.args.board.now c.args.job.now.range.now c.in_ok-entries.entries.items c.args.passes.items c.requires.blocks e.passes c.requires.passes c.requires.new e.empty)
     (subst (λ (l : List Entry). AllZip (IsWorked c.args.job.now.sampler.now c.args.job.now.limits.now c.args.job.now.range.now) l c.run_workers.new.entries) c.as_mut_slice.ensures.value c.run_workers.ensures)
-    (subst (λ (l : List Entry). All (λ (f : Entry). f.failed ≡ false) l) (left g c) c.in_ok-passes.ensures.worked)
+    (subst (λ (l : List Entry). All (λ (f : Entry). f.done ≡ Ok tt) l) (left g c) c.in_ok-passes.ensures.worked)
 
 pub returns-clause-passes : goal.returns-clause-passes
 returns-clause-passes g c = gathered_passes c.args.board.now c.args.job.now.sampler.now c.args.job.now.limits.now c.args.job.now.range.now c.in_ok-entries.entries.items c.run_workers.new.entries (done g c) c.in_ok-passes.passes.items c.in_ok-passes.tables.items

@@ -2,6 +2,8 @@ use Rattle.std.proofs.Common.{◌≡◌, ◌∙◌, ◌+◌, ◌-◌, ◌*◌, �
 use Rattle.std.specs.List.{sum}
 use Rattle.zar_io.specs.declared.outside.Failed.{Failed}
 use Rattle.zar_io.specs.Bits.{Took}
+use Rattle.zar_io.specs.Trace.{World, Agrees}
+use Rattle.zar_io.proofs.TraceLemmas.{agrees_before, goes_on-none, goes_on-more}
 use Rattle.dice_roll.specs.declared.answers.Roll.TheVariants.{Limit}
 use Rattle.dice_roll.proofs.Labels.{bit-le}
 use Rattle.dice_roll.proofs.Rolls.{drop_more}
@@ -14,33 +16,34 @@ use Rattle.weighted_roll.proofs.rolling.roll.Goals as goal
 pub loop-read-init : goal.loop-read-init
 loop-read-init g c = record {
   walk = walk_start c.args.weights.now _ _ c.sum_of-whole.ensures c.copy_from_slice.ensures.after c.requires.weights.below;
-  same = λ told.
+  same = λ file agrees.
       let e : c.args.flips ≡ c.args.flips - 0 = omega arith in
-      ap (λ h. weighted_from (sum c.args.weights.now) h c.args.weights.now 0 0 (g.B.Bits.left c.args.bits.now)) e
-      ∙ ap (λ b. weighted_from b (c.args.flips - 0) c.args.weights.now 0 0 (g.B.Bits.left c.args.bits.now)) (sym c.sum_of-whole.ensures)
-      ∙ ap (λ rs. weighted_from c.sum_of-whole.result (c.args.flips - 0) rs 0 0 (g.B.Bits.left c.args.bits.now)) (sym c.copy_from_slice.ensures.after);
-  taken = λ told. refl;
+      ap (λ h. weighted_from (sum c.args.weights.now) h c.args.weights.now 0 0 (g.B.Bits.left c.args.bits.now file)) e
+      ∙ ap (λ b. weighted_from b (c.args.flips - 0) c.args.weights.now 0 0 (g.B.Bits.left c.args.bits.now file)) (sym c.sum_of-whole.ensures)
+      ∙ ap (λ rs. weighted_from c.sum_of-whole.result (c.args.flips - 0) rs 0 0 (g.B.Bits.left c.args.bits.now file)) (sym c.copy_from_slice.ensures.after);
+  taken = λ file agrees. refl;
   alive = λ had_ended. refl;
-  faults = refl;
+  fails = refl;
+  goes_on = goes_on-none (g.B.Bits.answered c.args.bits.now) (g.B.Bits.answered c.args.bits.now) refl;
   ended = refl;
   broken = refl;
   source = refl;
-  files = refl;
-  names = refl;
 }
 
 pub returns-in-None-clause-answer : goal.returns-in-None-clause-answer
-returns-in-None-clause-answer g c told =
-    let w' = g.B.Bits.left c.next.new.self in
+returns-in-None-clause-answer g c file agrees =
+    let earlier = agrees_before file [] (g.B.Bits.answered c.loop-read.bits) (g.B.Bits.answered c.next.new.self) c.in_ok-next.ensures.goes_on agrees in
+    let w' = g.B.Bits.left c.next.new.self file in
     let i = c.loop-read.invariant in
-    let t = subst (λ o. Took o (g.B.Bits.left c.loop-read.bits) w') c.in-None.is (c.in_ok-next.ensures.bit told) in
-    needs c.sum_of-whole.result c.loop-read.number c.args.flips c.loop-read.read c.loop-read.rests _ _ w' (i.same told) c.loop-read-test.true t
+    let t = subst (λ o. Took o (g.B.Bits.left c.loop-read.bits file) w') c.in-None.is (c.in_ok-next.ensures.bit file agrees) in
+    needs c.sum_of-whole.result c.loop-read.number c.args.flips c.loop-read.read c.loop-read.rests _ _ w' (i.same file earlier) c.loop-read-test.true t
 
 pub returns-in-None-clause-taken : goal.returns-in-None-clause-taken
-returns-in-None-clause-taken g c told =
-    let w' = g.B.Bits.left c.next.new.self in
-    let t = subst (λ o. Took o (g.B.Bits.left c.loop-read.bits) w') c.in-None.is (c.in_ok-next.ensures.bit told) in
-    took_each c.args.weights.now c.args.flips _ _ _ (returns-in-None-clause-answer g c told) (t.1 ∙ sym t.0 ∙ sym (c.loop-read.invariant.taken told))
+returns-in-None-clause-taken g c file agrees =
+    let earlier = agrees_before file [] (g.B.Bits.answered c.loop-read.bits) (g.B.Bits.answered c.next.new.self) c.in_ok-next.ensures.goes_on agrees in
+    let w' = g.B.Bits.left c.next.new.self file in
+    let t = subst (λ o. Took o (g.B.Bits.left c.loop-read.bits file) w') c.in-None.is (c.in_ok-next.ensures.bit file agrees) in
+    took_each c.args.weights.now c.args.flips _ _ _ (returns-in-None-clause-answer g c file agrees) (t.1 ∙ sym t.0 ∙ sym (c.loop-read.invariant.taken file earlier))
 
 pub overflow_mul-number : goal.overflow_mul-number
 overflow_mul-number g c =
@@ -55,11 +58,12 @@ overflow_add-number g c =
     omega (arith, bit-le c.in-Some.bit)
 
 pub returns-in-Leaf-clause-answer : goal.returns-in-Leaf-clause-answer
-returns-in-Leaf-clause-answer g c told =
-    let w' = g.B.Bits.left c.next.new.self in
+returns-in-Leaf-clause-answer g c file agrees =
+    let earlier = agrees_before file [] (g.B.Bits.answered c.loop-read.bits) (g.B.Bits.answered c.next.new.self) c.in_ok-next.ensures.goes_on agrees in
+    let w' = g.B.Bits.left c.next.new.self file in
     let i = c.loop-read.invariant in
-    let t = subst (λ o. Took o (g.B.Bits.left c.loop-read.bits) w') c.in-Some.is (c.in_ok-next.ensures.bit told) in
-    reads_leaf c.sum_of-whole.result c.loop-read.number c.args.flips c.loop-read.read c.loop-read.rests _ _ w' (i.same told)
+    let t = subst (λ o. Took o (g.B.Bits.left c.loop-read.bits file) w') c.in-Some.is (c.in_ok-next.ensures.bit file agrees) in
+    reads_leaf c.sum_of-whole.result c.loop-read.number c.args.flips c.loop-read.read c.loop-read.rests _ _ w' (i.same file earlier)
     c.in-Some.bit c.from.result c.in-Leaf.label c.loop-read-test.true t c.from.ensures c.in-Leaf.ensures.column
 
 pub returns-in-Leaf-clause-within : goal.returns-in-Leaf-clause-within
@@ -69,11 +73,12 @@ returns-in-Leaf-clause-within g c =
     (omega arith, omega arith)
 
 pub returns-in-Leaf-clause-taken : goal.returns-in-Leaf-clause-taken
-returns-in-Leaf-clause-taken g c told =
+returns-in-Leaf-clause-taken g c file agrees =
+    let earlier = agrees_before file [] (g.B.Bits.answered c.loop-read.bits) (g.B.Bits.answered c.next.new.self) c.in_ok-next.ensures.goes_on agrees in
     let i = c.loop-read.invariant in
-    let w' = g.B.Bits.left c.next.new.self in
-    let t = subst (λ o. Took o (g.B.Bits.left c.loop-read.bits) w') c.in-Some.is (c.in_ok-next.ensures.bit told) in
-    took_each c.args.weights.now c.args.flips _ _ _ (returns-in-Leaf-clause-answer g c told) (sym (drop_more c.loop-read.read c.in-Some.bit _ _ w' (i.taken told) t))
+    let w' = g.B.Bits.left c.next.new.self file in
+    let t = subst (λ o. Took o (g.B.Bits.left c.loop-read.bits file) w') c.in-Some.is (c.in_ok-next.ensures.bit file agrees) in
+    took_each c.args.weights.now c.args.flips _ _ _ (returns-in-Leaf-clause-answer g c file agrees) (sym (drop_more c.loop-read.read c.in-Some.bit _ _ w' (i.taken file earlier) t))
 
 -- after the end no bit is answered
 still_there : {b : Bool} (o : Option Bool) → ◌≡◌ {A = Result (Option Bool) Failed} (Ok o) (Ok None) → o ≡ Some b → ⊥
@@ -81,36 +86,37 @@ still_there o e f = cc
 
 pub loop-read-preserved : goal.loop-read-preserved
 loop-read-preserved g c =
-    let w = g.B.Bits.left c.loop-read.bits in
-    let w' = g.B.Bits.left c.next.new.self in
+    let w = λ (file : World). g.B.Bits.left c.loop-read.bits file in
+    let w' = λ (file : World). g.B.Bits.left c.next.new.self file in
     let i = c.loop-read.invariant in
     let e = c.in_ok-next.ensures in
+    let before = λ (file : World) (agrees : Agrees file (g.B.Bits.answered c.next.new.self)).
+    agrees_before file [] (g.B.Bits.answered c.loop-read.bits) (g.B.Bits.answered c.next.new.self) e.goes_on agrees in
     let b = c.in-Some.bit in
     record {
       walk = walk_next c.sum_of-whole.result (length c.args.weights.now) c.loop-read.number c.from.result c.in-Rest.left c.in-Rest.left c.loop-read.rests c.pass_labels.new.rests b
           c.from.ensures i.walk c.in-Rest.ensures.column c.in-Rest.ensures.rests refl;
-      same = λ told. reads_rest c.sum_of-whole.result c.loop-read.number c.args.flips c.loop-read.read c.loop-read.rests _ w w' (i.same told)
-          b c.from.result c.in-Rest.left c.in-Rest.left c.pass_labels.new.rests c.loop-read-test.true (subst (λ o. Took o w w') c.in-Some.is (e.bit told))
+      same = λ file agrees. reads_rest c.sum_of-whole.result c.loop-read.number c.args.flips c.loop-read.read c.loop-read.rests _ (w file) (w' file) (i.same file (before file agrees))
+          b c.from.result c.in-Rest.left c.in-Rest.left c.pass_labels.new.rests c.loop-read-test.true (subst (λ o. Took o (w file) (w' file)) c.in-Some.is (e.bit file agrees))
           c.from.ensures c.in-Rest.ensures.column c.in-Rest.ensures.rests refl;
-      taken = λ told. drop_more c.loop-read.read b _ _ w' (i.taken told) (subst (λ o. Took o w w') c.in-Some.is (e.bit told));
+      taken = λ file agrees. drop_more c.loop-read.read b _ _ (w' file) (i.taken file (before file agrees)) (subst (λ o. Took o (w file) (w' file)) c.in-Some.is (e.bit file agrees));
       alive = λ had_ended. let no : ⊥ = still_there _ (e.stays_ended (i.ended ∙ had_ended)) c.in-Some.is in absurd no;
-      faults = e.count ∙ i.faults;
+      fails = e.fails ∙ i.fails;
+      goes_on = goes_on-more [] (g.B.Bits.answered c.args.bits.now) (g.B.Bits.answered c.loop-read.bits) (g.B.Bits.answered c.next.new.self) i.goes_on e.goes_on;
       ended = (rw c.in-Some.is at e.ended) ∙ i.ended;
       broken = e.broken ∙ i.broken;
       source = e.same_source ∙ i.source;
-      files = e.same_files ∙ i.files;
-      names = e.same_names ∙ i.names;
     }
 
 pub returns-clause-answer : goal.returns-clause-answer
-returns-clause-answer g c told =
+returns-clause-answer g c file agrees =
     let i = c.loop-read.invariant in
     let e : c.loop-read.read ≡ c.args.flips = omega arith in
-    spent c.sum_of-whole.result c.loop-read.number c.args.flips c.loop-read.read c.loop-read.rests _ (g.B.Bits.left c.loop-read.bits) [] (i.same told) c.loop-read-test.false
+    spent c.sum_of-whole.result c.loop-read.number c.args.flips c.loop-read.read c.loop-read.rests _ (g.B.Bits.left c.loop-read.bits file) [] (i.same file agrees) c.loop-read-test.false
     ∙ ap Limit e
 
 pub returns-clause-taken : goal.returns-clause-taken
-returns-clause-taken g c told =
+returns-clause-taken g c file agrees =
     let e : c.loop-read.read ≡ c.args.flips = omega arith in
-    took_each c.args.weights.now c.args.flips _ _ _ (returns-clause-answer g c told)
-    (sym (subst (λ n. drop n (g.B.Bits.left c.args.bits.now) ≡ g.B.Bits.left c.loop-read.bits) e (c.loop-read.invariant.taken told)))
+    took_each c.args.weights.now c.args.flips _ _ _ (returns-clause-answer g c file agrees)
+    (sym (subst (λ n. drop n (g.B.Bits.left c.args.bits.now file) ≡ g.B.Bits.left c.loop-read.bits file) e (c.loop-read.invariant.taken file agrees)))

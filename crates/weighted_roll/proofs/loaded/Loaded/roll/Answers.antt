@@ -1,137 +1,115 @@
-use Rattle.std.proofs.Common.{◌≡◌, ◌∙◌, ◌+◌, ◌-◌, ◌*◌, ◌<◌, Option, Some, None, Result, Ok, Bool, [], length, drop, refl, sym, ap, subst, arith}
-use Rattle.std.specs.List.{All, sum}
-use Rattle.zar_io.specs.declared.outside.Failed.{Failed}
-use Rattle.zar_io.specs.Bits.{Took}
+use Rattle.std.proofs.Common.{◌≡◌, ◌∙◌, ◌<◌, ◌≤◌, Option, Some, None, Result, Ok, [], drop, sym, ap, subst, arith}
+use Rattle.std.specs.Prelude.{IfSome}
 use Rattle.dice_roll.specs.declared.answers.Roll.TheVariants.{Limit}
-use Rattle.dice_roll.proofs.Labels.{bit-le}
-use Rattle.dice_roll.proofs.Rolls.{drop_more}
+use Rattle.zar_io.specs.declared.outside.Failed.{Failed}
+use Rattle.zar_io.specs.Trace.{World, Agrees}
+use Rattle.zar_io.proofs.TraceLemmas.{agrees_before, goes_on-more}
+use Rattle.weighted_roll.specs.WeightedRoll.{weighted_roll}
+use Rattle.weighted_roll.specs.inner.Walks.{StandsAt, WalkedOn}
 use Rattle.weighted_roll.specs.inner.Tables.{after_flips}
-use Rattle.weighted_roll.specs.WeightedRoll.{weighted_from, weighted_roll}
-use Rattle.weighted_roll.proofs.Passing.{leaf_below}
+use Rattle.weighted_roll.proofs.Walking.{spent}
 use Rattle.weighted_roll.proofs.Taking.{took_each}
-use Rattle.weighted_roll.proofs.Tabled.{after_one}
-use Rattle.weighted_roll.proofs.Walking.{walk_start, walk_number, walk_next, needs, reads_leaf, reads_rest, spent}
+use Rattle.weighted_roll.proofs.Stepping.{walked_none, taken_on}
 use Rattle.weighted_roll.proofs.loaded.Loaded.roll.Goals as goal
 
-pub loop-read-init : goal.loop-read-init
-loop-read-init g c =
-    let s = c.self.inside.table in
-    record {
-      walk = walk_start s.weights.items s.weights.items s.whole s.total refl (subst (λ b. All (λ a. a < b) s.weights.items) s.total s.below);
-      long = c.requires.long ∙ ap length (sym c.self.view_is);
-      held = λ lt. absurd (let no : ⊥ = omega arith in no);
-      same = λ told.
-          let e : c.args.flips ≡ c.args.flips - 0 = omega arith in
-          ap (λ h. weighted_from (sum s.weights.items) h s.weights.items 0 0 (g.B.Bits.left c.args.bits.now)) e
-          ∙ ap (λ b. weighted_from b (c.args.flips - 0) s.weights.items 0 0 (g.B.Bits.left c.args.bits.now)) (sym s.total);
-      taken = λ told. refl;
-      alive = λ had_ended. refl;
-      faults = refl;
-      ended = refl;
-      broken = refl;
-      source = refl;
-      files = refl;
-      names = refl;
-    }
+-- ---- where there is no bit
 
 pub returns-in-None-clause-answer : goal.returns-in-None-clause-answer
-returns-in-None-clause-answer g c told =
+returns-in-None-clause-answer g c file agrees =
     let s = c.self.inside.table in
-    let w' = g.B.Bits.left c.next.new.self in
     let i = c.loop-read.invariant in
-    let t = subst (λ o. Took o (g.B.Bits.left c.loop-read.bits) w') c.in-None.is (c.in_ok-next.ensures.bit told) in
-    ap (λ ws. weighted_roll ws c.args.flips (g.B.Bits.left c.args.bits.now)) (sym c.self.view_is)
-    ∙ needs s.whole c.loop-read.number c.args.flips c.loop-read.read (after_flips s.whole c.loop-read.read s.weights.items) _ _ w' (i.same told) c.loop-read-test.true t
+    let e = c.in_ok-walk_on.ensures in
+    let w = g.B.Bits.left c.loop-read.bits file in
+    let left = g.B.Bits.left c.walk_on.new.bits file in
+    let earlier = agrees_before file [] (g.B.Bits.answered c.loop-read.bits) (g.B.Bits.answered c.walk_on.new.bits) e.goes_on agrees in
+    ap (λ ws. weighted_roll ws c.args.flips (g.B.Bits.left c.args.bits.now file)) (sym c.self.view_is)
+    ∙ walked_none s.whole c.args.flips c.loop-read.read c.loop-read.number s.weights.items _ w left (i.same file earlier) c.loop-read-test.true
+    (subst (λ o. WalkedOn s.whole c.args.flips s.weights.items c.loop-read.read c.loop-read.number o w left) c.in-None.is (e.walked file agrees))
 
 pub returns-in-None-clause-taken : goal.returns-in-None-clause-taken
-returns-in-None-clause-taken g c told =
-    let w' = g.B.Bits.left c.next.new.self in
-    let t = subst (λ o. Took o (g.B.Bits.left c.loop-read.bits) w') c.in-None.is (c.in_ok-next.ensures.bit told) in
-    took_each c.args.self.now c.args.flips _ _ _ (returns-in-None-clause-answer g c told) (t.1 ∙ sym t.0 ∙ sym (c.loop-read.invariant.taken told))
-
-pub overflow_mul-number : goal.overflow_mul-number
-overflow_mul-number g c =
+returns-in-None-clause-taken g c file agrees =
     let s = c.self.inside.table in
-    let n = walk_number s.whole (length s.weights.items) c.loop-read.number (after_flips s.whole c.loop-read.read s.weights.items) s.some c.loop-read.invariant.walk in
-    let f = s.fewer in
-    omega arith
+    let e = c.in_ok-walk_on.ensures in
+    let w = g.B.Bits.left c.loop-read.bits file in
+    let left = g.B.Bits.left c.walk_on.new.bits file in
+    let earlier = agrees_before file [] (g.B.Bits.answered c.loop-read.bits) (g.B.Bits.answered c.walk_on.new.bits) e.goes_on agrees in
+    let t = subst (λ o. WalkedOn s.whole c.args.flips s.weights.items c.loop-read.read c.loop-read.number o w left) c.in-None.is (e.walked file agrees) in
+    took_each c.args.self.now c.args.flips _ _ _ (returns-in-None-clause-answer g c file agrees) (t.1 ∙ sym t.0 ∙ sym (c.loop-read.invariant.taken file earlier))
 
-pub overflow_add-number : goal.overflow_add-number
-overflow_add-number g c =
+-- ---- at a label
+
+pub returns-in-Some-Leaf-default-clause-answer : goal.returns-in-Some-Leaf-default-clause-answer
+returns-in-Some-Leaf-default-clause-answer g c file agrees =
     let s = c.self.inside.table in
-    let n = walk_number s.whole (length s.weights.items) c.loop-read.number (after_flips s.whole c.loop-read.read s.weights.items) s.some c.loop-read.invariant.walk in
-    let f = s.fewer in
-    omega (arith, bit-le c.in-Some.bit)
+    let e = c.in_ok-walk_on.ensures in
+    let n = c.in-Some-Leaf-default in
+    let w = g.B.Bits.left c.loop-read.bits file in
+    let left = g.B.Bits.left c.walk_on.new.bits file in
+    let earlier = agrees_before file [] (g.B.Bits.answered c.loop-read.bits) (g.B.Bits.answered c.walk_on.new.bits) e.goes_on agrees in
+    let t = subst (λ o. WalkedOn s.whole c.args.flips s.weights.items c.loop-read.read c.loop-read.number o w left)
+    (n.is ∙ ap (λ at. Some (at, n.after)) n.field-0-0-is) (e.walked file agrees) in
+    ap (λ ws. weighted_roll ws c.args.flips (g.B.Bits.left c.args.bits.now file)) (sym c.self.view_is) ∙ c.loop-read.invariant.same file earlier ∙ t.0
 
-pub returns-in-Leaf-clause-answer : goal.returns-in-Leaf-clause-answer
-returns-in-Leaf-clause-answer g c told =
+pub returns-in-Some-Leaf-default-clause-taken : goal.returns-in-Some-Leaf-default-clause-taken
+returns-in-Some-Leaf-default-clause-taken g c file agrees =
     let s = c.self.inside.table in
-    let w' = g.B.Bits.left c.next.new.self in
-    let i = c.loop-read.invariant in
-    let t = subst (λ o. Took o (g.B.Bits.left c.loop-read.bits) w') c.in-Some.is (c.in_ok-next.ensures.bit told) in
-    ap (λ ws. weighted_roll ws c.args.flips (g.B.Bits.left c.args.bits.now)) (sym c.self.view_is)
-    ∙ reads_leaf s.whole c.loop-read.number c.args.flips c.loop-read.read (after_flips s.whole c.loop-read.read s.weights.items) _ _ w' (i.same told)
-    c.in-Some.bit c.from.result c.in-Leaf.label c.loop-read-test.true t c.from.ensures c.in-Leaf.ensures.column
+    let e = c.in_ok-walk_on.ensures in
+    let n = c.in-Some-Leaf-default in
+    let w = g.B.Bits.left c.loop-read.bits file in
+    let left = g.B.Bits.left c.walk_on.new.bits file in
+    let earlier = agrees_before file [] (g.B.Bits.answered c.loop-read.bits) (g.B.Bits.answered c.walk_on.new.bits) e.goes_on agrees in
+    let t = subst (λ o. WalkedOn s.whole c.args.flips s.weights.items c.loop-read.read c.loop-read.number o w left) n.is (e.walked file agrees) in
+    let within = subst (λ o. IfSome o (λ p. (c.loop-read.read < p.1) × (p.1 ≤ c.args.flips))) n.is e.within in
+    took_each c.args.self.now c.args.flips _ _ _ (returns-in-Some-Leaf-default-clause-answer g c file agrees)
+    (sym (taken_on c.loop-read.read n.after _ w left (c.loop-read.invariant.taken file earlier) t.1 (omega (arith, within.0))))
 
-pub returns-in-Leaf-clause-within : goal.returns-in-Leaf-clause-within
-returns-in-Leaf-clause-within g c =
-    let s = c.self.inside.table in
-    let l = leaf_below s.whole (after_flips s.whole c.loop-read.read s.weights.items) 0 (2 * c.loop-read.number + c.from.result) c.in-Leaf.label (sym c.in-Leaf.ensures.column) in
-    let w = c.loop-read.invariant.walk.long in
-    let n = ap length c.self.view_is in
-    (omega arith, omega arith)
-
-pub returns-in-Leaf-clause-taken : goal.returns-in-Leaf-clause-taken
-returns-in-Leaf-clause-taken g c told =
-    let i = c.loop-read.invariant in
-    let w' = g.B.Bits.left c.next.new.self in
-    let t = subst (λ o. Took o (g.B.Bits.left c.loop-read.bits) w') c.in-Some.is (c.in_ok-next.ensures.bit told) in
-    took_each c.args.self.now c.args.flips _ _ _ (returns-in-Leaf-clause-answer g c told) (sym (drop_more c.loop-read.read c.in-Some.bit _ _ w' (i.taken told) t))
+-- ---- on
 
 -- after the end no bit is answered
-still_there : {b : Bool} (o : Option Bool) → ◌≡◌ {A = Result (Option Bool) Failed} (Ok o) (Ok None) → o ≡ Some b → ⊥
+still_there : {A : Type 0} {a : A} (o : Option A) → ◌≡◌ {A = Result (Option A) Failed} (Ok o) (Ok None) → o ≡ Some a → ⊥
 still_there o e f = cc
 
 pub loop-read-preserved : goal.loop-read-preserved
 loop-read-preserved g c =
     let s = c.self.inside.table in
-    let w = g.B.Bits.left c.loop-read.bits in
-    let w' = g.B.Bits.left c.next.new.self in
     let i = c.loop-read.invariant in
-    let e = c.in_ok-next.ensures in
-    let b = c.in-Some.bit in
-    let rs = after_flips s.whole c.loop-read.read s.weights.items in
-    let next = after_one s.whole c.loop-read.read s.weights.items rs _ refl refl in
+    let e = c.in_ok-walk_on.ensures in
+    let n = c.in-Some-Rest-default in
+    let w = λ (file : World). g.B.Bits.left c.loop-read.bits file in
+    let left = λ (file : World). g.B.Bits.left c.walk_on.new.bits file in
+    let before = λ (file : World) (agrees : Agrees file (g.B.Bits.answered c.walk_on.new.bits)).
+    agrees_before file [] (g.B.Bits.answered c.loop-read.bits) (g.B.Bits.answered c.walk_on.new.bits) e.goes_on agrees in
+    let at = n.is ∙ ap (λ at. Some (at, n.after)) n.field-0-0-is in
+    let within = subst (λ o. IfSome o (λ p. (c.loop-read.read < p.1) × (p.1 ≤ c.args.flips))) at e.within in
+    let walked = λ (file : World) (agrees : Agrees file (g.B.Bits.answered c.walk_on.new.bits)).
+    subst (λ o. WalkedOn s.whole c.args.flips s.weights.items c.loop-read.read c.loop-read.number o (w file) (left file)) at (e.walked file agrees) in
     record {
-      walk = walk_next s.whole (length s.weights.items) c.loop-read.number c.from.result c.in-Rest.left c.in-Rest.left rs (after_flips s.whole (c.loop-read.read + 1) s.weights.items) b
-          c.from.ensures i.walk c.in-Rest.ensures.column (sym next) refl;
-      long = omega (arith, i.long);
-      held = c.in-Rest.ensures.held;
-      same = λ told. reads_rest s.whole c.loop-read.number c.args.flips c.loop-read.read rs _ w w' (i.same told)
-          b c.from.result c.in-Rest.left c.in-Rest.left (after_flips s.whole (c.loop-read.read + 1) s.weights.items) c.loop-read-test.true (subst (λ o. Took o w w') c.in-Some.is (e.bit told))
-          c.from.ensures c.in-Rest.ensures.column (sym next) refl;
-      taken = λ told. drop_more c.loop-read.read b _ _ w' (i.taken told) (subst (λ o. Took o w w') c.in-Some.is (e.bit told));
-      alive = λ had_ended. let no : ⊥ = still_there _ (e.stays_ended (i.ended ∙ had_ended)) c.in-Some.is in absurd no;
-      faults = e.count ∙ i.faults;
-      ended = (rw c.in-Some.is at e.ended) ∙ i.ended;
+      stands = subst (λ o. IfSome o (λ p. StandsAt s.whole s.depth s.weights.items c.walk_on.new.room p.1 p.0)) at e.stands;
+      few = within.1;
+      same = λ file agrees. i.same file (before file agrees) ∙ (walked file agrees).0;
+      taken = λ file agrees. taken_on c.loop-read.read n.after _ (w file) (left file) (i.taken file (before file agrees)) (walked file agrees).1 (omega (arith, within.0));
+      alive = λ had_ended. let no : ⊥ = still_there _ (e.stays_ended (i.ended ∙ had_ended)) at in absurd no;
+      fails = e.fails ∙ i.fails;
+      goes_on = goes_on-more [] (g.B.Bits.answered c.args.bits.now) (g.B.Bits.answered c.loop-read.bits) (g.B.Bits.answered c.walk_on.new.bits) i.goes_on e.goes_on;
+      ended = (rw n.is at e.ended) ∙ i.ended;
       broken = e.broken ∙ i.broken;
       source = e.same_source ∙ i.source;
-      files = e.same_files ∙ i.files;
-      names = e.same_names ∙ i.names;
     }
 
+-- ---- at the limit
+
 pub returns-clause-answer : goal.returns-clause-answer
-returns-clause-answer g c told =
+returns-clause-answer g c file agrees =
     let s = c.self.inside.table in
     let i = c.loop-read.invariant in
-    let e : c.loop-read.read ≡ c.args.flips = omega arith in
-    ap (λ ws. weighted_roll ws c.args.flips (g.B.Bits.left c.args.bits.now)) (sym c.self.view_is)
-    ∙ spent s.whole c.loop-read.number c.args.flips c.loop-read.read (after_flips s.whole c.loop-read.read s.weights.items) _ (g.B.Bits.left c.loop-read.bits) []
-    (i.same told) c.loop-read-test.false
+    let e : c.loop-read.read ≡ c.args.flips = omega (arith, i.few, c.loop-read-test.false) in
+    ap (λ ws. weighted_roll ws c.args.flips (g.B.Bits.left c.args.bits.now file)) (sym c.self.view_is)
+    ∙ spent s.whole c.loop-read.number c.args.flips c.loop-read.read (after_flips s.whole c.loop-read.read s.weights.items) _ (g.B.Bits.left c.loop-read.bits file) []
+    (i.same file agrees) c.loop-read-test.false
     ∙ ap Limit e
 
 pub returns-clause-taken : goal.returns-clause-taken
-returns-clause-taken g c told =
-    let e : c.loop-read.read ≡ c.args.flips = omega arith in
-    took_each c.args.self.now c.args.flips _ _ _ (returns-clause-answer g c told)
-    (sym (subst (λ n. drop n (g.B.Bits.left c.args.bits.now) ≡ g.B.Bits.left c.loop-read.bits) e (c.loop-read.invariant.taken told)))
+returns-clause-taken g c file agrees =
+    let e : c.loop-read.read ≡ c.args.flips = omega (arith, c.loop-read.invariant.few, c.loop-read-test.false) in
+    took_each c.args.self.now c.args.flips _ _ _ (returns-clause-answer g c file agrees)
+    (sym (subst (λ n. drop n (g.B.Bits.left c.args.bits.now file) ≡ g.B.Bits.left c.loop-read.bits file) e (c.loop-read.invariant.taken file agrees)))
