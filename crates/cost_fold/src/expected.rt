@@ -1,6 +1,6 @@
 // The expected number of bits.
 
-ghost use Rattle.std.specs.Prelude.{◌≡◌, Some, IfOk, IfErr};
+ghost use Rattle.std.specs.Prelude.{◌≡◌, ◌≢◌, Some, IfOk, IfErr};
 ghost use Rattle.frac128.specs.Fraction.{lowest};
 ghost use Rattle.gcl_core.specs.meaning.Keeping.{IsChecked};
 ghost use Rattle.gcl_core.specs.meaning.Runs.{run_on};
@@ -19,15 +19,16 @@ use gcl_core::{Checked, Limits};
 use mass_fold::{MassError, repeated, round_bits};
 use std::alloc::Global;
 
-// Why one round is refused, as a cause of all rounds.
+// Why one round is refused, as a cause of all rounds. That all attempts fail is no cause.
 fn refusal(error: MassError) -> CostError
+    requires { error ≢ MassError.AllFailed }
     ensures { (p : SourceProgram) (l : Limits) → IsChecked p → InRange l → RoundRefused error p l.turns (Some l.attempts)
         → CostRefused result p l }
 {
     match error {
         MassError::TooWide => CostError::TooWide,
         MassError::TooManyStates => CostError::TooManyStates,
-        MassError::AllFailed => CostError::OutOfMemory,
+        MassError::AllFailed => unreachable!(),
         MassError::OutOfMemory => CostError::OutOfMemory,
     }
 }

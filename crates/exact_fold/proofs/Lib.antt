@@ -1,6 +1,9 @@
 pub mod SameLists
 pub mod SameInputs
 pub mod Unlimited
+pub mod FreeFlows
+pub mod RowsOfOne
+pub mod FreeMasses
 pub mod Steps
 pub mod Turns
 pub mod Programs
@@ -8,3 +11,4 @@ pub mod Rows
 pub mod Sums
 pub mod Arms
 pub mod MassLimits
+pub mod StringLimits

@@ -9,7 +9,7 @@ use Rattle.gcl_core.specs.declared.answers.Outcome.TheVariants as outcome
 use Rattle.gcl_core.specs.meaning.Keeping.{IsChecked}
 use Rattle.gcl_core.specs.meaning.Outcomes.{same_outcome}
 use Rattle.gcl_core.specs.meaning.Syntax.{SourceProgram}
-use Rattle.gcl_core.specs.weighing.Fractions.{Fraction, plus, divided_by_rest, AtMost, IsBelowOne}
+use Rattle.gcl_core.specs.weighing.Fractions.{Fraction, plus, AtMost, IsBelowOne}
 use Rattle.gcl_core.specs.weighing.Mass.{mass_of, round_mass}
 use Rattle.gcl_core.proofs.Accepted.{checked_weights}
 use Rattle.mass_tables.proofs.EqualFractions.{equal_plus}
@@ -21,7 +21,7 @@ use Rattle.loop_law.proofs.EndlessLimits.{endless_tends}
 use Rattle.loop_law.proofs.OneLimit.{parts_vanish, through}
 use Rattle.loop_law.proofs.ProgramLimits.{mass_tends}
 use Rattle.exact_fold.specs.Exact.{IsExact}
-use Rattle.exact_fold.specs.Limits.{AreLimits, LieWithin}
+use Rattle.exact_fold.specs.Limits.{AreLimits, LieWithin, rate_of}
 
 -- ---- comparing with fractions of one value
 below_equal : (p q r : Fraction) → 0 < q.1 → IsEqual r q → AtMost p q → AtMost p r
@@ -33,12 +33,12 @@ equal_below p q r some e h = le_of_mul-le-mul_right {k = q.1} (let x = ap (λ z.
 below_through : (p q r : Fraction) → 0 < q.1 → AtMost p q → AtMost q r → AtMost p r
 below_through p q r some h k = le_of_mul-le-mul_right {k = q.1} (let x = mul-le-mul_right r.1 h in let y = mul-le-mul_right p.1 k in omega arith) some
 
-factors_pos : (a b : ℕ) → 1 ≤ a * b → (1 ≤ a) × (1 ≤ b)
+pub factors_pos : (a b : ℕ) → 1 ≤ a * b → (1 ≤ a) × (1 ≤ b)
 factors_pos zero b h = absurd (omega arith)
 factors_pos (suc a) zero h = absurd (omega arith)
 factors_pos (suc a) (suc b) h = (omega arith, omega arith)
 
-nothing : (p q : Fraction) → 1 ≤ q.1 → q.0 ≡ 0 → AtMost p q → p.0 ≡ 0
+pub nothing : (p q : Fraction) → 1 ≤ q.1 → q.0 ≡ 0 → AtMost p q → p.0 ≡ 0
 nothing p q some e h =
     let z : p.0 * q.1 ≤ 0 = let x = ap (λ z. z * p.1) e in omega arith in
     by p.0 q.1 some z
@@ -56,7 +56,7 @@ module _ (p : SourceProgram) (rows : Rows) (endless : Fraction) (ok : IsChecked 
   lost = settled_failed p e.settled
 
   abbrev rate : Fraction
-  rate = divided_by_rest e.settled.turns lost
+  rate = rate_of p e.settled
 
   same_gap : (n : ℕ) → gap p e.settled n ≡ nth_part n rate
   same_gap n =
@@ -66,7 +66,7 @@ module _ (p : SourceProgram) (rows : Rows) (endless : Fraction) (ok : IsChecked 
       ap (λ z. (z, n * t.1 * (lost.1 - lost.0))) a ∙ ap (λ z. (1 * (t.0 * lost.1), z)) b
 
   -- a limit has no mass
-  settled : (x : Outcome) → 0 < (mass x).0 → is_settled x ≡ true
+  pub settled : (x : Outcome) → 0 < (mass x).0 → is_settled x ≡ true
   settled (outcome.Value v) h = refl
   settled (outcome.Fault g) h = refl
   settled (outcome.Limit k) h = absurd (omega (arith, h, e.no_limit k))
@@ -118,9 +118,8 @@ module _ (p : SourceProgram) (rows : Rows) (endless : Fraction) (ok : IsChecked 
       positive (suc a) zero h k = absurd (omega arith)
       positive (suc a) (suc b) h k = omega arith
 
-  pub are_limits : AreLimits p rows endless
+  pub are_limits : AreLimits p rows endless rate
   are_limits = record {
-    rate = rate;
     row = λ x f has n some.
         let r = e.masses.each x f has in
         subst (IsNear n rate (mass_of p n None None x)) (sym r.1) (row_near x n some (tends x (settled x r.0) n some));

@@ -97,14 +97,14 @@ rest_is masses mass N sum endless h s small some left low =
             cancel d _ _ (omega arith) (let z = ap (λ z. z * b) q in let w = ap (λ z. z * y) g in omega arith)
 
 -- ---- what the limit gives an event, at a scale
-none_meant : {A : Type 0} (m : Weighted A) → sum_of (λ a. false) m ≡ (0, 1)
+pub none_meant : {A : Type 0} (m : Weighted A) → sum_of (λ a. false) m ≡ (0, 1)
 none_meant [] = refl
 none_meant (e ∷ m) = none_meant m
 
 equal_at : (p q : Fraction) (B N : ℕ) → 0 < q.1 → p.0 * q.1 ≡ q.0 * p.1 → q.1 * B ≡ q.0 * N → p.1 * B ≡ p.0 * N
 equal_at p q B N some e h = cancel q.1 _ _ some (let x = ap (λ z. p.1 * z) h in let y = ap (λ z. z * N) e in omega arith)
 
-both_at : (a b : Fraction) (A B N : ℕ) → a.1 * A ≡ a.0 * N → b.1 * B ≡ b.0 * N → (plus a b).1 * (A + B) ≡ (plus a b).0 * N
+pub both_at : (a b : Fraction) (A B N : ℕ) → a.1 * A ≡ a.0 * N → b.1 * B ≡ b.0 * N → (plus a b).1 * (A + B) ≡ (plus a b).0 * N
 both_at a b A B N x y = let u = ap (λ z. b.1 * z) x in let v = ap (λ z. a.1 * z) y in omega arith
 
 counted_end : (result : Expression) (meant : Outcome → Bool) (x : End) → count_of_end (counted meant) x ≡ cond (over (ends_in result meant) x) 1 0
@@ -180,7 +180,7 @@ sum_unlimited t u (e ∷ m) q h =
     ap (λ x. cond (t e.1) (plus e.0 x) x) (sum_unlimited t u m q.1 h) ∙ ap (λ b. cond b (plus e.0 (sum_of u m)) (sum_of u m)) (h e.1 q.0)
 
 -- outcomes that agree but for limits have the same weight
-same_weight : (result : Expression) (t u : Outcome → Bool) (f : Outflow) → AreUnlimited f.ended → ((v : Value) → t (outcome_of v) ≡ u (outcome_of v)) → ((g : Fault) → t (outcome.Fault g) ≡ u (outcome.Fault g)) →
+pub same_weight : (result : Expression) (t u : Outcome → Bool) (f : Outflow) → AreUnlimited f.ended → ((v : Value) → t (outcome_of v) ≡ u (outcome_of v)) → ((g : Fault) → t (outcome.Fault g) ≡ u (outcome.Fault g)) →
     settled_weight (ends_in result t) f ≡ settled_weight (ends_in result u) f
 same_weight result t u f q values faults =
     ap (λ x. plus x (sum_of (over (ends_in result t)) f.ended)) (sum_ext (λ s. t (outcome_of (value_of result s))) (λ s. u (outcome_of (value_of result s))) f.next (λ s. values (value_of result s)))
@@ -192,7 +192,7 @@ same_weight result t u f q values faults =
     ends (fault g) h = faults g
     ends (limit l) h = absurd h
 
-nothing_weighs : (result : Expression) (f : Outflow) → (settled_weight (ends_in result (λ x. false)) f).0 ≡ 0
+pub nothing_weighs : (result : Expression) (f : Outflow) → (settled_weight (ends_in result (λ x. false)) f).0 ≡ 0
 nothing_weighs result f =
     let a : sum_of (λ s. ends_in result (λ x. false) (on s)) f.next ≡ (0, 1) = none_meant f.next in
     let b : sum_of (over (ends_in result (λ x. false))) f.ended ≡ (0, 1) = sum_ext _ (λ e. false) f.ended none ∙ none_meant f.ended in

@@ -1,4 +1,6 @@
 pub mod Exact
 pub mod Limits
+pub mod Loops
+pub mod Strings
 pub mod Refused
 pub mod inner

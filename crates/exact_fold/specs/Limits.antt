@@ -4,17 +4,21 @@ use Rattle.gcl_core.specs.declared.answers.Limit.TheVariants.{Turns}
 use Rattle.gcl_core.specs.declared.answers.Outcome.{Outcome}
 use Rattle.gcl_core.specs.declared.answers.Outcome.TheVariants as outcome
 use Rattle.gcl_core.specs.meaning.Syntax.{SourceProgram}
-use Rattle.gcl_core.specs.weighing.Fractions.{Fraction, AtMost}
+use Rattle.gcl_core.specs.weighing.Fractions.{Fraction, AtMost, divided_by_rest}
 use Rattle.gcl_core.specs.weighing.Mass.{mass_of}
 use Rattle.mass_fold.specs.Rows.{Rows}
 use Rattle.posterior_bounds.specs.PosteriorBounds.{is_settled, lower_of, upper_of}
-use Rattle.loop_law.specs.SettledMasses.{IsNear}
+use Rattle.loop_law.specs.Settling.{Outflow}
+use Rattle.loop_law.specs.SettledMasses.{settled_failed, IsNear}
+
+-- the expected number of turns of all loops, over what does not fail
+abbrev pub rate_of : SourceProgram → Outflow → Fraction
+rate_of p settled = divided_by_rest settled.turns (settled_failed p settled)
 
 -- Without limits of attempts and of rounds, at n turns each mass is at most that of its row, and short of it by at most an n-th
--- of some rate; a value or fault that has no row has mass 0. The limit of turns has at least what runs for ever, and at most an
+-- of a rate; a value or fault that has no row has mass 0. The limit of turns has at least what runs for ever, and at most an
 -- n-th of the rate more.
-pub record AreLimits (p : SourceProgram) (rows : Rows) (endless : Fraction) : Type 0 where
-  pub rate : Fraction
+pub record AreLimits (p : SourceProgram) (rows : Rows) (endless rate : Fraction) : Type 0 where
   pub row : (x : Outcome) (f : Fraction) → Contains rows (x, f) → (n : ℕ) → 1 ≤ n → IsNear n rate (mass_of p n None None x) f
   pub others : (x : Outcome) → is_settled x ≡ true → ((f : Fraction) → Contains rows (x, f) → ⊥) → (n : ℕ) → 1 ≤ n →
       (mass_of p n None None x).0 ≡ 0

@@ -1,10 +1,16 @@
 -- Why a program has no exact masses. This project's own rule.
+use Rattle.std.specs.Prelude.{◌≡◌, ◌<◌, None, false}
+use Rattle.frac128.specs.Fraction.{Overfills}
 use Rattle.gcl_core.specs.meaning.Syntax.{SourceProgram}
 use Rattle.gcl_core.specs.weighing.Fractions.{one, AtMost}
 use Rattle.loop_law.specs.Settling.{Outflow}
 use Rattle.loop_law.specs.SettledMasses.{ProgramSettles, settled_failed}
+use Rattle.mass_tables.specs.Tables.{peak_of}
+use Rattle.mass_tables.specs.Width.{round_width}
+use Rattle.mass_fold.specs.declared.table.TheConstants.{MOST_STATES}
+use Rattle.exact_fold.specs.Loops.{any_loops}
 use Rattle.exact_fold.specs.declared.error.ExactError.{ExactError}
-use Rattle.exact_fold.specs.declared.error.ExactError.TheVariants.{TooWide, TooManyStates, AllFailed, OutOfMemory, NotSettled}
+use Rattle.exact_fold.specs.declared.error.ExactError.TheVariants.{TooWide, TooManyStates, AllFailed, OutOfMemory}
 
 -- the body settles, and a round fails with all weight
 pub record FailsAlways (p : SourceProgram) : Type 0 where
@@ -12,10 +18,13 @@ pub record FailsAlways (p : SourceProgram) : Type 0 where
   pub settles : ProgramSettles p settled
   pub fails : AtMost one (settled_failed p settled)
 
--- Of the other causes nothing is said: a fraction may be too wide that the finder of visits met on its way.
+abbrev pub HasNoLoop : SourceProgram → Type 0
+HasNoLoop p = any_loops p.body ≡ false
+
+-- Without a loop, at one turn as at any: the common denominator of the round is 2^128 or more, or some point is reached with too
+-- many states. With a loop nothing is said of these two: a fraction may be too wide that the finder of visits met on its way.
 abbrev pub WhyRefused : SourceProgram → ExactError → Type 0
 WhyRefused p AllFailed = FailsAlways p
-WhyRefused p TooWide = Unit {0}
-WhyRefused p TooManyStates = Unit {0}
+WhyRefused p TooWide = HasNoLoop p → Overfills (round_width p 1 None)
+WhyRefused p TooManyStates = HasNoLoop p → MOST_STATES < peak_of p 1 None
 WhyRefused p OutOfMemory = Unit {0}
-WhyRefused p NotSettled = Unit {0}

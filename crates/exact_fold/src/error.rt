@@ -43,7 +43,8 @@ impl<T: Drop> From<AllocFailed<T>> for SettleError {
 /// Why there are no exact masses.
 #[derive(Clone, Copy, PartialEq, Eq, Debug)]
 pub enum ExactError {
-    /// A fraction is too wide for two numbers of 128 bits: of a loop's visits, of one turn, or of a mass.
+    /// A fraction is too wide for two numbers of 128 bits: of a loop's visits, of one turn, or of a mass. Visits that are wider are
+    /// not found, or what is found of them does not pass its check.
     TooWide,
     /// More than 65,536 states at one point, or on the guard of one loop.
     TooManyStates,
@@ -51,22 +52,51 @@ pub enum ExactError {
     AllFailed,
     /// Memory ran out.
     OutOfMemory,
-    /// What was found of a loop is refused by its check. It never comes, which is not proved.
-    NotSettled,
 }
 
-impl From<SettleError> for ExactError {
+impl From<AllocError> for ExactError {
     ghost use Rattle.gcl_core.specs.meaning.Syntax.{SourceProgram};
     ghost use Rattle.exact_fold.specs.Refused.{WhyRefused};
 
     ghost from_gives = { λ _ e. (p : SourceProgram) → WhyRefused p e };
 
+    fn from(_error: AllocError) -> Self {
+        ExactError::OutOfMemory
+    }
+}
+
+impl From<SettleError> for ExactError {
+    ghost use Rattle.gcl_core.specs.meaning.Syntax.{SourceProgram};
+    ghost use Rattle.std.specs.Prelude.{◌≡◌, true};
+    ghost use Rattle.exact_fold.specs.Loops.{any_loops};
+    ghost use Rattle.exact_fold.specs.Refused.{WhyRefused};
+
+    ghost from_gives = { λ _ e. (p : SourceProgram) → any_loops p.body ≡ true → WhyRefused p e };
+
     fn from(error: SettleError) -> Self {
         match error {
-            SettleError::TooWide => ExactError::TooWide,
+            SettleError::TooWide | SettleError::NotSettled => ExactError::TooWide,
             SettleError::TooManyStates => ExactError::TooManyStates,
             SettleError::OutOfMemory => ExactError::OutOfMemory,
-            SettleError::NotSettled => ExactError::NotSettled,
+        }
+    }
+}
+
+impl From<MassError> for ExactError {
+    ghost use Rattle.std.specs.Prelude.{None};
+    ghost use Rattle.gcl_core.specs.meaning.Keeping.{IsChecked};
+    ghost use Rattle.gcl_core.specs.meaning.Syntax.{SourceProgram};
+    ghost use Rattle.mass_fold.specs.Refused.{MassRefused};
+    ghost use Rattle.exact_fold.specs.Refused.{HasNoLoop, WhyRefused};
+
+    ghost from_gives = { λ f e. (p : SourceProgram) → IsChecked p → HasNoLoop p → MassRefused f p 1 None None → WhyRefused p e };
+
+    fn from(error: MassError) -> Self {
+        match error {
+            MassError::TooWide => ExactError::TooWide,
+            MassError::TooManyStates => ExactError::TooManyStates,
+            MassError::AllFailed => ExactError::AllFailed,
+            MassError::OutOfMemory => ExactError::OutOfMemory,
         }
     }
 }

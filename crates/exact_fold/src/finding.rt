@@ -143,10 +143,10 @@ impl Seen {
                 }
             }
         }
-        let mut parts = Vec::new(alloc);
+        let mut parts = BTreeMap::new(alloc);
         for (from, to, f) in &self.parts {
             if leaving.contains_key(from) && leaving.contains_key(to) {
-                parts.push((*from, *to, Residues::of(f)))?;
+                parts.insert((*from, *to), Residues::of(f))?;
             }
         }
         let mut states = Vec::new(alloc);

@@ -1,21 +1,32 @@
 // What exact masses say of limits of turns.
 
+ghost use Rattle.std.specs.Prelude.{◌≤◌, ℕ};
 ghost use Rattle.gcl_core.specs.meaning.Keeping.{IsChecked};
 ghost use Rattle.gcl_core.specs.meaning.Syntax.{SourceProgram};
 ghost use Rattle.gcl_core.specs.weighing.Fractions.{Fraction};
 ghost use Rattle.mass_fold.specs.Rows.{Rows};
 ghost use Rattle.exact_fold.specs.Exact.{IsExact};
-ghost use Rattle.exact_fold.specs.Limits.{AreLimits, LieWithin};
+ghost use Rattle.exact_fold.specs.Limits.{AreLimits, LieWithin, rate_of};
+ghost use Rattle.exact_fold.specs.Strings.{StringsTend};
 
 /// It does nothing: its clause says that exact masses of a checked program are the limits of its masses as turns grow, without
-/// limits of attempts and of rounds: at n turns none is above its row, and none short of it by more than an n-th of a rate.
+/// limits of attempts and of rounds: at n turns none is above its row, and none short of it by more than an n-th of the
+/// expected number of turns of all loops over what does not fail.
 pub fn exact_masses_are_limits()
-    ensures { (p : SourceProgram) (rows : Rows) (endless : Fraction) → IsChecked p → IsExact p rows endless →
-        AreLimits p rows endless }
+    ensures { (p : SourceProgram) (rows : Rows) (endless : Fraction) → IsChecked p →
+        (e : IsExact p rows endless) → AreLimits p rows endless (rate_of p e.settled) }
 {}
 
 /// It does nothing: its clause says that exact masses of a checked program lie within the bounds of every limit of turns.
 pub fn exact_masses_lie_within_bounds()
     ensures { (p : SourceProgram) (rows : Rows) (endless : Fraction) → IsChecked p → IsExact p rows endless →
         LieWithin p rows }
+{}
+
+/// It does nothing: its clause says of a checked program, and of whatever answers on bits as its run does, that the strings on
+/// which the run ends in a value or a fault never weigh more than its row, and none where there is no row. For each k they weigh no
+/// less but for 1 / k, from some limits on, at every length that suffices.
+pub fn strings_tend_to_exact_masses()
+    ensures { (p : SourceProgram) (rows : Rows) (endless : Fraction) → IsChecked p → IsExact p rows endless → (k : ℕ) →
+        1 ≤ k → StringsTend p rows k }
 {}

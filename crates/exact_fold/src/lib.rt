@@ -4,6 +4,7 @@
 mod error;
 mod finding;
 mod laws;
+mod loops;
 mod program;
 mod residues;
 mod settle;
@@ -14,5 +15,7 @@ mod turning;
 mod wide;
 
 pub use error::ExactError;
-pub use laws::{exact_masses_are_limits, exact_masses_lie_within_bounds};
+pub use laws::{
+    exact_masses_are_limits, exact_masses_lie_within_bounds, strings_tend_to_exact_masses,
+};
 pub use program::{ExactMasses, exact};

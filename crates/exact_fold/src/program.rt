@@ -6,15 +6,17 @@ ghost use Rattle.mass_fold.specs.Amounts.{AreHeld};
 ghost use Rattle.mass_fold.specs.inner.Rounds.{TableParts};
 ghost use Rattle.gcl_core.specs.meaning.Views.{source_of};
 ghost use Rattle.exact_fold.specs.Exact.{IsExact};
-ghost use Rattle.exact_fold.specs.Refused.{WhyRefused};
+ghost use Rattle.exact_fold.specs.Loops.{any_loops};
+ghost use Rattle.exact_fold.specs.Refused.{HasNoLoop, WhyRefused};
 ghost use Rattle.exact_fold.specs.inner.Settled.{ProgramSettlesTo};
 ghost use Rattle.exact_fold.specs.inner.Rounds.{SumsTo, RoundOf, DividesTo};
 
 use crate::error::{ExactError, SettleError};
+use crate::loops::block_loops;
 use crate::settle::settle_block;
 use frac128::Frac;
 use gcl_core::{Checked, Outcome};
-use mass_fold::{Ended, FracRows, Table, add_ended, add_results, over_rest};
+use mass_fold::{Ended, FracRows, Table, add_ended, add_results, mass, over_rest};
 use std::alloc::Global;
 use std::collections::BTreeMap;
 
@@ -118,11 +120,9 @@ fn divided(alloc: Global, round: LimitRound) -> Result<ExactMasses, SettleError>
     })
 }
 
-/// The mass of each outcome of a program in the limit of turns, and that with which it runs for ever.
-///
-/// No clause says that it answers: of the causes `AllFailed` alone has one, and a call that always refused as too wide would keep
-/// this contract. What is tried is a table of programs, in the tests.
-pub fn exact(alloc: Global, p: &Checked) -> Result<ExactMasses, ExactError>
+// A program with a loop: its body is settled.
+fn settled(alloc: Global, p: &Checked) -> Result<ExactMasses, ExactError>
+    requires { any_loops (source_of p.now).body ≡ true }
     ensures masses { IfOk result (λ e. IsExact (source_of p.now) e.rows e.endless) }
     ensures refused { IfErr result (WhyRefused (source_of p.now)) }
 {
@@ -132,4 +132,35 @@ pub fn exact(alloc: Global, p: &Checked) -> Result<ExactMasses, ExactError>
     }
     let masses = divided(alloc, round)?;
     Ok(masses)
+}
+
+// A program without a loop: its masses at one turn, and nothing runs for ever.
+fn at_once(alloc: Global, p: &Checked) -> Result<ExactMasses, ExactError>
+    requires { HasNoLoop (source_of p.now) }
+    ensures masses { IfOk result (λ e. IsExact (source_of p.now) e.rows e.endless) }
+    ensures refused { IfErr result (WhyRefused (source_of p.now)) }
+{
+    p.is_kept();
+    let rows = mass(alloc, p, 1, None, None)?;
+    Ok(ExactMasses {
+        rows,
+        endless: Frac::of(0, 1),
+    })
+}
+
+/// The mass of each outcome of a program in the limit of turns, and that with which it runs for ever.
+///
+/// A program without a loop is refused as `mass` refuses it: as too wide only where its common denominator is above 2^128 − 1, and
+/// for its states only where some point is reached with more than 65,536. Of a program with a loop no clause says that it answers:
+/// a call that always refused such a program as too wide would keep this contract. What is tried is a table of programs, in the
+/// tests. `AllFailed` comes only where in the limit every round fails.
+pub fn exact(alloc: Global, p: &Checked) -> Result<ExactMasses, ExactError>
+    ensures masses { IfOk result (λ e. IsExact (source_of p.now) e.rows e.endless) }
+    ensures refused { IfErr result (WhyRefused (source_of p.now)) }
+{
+    if block_loops(&p.program().body) {
+        settled(alloc, p)
+    } else {
+        at_once(alloc, p)
+    }
 }

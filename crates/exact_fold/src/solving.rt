@@ -1,4 +1,4 @@
-// The visits of a loop by elimination of its states, one after the other: that with the fewest neighbours first. Nothing is
+// The visits of a loop by elimination of its states, one after the other: that which may add the fewest entries first. Nothing is
 // promised of them.
 
 use crate::error::SettleError;
@@ -6,41 +6,61 @@ use crate::residues::Residues;
 use std::alloc::Global;
 use std::collections::{BTreeMap, BTreeSet};
 
+// Where a turn leads from a state: states in order, each with its part.
+type Row = Vec<(u64, Residues)>;
+
 // A state that was eliminated: 1 over what leaves it, and the parts of other states that lead to it.
 #[derive(Drop)]
 struct Pivot {
     state: u64,
     leaves: Residues,
-    from: Vec<(u64, Residues)>,
+    from: Row,
 }
 
 // The states that are left: where a turn leads from each, from which states a turn leads to it, and what it is entered with.
 #[derive(Drop)]
 struct Left {
-    out: BTreeMap<u64, BTreeMap<u64, Residues>>,
+    out: BTreeMap<u64, Row>,
     into: BTreeMap<u64, BTreeSet<u64>>,
     entered: BTreeMap<u64, Residues>,
     order: BTreeSet<u64>,
     ranks: BTreeMap<u64, u64>,
 }
 
-// Ranks begin with the number of neighbours, and end with the state.
+// Ranks begin with how many entries may be added, and end with the state.
 const NUMBERS: u64 = 1 << 32;
 
-fn add_to(
-    parts: &mut BTreeMap<u64, Residues>,
-    state: u64,
-    part: &Residues,
-) -> Result<(), SettleError> {
-    let sum = match parts.get(&state) {
-        Some(old) => old.plus(part),
-        None => *part,
-    };
-    parts.insert(state, sum)?;
-    Ok(())
+// The row without a state, and its part.
+fn without(alloc: Global, row: &Row, state: u64) -> Result<(Row, Residues), SettleError> {
+    let mut others = Vec::with_capacity(alloc, row.len())?;
+    let mut part = Residues::of_number(0);
+    for (to, f) in row {
+        if *to == state {
+            part = *f;
+        } else {
+            others.push((*to, *f))?;
+        }
+    }
+    Ok((others, part))
+}
+
+// The entries from an index on are put behind others, up to a state; and the index behind them.
+fn copied_below(row: &Row, from: usize, state: u64, all: &mut Row) -> Result<usize, SettleError> {
+    let mut at = from;
+    for _ in from..row.len() {
+        match row.get(at) {
+            Some(entry) if entry.0 < state => {
+                all.push(*entry)?;
+                at = at.saturating_add(1);
+            }
+            _ => return Ok(at),
+        }
+    }
+    Ok(at)
 }
 
 impl Left {
+    // A turn leads from one state to another with this part, behind those that it leads to before.
     fn add(
         &mut self,
         alloc: Global,
@@ -50,10 +70,15 @@ impl Left {
     ) -> Result<(), SettleError> {
         let mut row = match self.out.remove(&from) {
             Some(row) => row,
-            None => BTreeMap::new(alloc),
+            None => Vec::new(alloc),
         };
-        add_to(&mut row, to, part)?;
+        row.push((to, *part))?;
         self.out.insert(from, row)?;
+        self.source(alloc, from, to)
+    }
+
+    // A turn leads from one state to another.
+    fn source(&mut self, alloc: Global, from: u64, to: u64) -> Result<(), SettleError> {
         let mut sources = match self.into.remove(&to) {
             Some(sources) => sources,
             None => BTreeSet::new(alloc),
@@ -86,55 +111,84 @@ impl Left {
         Ok(())
     }
 
-    // The state's row and the parts that lead to it are taken out; the part from itself is apart.
-    fn take(
-        &mut self,
-        alloc: Global,
-        state: u64,
-    ) -> Result<(BTreeMap<u64, Residues>, Vec<(u64, Residues)>, Residues), SettleError> {
-        let mut row = match self.out.remove(&state) {
+    // The state's row without the part from itself, and that part.
+    fn take(&mut self, alloc: Global, state: u64) -> Result<(Row, Residues), SettleError> {
+        let row = match self.out.remove(&state) {
             Some(row) => row,
-            None => BTreeMap::new(alloc),
+            None => Vec::new(alloc),
         };
-        let back = match row.remove(&state) {
-            Some(part) => part,
-            None => Residues::of_number(0),
-        };
+        let (row, back) = without(alloc, &row, state)?;
         for (to, _) in &row {
             if let Some(sources) = self.into.get_mut(to) {
                 sources.remove(&state);
             }
         }
-        let mut from = Vec::new(alloc);
-        if let Some(sources) = self.into.remove(&state) {
-            for source in sources {
-                if let Some(others) = self.out.get_mut(&source) {
-                    if let Some(part) = others.remove(&state) {
-                        from.push((source, part))?;
-                    }
+        Ok((row, back))
+    }
+
+    // The row of a source, and so many times another, in one.
+    fn joined(
+        &mut self,
+        alloc: Global,
+        source: u64,
+        row: &Row,
+        factor: &Residues,
+        other: &Row,
+    ) -> Result<Row, SettleError> {
+        let mut all = Vec::new(alloc);
+        let mut at = 0;
+        for (to, part) in other {
+            at = copied_below(row, at, *to, &mut all)?;
+            let more = factor.times(part);
+            match row.get(at) {
+                Some(entry) if entry.0 == *to => {
+                    all.push((*to, entry.1.plus(&more)))?;
+                    at = at.saturating_add(1);
+                }
+                _ => {
+                    all.push((*to, more))?;
+                    self.source(alloc, source, *to)?;
                 }
             }
         }
-        Ok((row, from, back))
+        copied_below(row, at, u64::MAX, &mut all)?;
+        Ok(all)
+    }
+
+    // What a state is entered with grows.
+    fn enter(&mut self, state: u64, part: &Residues) -> Result<(), SettleError> {
+        let sum = match self.entered.get(&state) {
+            Some(old) => old.plus(part),
+            None => *part,
+        };
+        self.entered.insert(state, sum)?;
+        Ok(())
     }
 
     // The state is replaced by what it leads to.
     fn eliminate(&mut self, alloc: Global, state: u64) -> Result<Pivot, SettleError> {
-        let (row, from, back) = self.take(alloc, state)?;
+        let (row, back) = self.take(alloc, state)?;
         let leaves = Residues::of_number(1).less(&back).inverse();
         let entered = match self.entered.get(&state) {
             Some(part) => part.times(&leaves),
             None => Residues::of_number(0),
         };
         for (to, part) in &row {
-            add_to(&mut self.entered, *to, &entered.times(part))?;
+            self.enter(*to, &entered.times(part))?;
         }
-        for (source, weight) in &from {
-            let factor = weight.times(&leaves);
-            for (to, part) in &row {
-                self.add(alloc, *source, *to, &factor.times(part))?;
+        let sources = match self.into.remove(&state) {
+            Some(sources) => sources,
+            None => BTreeSet::new(alloc),
+        };
+        let mut from = Vec::new(alloc);
+        for source in sources {
+            if let Some(old) = self.out.remove(&source) {
+                let (others, weight) = without(alloc, &old, state)?;
+                let next = self.joined(alloc, source, &others, &weight.times(&leaves), &row)?;
+                self.out.insert(source, next)?;
+                from.push((source, weight))?;
+                self.rank(source)?;
             }
-            self.rank(*source)?;
         }
         for (to, _) in &row {
             self.rank(*to)?;
@@ -147,11 +201,11 @@ impl Left {
     }
 }
 
-/// The visits of states, by their numbers, from what each is entered with and the parts of one turn.
+/// The visits of states, by their numbers, from what each is entered with and the part of a turn from one to another.
 pub fn solved(
     alloc: Global,
     entered: BTreeMap<u64, Residues>,
-    parts: &Vec<(u64, u64, Residues)>,
+    parts: &BTreeMap<(u64, u64), Residues>,
     states: &Vec<u64>,
 ) -> Result<BTreeMap<u64, Residues>, SettleError> {
     let mut left = Left {
@@ -161,8 +215,8 @@ pub fn solved(
         order: BTreeSet::new(alloc),
         ranks: BTreeMap::new(alloc),
     };
-    for (from, to, part) in parts {
-        left.add(alloc, *from, *to, part)?;
+    for (ends, part) in parts {
+        left.add(alloc, ends.0, ends.1, part)?;
     }
     for state in states {
         left.rank(*state)?;

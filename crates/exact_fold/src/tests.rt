@@ -36,6 +36,8 @@ const NESTED: &str =
 
 const OBSERVED: &str = "while x = 0 { x ~ uniform(3); observe x < 2; } return x;";
 
+const NO_LOOP: &str = "choice 1/3 { x := 1; } or { x := 1 / x; } return x;";
+
 const IMPOSSIBLE: &str = "x ~ uniform(2); observe x = 2; return x;";
 
 const FAULTS: &str =
@@ -50,7 +52,7 @@ const MAY_WAIT: &str =
 const SQUARE: &str =
     "x := 3; y := 2; while x > 0 and x < 7 and y > 0 and y < 7 { choose { 1: { x := x + 1; } | 1: { x := x - 1; } | 1: { y := y + 1; } | 1: { y := y - 1; } } } if x = 0 { z := 1; } else { if x = 7 { z := 2; } else { if y = 0 { z := 3; } else { z := 4; } } } return z;";
 
-const CASES: [Case; 11] = [
+const CASES: [Case; 12] = [
     Case {
         text: GAMBLER,
         want: Ok((
@@ -86,6 +88,16 @@ const CASES: [Case; 11] = [
     Case {
         text: OBSERVED,
         want: Ok((&[(Outcome::Value(1), (1, 1))], (0, 1))),
+    },
+    Case {
+        text: NO_LOOP,
+        want: Ok((
+            &[
+                (Outcome::Value(1), (1, 3)),
+                (Outcome::Fault(Fault::ZeroDivisor), (2, 3)),
+            ],
+            (0, 1),
+        )),
     },
     Case {
         text: IMPOSSIBLE,

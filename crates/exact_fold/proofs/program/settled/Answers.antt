@@ -1,6 +1,6 @@
 use Rattle.std.proofs.Common.{arith}
 use Rattle.exact_fold.proofs.Rows.{exact_of, fails_always}
-use Rattle.exact_fold.proofs.program.exact.Goals as goal
+use Rattle.exact_fold.proofs.program.settled.Goals as goal
 
 pub returns-clause-masses : goal.returns-clause-masses
 returns-clause-masses c =
