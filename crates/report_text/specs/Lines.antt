@@ -56,6 +56,10 @@ other_text high = codes "other from 0/1 to " ++ fraction_text high ++ codes "\n"
 abbrev pub undecided_text : ℕ × ℕ → List ℕ
 undecided_text share = codes "undecided mass " ++ fraction_text share ++ codes "\n"
 
+-- the mass with which a program runs for ever, a fraction
+abbrev pub endless_text : ℕ × ℕ → List ℕ
+endless_text mass = codes "endless mass " ++ fraction_text mass ++ codes "\n"
+
 -- an expected number of bits, a fraction
 abbrev pub cost_text : ℕ × ℕ → List ℕ
 cost_text bits = codes "bits " ++ decimal bits.0 ++ codes "/" ++ decimal bits.1 ++ codes "\n"

@@ -1,7 +1,7 @@
 // The lines of shares.
 
 ghost use Rattle.std.specs.Prelude.{◌≡◌};
-ghost use Rattle.report_text.specs.Lines.{mass_text, bound_text, other_text, undecided_text, cost_text};
+ghost use Rattle.report_text.specs.Lines.{mass_text, bound_text, other_text, undecided_text, endless_text, cost_text};
 
 use crate::line::Line;
 use crate::outcomes::outcome_line;
@@ -50,6 +50,17 @@ pub fn undecided_line(share: &Frac) -> Line
     let mut line = Line::new();
     line.push(b"undecided mass ");
     line.push_fraction(share);
+    line.push(b"\n");
+    line
+}
+
+/// The line of the mass with which a program runs for ever, a fraction in lowest terms. It takes no memory.
+pub fn endless_line(mass: &Frac) -> Line
+    ensures { result ≡ endless_text mass.now }
+{
+    let mut line = Line::new();
+    line.push(b"endless mass ");
+    line.push_fraction(mass);
     line.push(b"\n");
     line
 }
