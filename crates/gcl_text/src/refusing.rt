@@ -1,0 +1,10 @@
+// Why a text gives no program.
+
+/// Why a text gives no program.
+#[derive(Clone, Copy, PartialEq, Eq, Debug)]
+pub enum TextRefusal {
+    /// The number of the code, and the place in the text where the code has one.
+    Coded(u8, Option<u32>),
+    /// Out of memory.
+    OutOfMemory,
+}

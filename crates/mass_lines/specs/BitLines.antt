@@ -1,0 +1,16 @@
+-- The line of the bits that a run reads on average.
+use Rattle.std.specs.Prelude.{◌≡◌, ℕ, List}
+use Rattle.frac128.specs.Fraction.{lowest}
+use Rattle.gcl_core.specs.declared.answers.Limits.{Limits}
+use Rattle.gcl_core.specs.meaning.Syntax.{SourceProgram}
+use Rattle.gcl_core.specs.weighing.Fractions.{Fraction}
+use Rattle.cost_law.specs.ExpectedBits.{expected_bits}
+use Rattle.report_text.specs.Lines.{cost_text}
+use Rattle.mass_lines.specs.Narrow.{IsNarrow}
+
+-- that of exactly their number, in lowest terms
+pub record IsBitLine (p : SourceProgram) (l : Limits) (text : List ℕ) : Type 0 where
+  pub bits : Fraction
+  pub exact : bits ≡ lowest (expected_bits p l)
+  pub narrow : IsNarrow bits
+  pub line : text ≡ cost_text bits

@@ -1,0 +1,6 @@
+pub mod Narrow
+pub mod RowLines
+pub mod MassLines
+pub mod BoundLines
+pub mod ExactLines
+pub mod BitLines

@@ -1,0 +1,72 @@
+// What is told of a program, as lines.
+
+ghost use Rattle.std.specs.Prelude.{◌≤◌, None, Some, IfOk, IfErr, IfSome};
+ghost use Rattle.cost_fold.specs.Refused.{CostRefused};
+ghost use Rattle.exact_fold.specs.Refused.{WhyRefused};
+ghost use Rattle.gcl_core.specs.declared.rules.TheConstants.{MOST_LIMIT};
+ghost use Rattle.gcl_core.specs.meaning.LimitRange.{InRange};
+ghost use Rattle.gcl_core.specs.meaning.Views.{source_of};
+ghost use Rattle.mass_fold.specs.Refused.{IsLimit, MassRefused};
+ghost use Rattle.mass_lines.specs.BitLines.{IsBitLine};
+ghost use Rattle.mass_lines.specs.BoundLines.{AreBoundLines};
+ghost use Rattle.mass_lines.specs.ExactLines.{AreExactLines};
+ghost use Rattle.mass_lines.specs.MassLines.{AreMassLines};
+
+use crate::rows::{bit_line, bound_lines, exact_lines, mass_rows_text};
+use cost_fold::{CostError, cost};
+use exact_fold::{ExactError, exact};
+use gcl_core::{Checked, Limits};
+use gcl_print::Text;
+use mass_fold::{MassError, mass};
+use posterior_bounds::bounds;
+use std::alloc::{AllocError, Global};
+
+/// The lines of a program's masses, outcomes ascending.
+pub fn masses_text(
+    alloc: Global,
+    program: &Checked,
+    turns: u64,
+    attempts: Option<u64>,
+    rounds: Option<u64>,
+) -> Result<Text, MassError>
+    requires turns { turns ≤ MOST_LIMIT }
+    requires attempts { IfSome attempts IsLimit }
+    requires rounds { IfSome rounds IsLimit }
+    ensures lines { IfOk result (AreMassLines (source_of program.now) turns attempts rounds) }
+    ensures refused { IfErr result (λ e. MassRefused e (source_of program.now) turns attempts rounds) }
+{
+    let rows = mass(alloc, program, turns, attempts, rounds)?;
+    Ok(mass_rows_text(alloc, &rows)?)
+}
+
+/// The lines of a program's bounds, outcomes ascending, and of what all others have at most.
+pub fn bounds_text(alloc: Global, program: &Checked, turns: u64) -> Result<Text, MassError>
+    requires { turns ≤ MOST_LIMIT }
+    ensures lines { IfOk result (AreBoundLines (source_of program.now) turns) }
+    ensures refused { IfErr result (λ e. MassRefused e (source_of program.now) turns None None) }
+{
+    let found = bounds(alloc, program, turns)?;
+    Ok(bound_lines(alloc, &found)?)
+}
+
+/// The lines of a program's masses where nothing is limited, outcomes ascending, and of what never ends.
+pub fn exact_text(alloc: Global, program: &Checked) -> Result<Text, ExactError>
+    ensures lines { IfOk result (AreExactLines (source_of program.now)) }
+    ensures refused { IfErr result (WhyRefused (source_of program.now)) }
+{
+    let masses = exact(alloc, program)?;
+    Ok(exact_lines(alloc, &masses)?)
+}
+
+/// The line of the bits that a run of a program reads on average.
+pub fn bits_text(alloc: Global, program: &Checked, limits: &Limits) -> Result<Text, CostError>
+    requires { InRange limits.now }
+    ensures line { IfOk result (IsBitLine (source_of program.now) limits.now) }
+    ensures refused { IfErr result (λ e. CostRefused e (source_of program.now) limits.now) }
+{
+    let bits = cost(alloc, program, limits)?;
+    match bit_line(alloc, &bits) {
+        Ok(text) => Ok(text),
+        Err(AllocError) => Err(CostError::OutOfMemory),
+    }
+}
