@@ -1,0 +1,18 @@
+use Rattle.std.proofs.Common.{subst}
+use Rattle.gcl_core.specs.meaning.Syntax.{SourceProgram}
+use Rattle.gcl_core.specs.meaning.Views.{source_of}
+use Rattle.mass_lines.specs.BitLines.{IsBitLine}
+use Rattle.zar_c.proofs.Refusing.{by_cost}
+use Rattle.zar_c.proofs.weighing.bits_of.Goals as goal
+
+pub returns-in-Ok-bits_text-clause-lines : goal.returns-in-Ok-bits_text-clause-lines
+returns-in-Ok-bits_text-clause-lines c = λ p spells.
+    let one = c.one_reading.ensures.checked c.args.text.now in
+    let same = one.one_program (source_of c.in-Ok.program) p c.in-Ok.ensures.spelled spells in
+    subst (λ (r : SourceProgram). IsBitLine r c.args.l.now c.in-Ok-bits_text.lines) same c.in-Ok-bits_text.ensures.line
+
+pub returns-clause-refused : goal.returns-clause-refused
+returns-clause-refused c =
+    let text = c.args.text.now in
+    by_cost text (c.one_reading.ensures.checked text) (source_of c.in-Ok.program) c.in-Ok.ensures.spelled c.cost_refused.result c.args.l.now c.in-Err-bits_text.error
+    c.cost_refused.ensures c.in-Err-bits_text.ensures.refused

@@ -1,0 +1,18 @@
+use Rattle.std.proofs.Common.{None, subst}
+use Rattle.gcl_core.specs.meaning.Syntax.{SourceProgram}
+use Rattle.gcl_core.specs.meaning.Views.{source_of}
+use Rattle.mass_lines.specs.BoundLines.{AreBoundLines}
+use Rattle.zar_c.proofs.Refusing.{by_mass}
+use Rattle.zar_c.proofs.weighing.bounds_of.Goals as goal
+
+pub returns-in-Ok-bounds_text-clause-lines : goal.returns-in-Ok-bounds_text-clause-lines
+returns-in-Ok-bounds_text-clause-lines c = λ p spells.
+    let one = c.one_reading.ensures.checked c.args.text.now in
+    let same = one.one_program (source_of c.in-Ok.program) p c.in-Ok.ensures.spelled spells in
+    subst (λ (r : SourceProgram). AreBoundLines r c.args.turns c.in-Ok-bounds_text.lines) same c.in-Ok-bounds_text.ensures.lines
+
+pub returns-clause-refused : goal.returns-clause-refused
+returns-clause-refused c =
+    let text = c.args.text.now in
+    by_mass text (c.one_reading.ensures.checked text) (source_of c.in-Ok.program) c.in-Ok.ensures.spelled c.mass_refused.result c.args.turns None None c.in-Err-bounds_text.error
+    c.mass_refused.ensures c.in-Err-bounds_text.ensures.refused

@@ -1,0 +1,18 @@
+use Rattle.std.proofs.Common.{subst}
+use Rattle.gcl_core.specs.meaning.Syntax.{SourceProgram}
+use Rattle.gcl_core.specs.meaning.Views.{source_of}
+use Rattle.mass_lines.specs.ExactLines.{AreExactLines}
+use Rattle.zar_c.proofs.Refusing.{by_exact}
+use Rattle.zar_c.proofs.weighing.exact_of.Goals as goal
+
+pub returns-in-Ok-exact_text-clause-lines : goal.returns-in-Ok-exact_text-clause-lines
+returns-in-Ok-exact_text-clause-lines c = λ p spells.
+    let one = c.one_reading.ensures.checked c.args.text.now in
+    let same = one.one_program (source_of c.in-Ok.program) p c.in-Ok.ensures.spelled spells in
+    subst (λ (r : SourceProgram). AreExactLines r c.in-Ok-exact_text.lines) same c.in-Ok-exact_text.ensures.lines
+
+pub returns-clause-refused : goal.returns-clause-refused
+returns-clause-refused c =
+    let text = c.args.text.now in
+    by_exact text (c.one_reading.ensures.checked text) (source_of c.in-Ok.program) c.in-Ok.ensures.spelled c.exact_refused.result c.in-Err-exact_text.error
+    c.exact_refused.ensures c.in-Err-exact_text.ensures.refused

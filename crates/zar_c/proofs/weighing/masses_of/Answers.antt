@@ -1,0 +1,18 @@
+use Rattle.std.proofs.Common.{subst}
+use Rattle.gcl_core.specs.meaning.Syntax.{SourceProgram}
+use Rattle.gcl_core.specs.meaning.Views.{source_of}
+use Rattle.mass_lines.specs.MassLines.{AreMassLines}
+use Rattle.zar_c.proofs.Refusing.{by_mass}
+use Rattle.zar_c.proofs.weighing.masses_of.Goals as goal
+
+pub returns-in-Ok-masses_text-clause-lines : goal.returns-in-Ok-masses_text-clause-lines
+returns-in-Ok-masses_text-clause-lines c = λ p spells.
+    let one = c.one_reading.ensures.checked c.args.text.now in
+    let same = one.one_program (source_of c.in-Ok.program) p c.in-Ok.ensures.spelled spells in
+    subst (λ (r : SourceProgram). AreMassLines r c.args.turns c.args.attempts c.args.rounds c.in-Ok-masses_text.lines) same c.in-Ok-masses_text.ensures.lines
+
+pub returns-clause-refused : goal.returns-clause-refused
+returns-clause-refused c =
+    let text = c.args.text.now in
+    by_mass text (c.one_reading.ensures.checked text) (source_of c.in-Ok.program) c.in-Ok.ensures.spelled c.mass_refused.result c.args.turns c.args.attempts c.args.rounds c.in-Err-masses_text.error
+    c.mass_refused.ensures c.in-Err-masses_text.ensures.refused

@@ -1,0 +1,7 @@
+pub mod Places
+pub mod Draws
+pub mod Rolls
+pub mod Said
+pub mod Masses
+pub mod Answered
+pub mod inner

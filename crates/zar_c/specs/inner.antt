@@ -1,0 +1,2 @@
+-- Words of proofs and of private contracts. No public definition or clause cites one.
+pub mod Refusing

@@ -1,0 +1,84 @@
+// What a call is asked.
+
+ghost use Rattle.std.specs.Prelude.{◌≡◌, ◌↔◌, IsTrue};
+ghost use Rattle.gcl_core.specs.meaning.LimitRange.{InRange};
+ghost use Rattle.zar_c.specs.Draws.{CanDraw, limits_of};
+ghost use Rattle.zar_c.specs.Places.{CanFill};
+ghost use Rattle.zar_c.specs.Rolls.{CanRoll};
+
+use dice_roll::MOST_FLIPS;
+use gcl_core::Limits;
+use gcl_core::rules::MOST_LIMIT;
+use weighted_roll::are_weights;
+use zar_io::MOST_BUDGET;
+
+/// How many bits of each stream a run may read, and the limits of runs.
+#[repr(C)]
+#[derive(Drop)]
+pub struct ZarLimits {
+    pub budget: u64,
+    pub turns: u64,
+    pub attempts: u64,
+    pub rounds: u64,
+}
+
+/// How many bits of each stream there are for a roll, and how many of them it may read.
+#[repr(C)]
+#[derive(Drop)]
+pub struct ZarRollLimits {
+    pub budget: u64,
+    pub flips: u64,
+}
+
+// The limits of runs.
+pub(crate) fn run_limits(limits: &ZarLimits) -> Limits
+    ensures { result ≡ limits_of limits.now }
+{
+    Limits {
+        turns: limits.turns,
+        attempts: limits.attempts,
+        rounds: limits.rounds,
+    }
+}
+
+// Whether limits are in range.
+pub(crate) fn is_in_range(l: &Limits) -> bool
+    ensures { IsTrue result ↔ InRange l.now }
+{
+    l.turns <= MOST_LIMIT
+        && 1 <= l.attempts
+        && l.attempts <= MOST_LIMIT
+        && 1 <= l.rounds
+        && l.rounds <= MOST_LIMIT
+}
+
+// Whether places can be filled: the budget is in range, the arrays are alike, and the streams have numbers of 64 bits.
+fn can_fill(budget: u64, first: u64, values: usize, ends: usize) -> bool
+    ensures { IsTrue result ↔ CanFill budget first values ends }
+{
+    budget <= MOST_BUDGET
+        && ends == values
+        && (values == 0 || values as u64 - 1 <= u64::MAX - first)
+}
+
+// Whether draws can be made: the limits are in range, and the places can be filled.
+pub(crate) fn can_draw(limits: &ZarLimits, first: u64, values: usize, ends: usize) -> bool
+    ensures { IsTrue result ↔ CanDraw limits.now first values ends }
+{
+    is_in_range(&run_limits(limits)) && can_fill(limits.budget, first, values, ends)
+}
+
+// Whether rolls can be made: a roll may have the weights, the flips are in range, and the places can be filled.
+pub(crate) fn can_roll(
+    weights: &[u64],
+    limits: &ZarRollLimits,
+    first: u64,
+    labels: usize,
+    ends: usize,
+) -> bool
+    ensures { IsTrue result ↔ CanRoll weights.now limits.now first labels ends }
+{
+    are_weights(weights)
+        && limits.flips <= MOST_FLIPS
+        && can_fill(limits.budget, first, labels, ends)
+}

@@ -1,0 +1,101 @@
+// The lines of masses, of bounds and of expected bits of the program of a text.
+
+ghost use Rattle.std.specs.Prelude.{◌≤◌, None};
+ghost use Rattle.gcl_core.specs.declared.answers.Limits.{Limits};
+ghost use Rattle.gcl_core.specs.declared.rules.TheConstants.{MOST_LIMIT};
+ghost use Rattle.gcl_core.specs.meaning.LimitRange.{InRange};
+ghost use Rattle.gcl_core.specs.text.Texts.{Spells, SpellsNone};
+ghost use Rattle.mass_lines.specs.BitLines.{IsBitLine};
+ghost use Rattle.mass_lines.specs.BoundLines.{AreBoundLines};
+ghost use Rattle.mass_lines.specs.ExactLines.{AreExactLines};
+ghost use Rattle.mass_lines.specs.MassLines.{AreMassLines};
+ghost use Rattle.zar_c.specs.Answered.{IsAnswer, NoNumbers};
+ghost use Rattle.zar_c.specs.Masses.{CanWeigh, IsCostRefused, IsExactRefused, IsMassRefused, limits_by, limit_of};
+
+use crate::asking::is_in_range;
+use crate::said::{ZarSaid, said, written};
+use crate::statuses::NUMBERS_REFUSED;
+use crate::weighing::{bits_of, bounds_of, can_weigh, exact_of, limit, masses_of};
+use gcl_core::Limits;
+use gcl_core::rules::MOST_LIMIT;
+use std::alloc::Global;
+
+/// Writes the lines of the masses of the program that a text spells, where the array has room, and tells their length in any
+/// case. An `attempts` or `rounds` of 0 is no limit. The status is 0 where there are masses, 1 where the text spells no program,
+/// with the code and the place of its refusal, 2 where a limit is out of range, 5 where memory ran out, and 6 where the masses
+/// are refused, with the code. Where it is not 0 the array stays as it was.
+#[unsafe(no_mangle)]
+pub extern "C" fn zar_mass(
+    alloc: Global,
+    text: &[u8],
+    turns: u64,
+    attempts: u64,
+    rounds: u64,
+    lines: &mut [u8],
+) -> ZarSaid
+    ensures { IsAnswer (Spells text.now) (SpellsNone text.now) (CanWeigh turns attempts rounds)
+        (λ p. AreMassLines p turns (limit_of attempts) (limit_of rounds))
+        (λ p. IsMassRefused p turns (limit_of attempts) (limit_of rounds)) lines.old lines.new result }
+{
+    if !can_weigh(turns, attempts, rounds) {
+        return said(NUMBERS_REFUSED);
+    }
+    match masses_of(alloc, text, turns, limit(attempts), limit(rounds)) {
+        Ok(told) => written(told.bytes(), lines),
+        Err(said) => said,
+    }
+}
+
+/// The same of the bounds of the program's values and faults at this limit of turns.
+#[unsafe(no_mangle)]
+pub extern "C" fn zar_posterior(alloc: Global, text: &[u8], turns: u64, lines: &mut [u8]) -> ZarSaid
+    ensures { IsAnswer (Spells text.now) (SpellsNone text.now) (turns ≤ MOST_LIMIT)
+        (λ p. AreBoundLines p turns) (λ p. IsMassRefused p turns None None) lines.old lines.new result }
+{
+    if turns > MOST_LIMIT {
+        return said(NUMBERS_REFUSED);
+    }
+    match bounds_of(alloc, text, turns) {
+        Ok(told) => written(told.bytes(), lines),
+        Err(said) => said,
+    }
+}
+
+/// The same of the program's masses where nothing is limited, and of what never ends.
+#[unsafe(no_mangle)]
+pub extern "C" fn zar_exact(alloc: Global, text: &[u8], lines: &mut [u8]) -> ZarSaid
+    ensures { IsAnswer (Spells text.now) (SpellsNone text.now) NoNumbers AreExactLines IsExactRefused lines.old lines.new result }
+{
+    match exact_of(alloc, text) {
+        Ok(told) => written(told.bytes(), lines),
+        Err(said) => said,
+    }
+}
+
+/// The same of the bits that a run of the program reads on average.
+#[unsafe(no_mangle)]
+pub extern "C" fn zar_cost(
+    alloc: Global,
+    text: &[u8],
+    turns: u64,
+    attempts: u64,
+    rounds: u64,
+    lines: &mut [u8],
+) -> ZarSaid
+    ensures { IsAnswer (Spells text.now) (SpellsNone text.now) (InRange (limits_by turns attempts rounds))
+        (λ p. IsBitLine p (limits_by turns attempts rounds))
+        (λ p. IsCostRefused p (limits_by turns attempts rounds)) lines.old lines.new result }
+{
+    let l = Limits {
+        turns,
+        attempts,
+        rounds,
+    };
+    if !is_in_range(&l) {
+        return said(NUMBERS_REFUSED);
+    }
+    match bits_of(alloc, text, &l) {
+        Ok(told) => written(told.bytes(), lines),
+        Err(said) => said,
+    }
+}

@@ -1,0 +1,111 @@
+// Calls of the exports, with answers that the documents have.
+
+use crate::{
+    DONE, NUMBERS_REFUSED, TEXT_REFUSED, ZarLimits, ZarRollLimits, zar_check, zar_code, zar_cost,
+    zar_draws, zar_mass, zar_posterior, zar_roll, zar_show, zar_version,
+};
+use std::test::Fail;
+
+// A die, whose first runs on the streams of the seed 1 are those of the documents.
+const DIE: &[u8] = b"face ~ uniform(6); return face + 1;";
+
+const USUAL: ZarLimits = ZarLimits {
+    budget: 65_536,
+    turns: 1000,
+    attempts: 1000,
+    rounds: 1000,
+};
+
+#[test]
+fn draws(rt: HostRuntime) -> Result<(), Fail> {
+    let mut values = [7i64; 3];
+    let mut ends = [7u8; 3];
+    let said = zar_draws(rt.alloc(), DIE, 1, 0, &USUAL, &mut values, &mut ends);
+    assert_eq!(rt; said.status, DONE);
+    assert_eq!(rt; values, [4, 1, 4]);
+    assert_eq!(rt; ends, [0, 0, 0]);
+    Ok(())
+}
+
+// Of the weights 3, 2 and 1 the label 1 comes on 10. The stream 0 of the seed 0 begins with 1010 (RFC 8439, appendix A.1, test
+// vector 1).
+#[test]
+fn rolls(rt: HostRuntime) -> Result<(), Fail> {
+    let limits = ZarRollLimits {
+        budget: 9,
+        flips: 9,
+    };
+    let mut labels = [7u64; 1];
+    let mut ends = [7u8; 1];
+    let said = zar_roll(rt.alloc(), &[6], 0, 0, &limits, &mut labels, &mut ends);
+    assert_eq!(rt; said.status, NUMBERS_REFUSED);
+    assert_eq!(rt; labels, [7]);
+    let said = zar_roll(
+        rt.alloc(),
+        &[3, 2, 1],
+        0,
+        0,
+        &limits,
+        &mut labels,
+        &mut ends,
+    );
+    assert_eq!(rt; said.status, DONE);
+    assert_eq!(rt; labels, [1]);
+    assert_eq!(rt; ends, [0]);
+    Ok(())
+}
+
+#[test]
+fn refuses(rt: HostRuntime) -> Result<(), Fail> {
+    let mut values = [7i64; 3];
+    let mut ends = [7u8; 3];
+    let said = zar_draws(
+        rt.alloc(),
+        b"return y;",
+        1,
+        0,
+        &USUAL,
+        &mut values,
+        &mut ends,
+    );
+    assert_eq!(rt; said.status, TEXT_REFUSED);
+    assert_eq!(rt; said.code, 8);
+    assert_eq!(rt; said.place, 0);
+    let said = zar_draws(rt.alloc(), DIE, 1, 0, &USUAL, &mut values[..2], &mut ends);
+    assert_eq!(rt; said.status, NUMBERS_REFUSED);
+    assert_eq!(rt; values, [7, 7, 7]);
+    Ok(())
+}
+
+#[test]
+fn tells_lines(rt: HostRuntime) -> Result<(), Fail> {
+    let mut lines = [0u8; 24];
+    let coin = b"choice 1/3 { x := 1; } or { x := 2; } return x;";
+    let said = zar_mass(rt.alloc(), coin, 30, 0, 0, &mut lines);
+    assert_eq!(rt; said.length, 34);
+    assert_eq!(rt; lines, [0; 24]);
+    let said = zar_posterior(rt.alloc(), b"return 1;", 30, &mut lines);
+    assert_eq!(rt; said.length, 24);
+    assert_eq!(rt; lines, *b"value 1 from 1/1 to 1/1\n");
+    let said = zar_cost(rt.alloc(), coin, 30, 1, 1, &mut lines);
+    assert_eq!(rt; said.length, 9);
+    assert_eq!(rt; lines[..9], *b"bits 2/1\n".as_slice());
+    Ok(())
+}
+
+#[test]
+fn tells_of_texts(rt: HostRuntime) -> Result<(), Fail> {
+    let mut lines = [0u8; 24];
+    let said = zar_version(&mut lines);
+    assert_eq!(rt; said.length, 10);
+    assert_eq!(rt; lines[..10], *b"zar 1.0.0\n".as_slice());
+    assert_eq!(rt; zar_check(rt.alloc(), DIE).status, DONE);
+    assert_eq!(rt; zar_check(rt.alloc(), b"return y;").code, 8);
+    let said = zar_show(rt.alloc(), b"return(y);", &mut lines);
+    assert_eq!(rt; said.length, 10);
+    assert_eq!(rt; lines[..10], *b"return y;\n".as_slice());
+    let said = zar_code(rt.alloc(), b"return 1+1;", &mut lines);
+    assert_eq!(rt; said.length, 15);
+    assert_eq!(rt; lines[..15], *b"0 return 1 + 1\n".as_slice());
+    Ok(())
+}

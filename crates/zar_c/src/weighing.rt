@@ -1,0 +1,155 @@
+// The lines about the program of a text.
+
+ghost use Rattle.std.specs.Prelude.{◌≡◌, ◌≤◌, ◌↔◌, None, IfOk, IfErr, IfSome, IsTrue};
+ghost use Rattle.gcl_core.specs.declared.rules.TheConstants.{MOST_LIMIT};
+ghost use Rattle.gcl_core.specs.meaning.LimitRange.{InRange};
+ghost use Rattle.gcl_core.specs.meaning.Syntax.{SourceProgram};
+ghost use Rattle.gcl_core.specs.text.Texts.{Spells, SpellsNone};
+ghost use Rattle.mass_fold.specs.Refused.{IsLimit};
+ghost use Rattle.mass_lines.specs.BitLines.{IsBitLine};
+ghost use Rattle.mass_lines.specs.BoundLines.{AreBoundLines};
+ghost use Rattle.mass_lines.specs.ExactLines.{AreExactLines};
+ghost use Rattle.mass_lines.specs.MassLines.{AreMassLines};
+ghost use Rattle.zar_c.specs.Masses.{CanWeigh, IsCostRefused, IsExactRefused, IsMassRefused, cost_code, exact_code, limit_of, mass_code};
+ghost use Rattle.zar_c.specs.inner.Refusing.{IsReason, IsRefusal};
+
+use crate::said::{ZarSaid, reason, refused, said};
+use crate::statuses::OUT_OF_MEMORY;
+use cost_fold::CostError;
+use exact_fold::ExactError;
+use gcl_core::rules::MOST_LIMIT;
+use gcl_core::{Limits, refusals};
+use gcl_parse::one_reading;
+use gcl_print::Text;
+use gcl_text::check_text;
+use mass_fold::MassError;
+use mass_lines::{bits_text, bounds_text, exact_text, masses_text};
+use std::alloc::Global;
+
+// Whether masses can be worked out under these limits.
+pub(crate) fn can_weigh(turns: u64, attempts: u64, rounds: u64) -> bool
+    ensures { IsTrue result ↔ CanWeigh turns attempts rounds }
+{
+    turns <= MOST_LIMIT && attempts <= MOST_LIMIT && rounds <= MOST_LIMIT
+}
+
+// The limit that a number stands for.
+pub(crate) fn limit(n: u64) -> Option<u64>
+    requires { n ≤ MOST_LIMIT }
+    ensures limit { result ≡ limit_of n }
+    ensures range { IfSome result IsLimit }
+{
+    if n == 0 { None } else { Some(n) }
+}
+
+fn mass_refused(error: MassError) -> ZarSaid
+    ensures { IsReason (mass_code error) result }
+{
+    match error {
+        MassError::TooWide => reason(refusals::TOO_WIDE),
+        MassError::TooManyStates => reason(refusals::TOO_MANY_STATES),
+        MassError::AllFailed => reason(refusals::ALL_FAILED),
+        MassError::OutOfMemory => said(OUT_OF_MEMORY),
+    }
+}
+
+fn cost_refused(error: CostError) -> ZarSaid
+    ensures { IsReason (cost_code error) result }
+{
+    match error {
+        CostError::TooWide => reason(refusals::TOO_WIDE),
+        CostError::TooManyStates => reason(refusals::TOO_MANY_STATES),
+        CostError::OutOfMemory => said(OUT_OF_MEMORY),
+    }
+}
+
+fn exact_refused(error: ExactError) -> ZarSaid
+    ensures { IsReason (exact_code error) result }
+{
+    match error {
+        ExactError::TooWide => reason(refusals::TOO_WIDE),
+        ExactError::TooManyStates => reason(refusals::TOO_MANY_STATES),
+        ExactError::AllFailed => reason(refusals::ALL_FAILED),
+        ExactError::OutOfMemory => said(OUT_OF_MEMORY),
+    }
+}
+
+// The lines of the masses of the program that a text spells.
+pub(crate) fn masses_of(
+    alloc: Global,
+    text: &[u8],
+    turns: u64,
+    attempts: Option<u64>,
+    rounds: Option<u64>,
+) -> Result<Text, ZarSaid>
+    requires turns { turns ≤ MOST_LIMIT }
+    requires attempts { IfSome attempts IsLimit }
+    requires rounds { IfSome rounds IsLimit }
+    ensures lines { IfOk result (λ lines. (p : SourceProgram) → Spells text.now p → AreMassLines p turns attempts rounds lines) }
+    ensures there { IfOk result (λ _. (p : SourceProgram) × Spells text.now p) }
+    ensures refused { IfErr result
+        (IsRefusal (Spells text.now) (SpellsNone text.now) (λ p. IsMassRefused p turns attempts rounds)) }
+{
+    one_reading();
+    let program = match check_text(alloc, text) {
+        Ok(program) => program,
+        Err(refusal) => return Err(refused(refusal)),
+    };
+    match masses_text(alloc, &program, turns, attempts, rounds) {
+        Ok(lines) => Ok(lines),
+        Err(error) => Err(mass_refused(error)),
+    }
+}
+
+// The lines of its bounds.
+pub(crate) fn bounds_of(alloc: Global, text: &[u8], turns: u64) -> Result<Text, ZarSaid>
+    requires { turns ≤ MOST_LIMIT }
+    ensures lines { IfOk result (λ lines. (p : SourceProgram) → Spells text.now p → AreBoundLines p turns lines) }
+    ensures there { IfOk result (λ _. (p : SourceProgram) × Spells text.now p) }
+    ensures refused { IfErr result (IsRefusal (Spells text.now) (SpellsNone text.now) (λ p. IsMassRefused p turns None None)) }
+{
+    one_reading();
+    let program = match check_text(alloc, text) {
+        Ok(program) => program,
+        Err(refusal) => return Err(refused(refusal)),
+    };
+    match bounds_text(alloc, &program, turns) {
+        Ok(lines) => Ok(lines),
+        Err(error) => Err(mass_refused(error)),
+    }
+}
+
+// The lines of its masses where nothing is limited.
+pub(crate) fn exact_of(alloc: Global, text: &[u8]) -> Result<Text, ZarSaid>
+    ensures lines { IfOk result (λ lines. (p : SourceProgram) → Spells text.now p → AreExactLines p lines) }
+    ensures there { IfOk result (λ _. (p : SourceProgram) × Spells text.now p) }
+    ensures refused { IfErr result (IsRefusal (Spells text.now) (SpellsNone text.now) IsExactRefused) }
+{
+    one_reading();
+    let program = match check_text(alloc, text) {
+        Ok(program) => program,
+        Err(refusal) => return Err(refused(refusal)),
+    };
+    match exact_text(alloc, &program) {
+        Ok(lines) => Ok(lines),
+        Err(error) => Err(exact_refused(error)),
+    }
+}
+
+// The line of the bits that its runs read on average.
+pub(crate) fn bits_of(alloc: Global, text: &[u8], l: &Limits) -> Result<Text, ZarSaid>
+    requires { InRange l.now }
+    ensures lines { IfOk result (λ lines. (p : SourceProgram) → Spells text.now p → IsBitLine p l.now lines) }
+    ensures there { IfOk result (λ _. (p : SourceProgram) × Spells text.now p) }
+    ensures refused { IfErr result (IsRefusal (Spells text.now) (SpellsNone text.now) (λ p. IsCostRefused p l.now)) }
+{
+    one_reading();
+    let program = match check_text(alloc, text) {
+        Ok(program) => program,
+        Err(refusal) => return Err(refused(refusal)),
+    };
+    match bits_text(alloc, &program, l) {
+        Ok(lines) => Ok(lines),
+        Err(error) => Err(cost_refused(error)),
+    }
+}

@@ -1,0 +1,121 @@
+/* zar.h: cpGCL programs compiled, drawn from and weighed, and rolls by weights.
+ *
+ * A call takes a program's text or weights, and keeps nothing between calls: there is no handle and nothing to free. Threads may call at a
+ * time, each on arrays of its own. No call ends the process, starts a thread, or opens a file. Its memory is that of malloc, all of
+ * which it gives back.
+ *
+ * What a caller must keep, since no call can test it:
+ *   - no pointer is null, not even one to an array of length 0;
+ *   - each array has the length that is told beside it, and no two arrays of a call overlap;
+ *   - no other thread writes the text, the weights or the limits of a call while it runs, nor reads or writes the arrays that it writes.
+ * All else is tested, and answered by a status.
+ */
+#ifndef ZAR_H
+#define ZAR_H
+#include <stdbool.h>
+#include <stddef.h>
+#include <stdint.h>
+#ifdef __cplusplus
+extern "C" {
+#endif
+
+/* The statuses of a call, which are those that the program `zar` ends with. Numbers are tested before the text, and the text before
+ * its masses are worked out. */
+enum {
+    ZAR_DONE = 0,            /* it did what it was asked */
+    ZAR_TEXT_REFUSED = 1,    /* the text has no program */
+    ZAR_NUMBERS_REFUSED = 2, /* a number is out of range, or the two arrays have not one length; no roll may have the weights */
+    ZAR_OUT_OF_MEMORY = 5,
+    ZAR_MASS_REFUSED = 6     /* the masses of the program are refused */
+};
+
+/* What a call answers. Where the status is not ZAR_DONE the arrays stay as they were. */
+typedef struct {
+    uint8_t status;
+    uint8_t code;    /* of a refusal, as 5 for E5; else 0 */
+    bool has_place;  /* whether that has a place in the text */
+    uint32_t place;  /* how many bytes stand before it; else 0 */
+    uint64_t length; /* of the lines, in bytes; else 0 */
+} zar_said;
+
+/* Lines are written to the front of an array, of this capacity in bytes, where they fit, and else it stays as it was; `length` is
+ * theirs in either case. So a call with a capacity of 0 asks how much room they need. They are the bytes that the program prints,
+ * with a line feed behind each, and no byte 0. */
+
+/* The line of `zar --version`. */
+zar_said zar_version(uint8_t *lines, size_t capacity);
+
+/* Whether a text spells a program, as `zar check` says it. */
+zar_said zar_check(const uint8_t *text, size_t text_length);
+
+/* The lines of `zar show`: the canonical text of the program, which is not checked. */
+zar_said zar_show(const uint8_t *text, size_t text_length, uint8_t *lines, size_t capacity);
+
+/* The lines of `zar code`: the listing of the code that samples the program. */
+zar_said zar_code(const uint8_t *text, size_t text_length, uint8_t *lines, size_t capacity);
+
+/* The limits of runs, and how many bits of a stream a run may read. */
+typedef struct {
+    uint64_t budget;   /* 0 to 1,000,000,000 */
+    uint64_t turns;    /* of each entry of a loop, 0 to 1,000,000,000 */
+    uint64_t attempts; /* of each draw, 1 to 1,000,000,000 */
+    uint64_t rounds;   /* of a run, 1 to 1,000,000,000 */
+} zar_limits;
+
+/* How a run or a roll ends. */
+enum {
+    ZAR_VALUE = 0,
+    ZAR_OVERFLOW = 1,     /* a result outside the numbers of 64 bits */
+    ZAR_ZERO_DIVISOR = 2, /* a division or a remainder by 0 */
+    ZAR_BAD_BOUND = 3,    /* a uniform draw of a bound below 1 */
+    ZAR_TURNS = 4,        /* cut off by the limit of turns */
+    ZAR_ATTEMPTS = 5,     /* by that of attempts */
+    ZAR_ROUNDS = 6,       /* by that of rounds */
+    ZAR_MORE_BITS = 7,    /* it needs more bits than the budget has */
+    ZAR_FLIPS = 8         /* a roll alone: cut off by the limit of flips */
+};
+
+/* Draws: at place k of both arrays it writes how the run on the stream first + k of the seed ends, which is what
+ *     zar sample TEXT --seed SEED --stream FIRST+K --budget .. --turns .. --attempts .. --rounds ..
+ * prints: in `ends` the end, and in `values` the value, or 0 where there is none. The arrays have one length, and first + length is
+ * at most 2^64. Streams are told apart by seed and number, so parts of an array can be filled by calls of their own, on any threads,
+ * and hold the same numbers as if one call had filled it. */
+zar_said zar_draws(const uint8_t *text, size_t text_length, uint64_t seed, uint64_t first, const zar_limits *limits,
+                   int64_t *values, size_t values_length, uint8_t *ends, size_t ends_length);
+
+/* How many bits of a stream there are for a roll, and how many of them it may read. */
+typedef struct {
+    uint64_t budget; /* 0 to 1,000,000,000 */
+    uint64_t flips;  /* 0 to 1,000,000,000 */
+} zar_roll_limits;
+
+/* Rolls by weights: at place k of both arrays it writes what the roll on the stream first + k of the seed gives, which is what
+ *     zar roll W,W,.. --seed SEED --stream FIRST+K --budget .. --flips ..
+ * prints: in `ends` the end, which is ZAR_VALUE, ZAR_FLIPS or ZAR_MORE_BITS, and in `labels` the label, or 0 where there is none.
+ * The label i, from 0 on, comes with the chance weights[i] in the sum of all. There are 2 to 2^32 weights, with a sum of at most
+ * 2^62, which is none of them; a weight may be 0. The arrays and `first` are as for zar_draws. A call lays out 64 columns of the
+ * weights, of at most 4 bytes a weight each, and then rolls; so ask for many rolls at a time. */
+zar_said zar_roll(const uint64_t *weights, size_t weights_length, uint64_t seed, uint64_t first, const zar_roll_limits *limits,
+                  uint64_t *labels, size_t labels_length, uint8_t *ends, size_t ends_length);
+
+/* The lines of `zar mass`: each outcome and its exact mass. `turns` is 0 to 1,000,000,000, as are `attempts` and `rounds`, of which 0
+ * stands for no limit. The codes of ZAR_MASS_REFUSED are 13, 14 and 15. */
+zar_said zar_mass(const uint8_t *text, size_t text_length, uint64_t turns, uint64_t attempts, uint64_t rounds,
+                  uint8_t *lines, size_t capacity);
+
+/* The lines of `zar posterior`: bounds of the masses at every greater limit of turns. `turns` and codes are those of zar_mass. */
+zar_said zar_posterior(const uint8_t *text, size_t text_length, uint64_t turns, uint8_t *lines, size_t capacity);
+
+/* The lines of `zar exact`: each outcome and its exact mass where nothing is limited, and what never ends. The codes of
+ * ZAR_MASS_REFUSED are those of zar_mass. */
+zar_said zar_exact(const uint8_t *text, size_t text_length, uint8_t *lines, size_t capacity);
+
+/* The line of `zar cost`: how many bits a run reads on average. The limits have the ranges of `zar_limits`; the codes of
+ * ZAR_MASS_REFUSED are 13 and 14. */
+zar_said zar_cost(const uint8_t *text, size_t text_length, uint64_t turns, uint64_t attempts, uint64_t rounds,
+                  uint8_t *lines, size_t capacity);
+
+#ifdef __cplusplus
+}
+#endif
+#endif

@@ -1,0 +1,72 @@
+/* calls FILE SEED COUNT: all calls of the library on the text of a file, by C and by C++. It prints the line of the version, the
+ * lines of show, code, mass, exact, posterior and cost, or status and code, and the outcomes of the first streams of the seed in the words of the program;
+ * and those of rolls by the weights 3, 2 and 1 on these streams. */
+#include "zar.h"
+#include <inttypes.h>
+#include <stdio.h>
+#include <stdlib.h>
+#include <string.h>
+
+static const char *const ENDS[] = {"value",       "fault overflow", "fault zero divisor", "fault bad bound",
+                                   "limit turns", "limit attempts", "limit rounds",       "more bits",
+                                   "limit flips"};
+static uint8_t text[70000], lines[1 << 20];
+static size_t text_length;
+
+static void tell(zar_said said) {
+    if (said.status != ZAR_DONE)
+        printf("status %u, code %u\n", said.status, said.code);
+    else if (said.length <= sizeof lines)
+        fwrite(lines, 1, (size_t)said.length, stdout);
+}
+
+static void draw(uint64_t seed, size_t count) {
+    const zar_limits limits = {65536, 1000, 1000, 1000};
+    int64_t *values = (int64_t *)malloc(count * sizeof *values);
+    uint8_t *ends = (uint8_t *)malloc(count);
+    if (!values || !ends || zar_draws(text, text_length, seed, 0, &limits, values, count, ends, count).status != ZAR_DONE)
+        exit(2);
+    for (size_t k = 0; k < count; k++)
+        if (ends[k] == ZAR_VALUE)
+            printf("value %" PRId64 "\n", values[k]);
+        else
+            printf("%s\n", ENDS[ends[k]]);
+    free(values);
+    free(ends);
+}
+
+static void roll(uint64_t seed, size_t count) {
+    static const uint64_t weights[] = {3, 2, 1};
+    const zar_roll_limits limits = {65536, 3};
+    uint64_t *labels = (uint64_t *)malloc(count * sizeof *labels);
+    uint8_t *ends = (uint8_t *)malloc(count);
+    if (!labels || !ends || zar_roll(weights, 3, seed, 0, &limits, labels, count, ends, count).status != ZAR_DONE)
+        exit(2);
+    for (size_t k = 0; k < count; k++)
+        if (ends[k] == ZAR_VALUE)
+            printf("value %" PRIu64 "\n", labels[k]);
+        else
+            printf("%s\n", ENDS[ends[k]]);
+    free(labels);
+    free(ends);
+}
+
+int main(int count, char **words) {
+    FILE *file = count == 4 ? fopen(words[1], "rb") : NULL;
+    if (!file)
+        return 3;
+    text_length = fread(text, 1, sizeof text, file);
+    fclose(file);
+    tell(zar_version(lines, sizeof lines));
+    if (zar_check(text, text_length).status != ZAR_DONE)
+        return 4;
+    tell(zar_show(text, text_length, lines, sizeof lines));
+    tell(zar_code(text, text_length, lines, sizeof lines));
+    tell(zar_mass(text, text_length, 9, 3, 2, lines, sizeof lines));
+    tell(zar_exact(text, text_length, lines, sizeof lines));
+    tell(zar_posterior(text, text_length, 9, lines, sizeof lines));
+    tell(zar_cost(text, text_length, 9, 3, 2, lines, sizeof lines));
+    draw(strtoull(words[2], NULL, 10), (size_t)strtoull(words[3], NULL, 10));
+    roll(strtoull(words[2], NULL, 10), (size_t)strtoull(words[3], NULL, 10));
+    return 0;
+}
