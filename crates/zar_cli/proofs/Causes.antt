@@ -1,5 +1,5 @@
 -- Why each status comes, from what is said and how it is shown.
-use Rattle.std.proofs.Common.{◌≡◌, ℕ, ◌<◌, ◌==◌, nat_lt, Bool, true, false, ◌||◌, IsTrue, List, Option, Some, Result, Ok, Err, ◌⊎◌, inl, inr, refl, sym, ◌∙◌, ap, subst, arith, if◌then◌else◌}
+use Rattle.std.proofs.Common.{◌≡◌, ℕ, ◌<◌, ◌==◌, nat_lt, Bool, true, false, ◌||◌, IsTrue, List, [], Option, Some, Result, Ok, Err, ◌⊎◌, inl, inr, refl, sym, ◌∙◌, ap, subst, arith, if◌then◌else◌}
 use Rattle.std.proofs.lemmas.Bool.Decides.{nat_tests}
 use Rattle.dice_roll.specs.declared.answers.Roll.{Roll}
 use Rattle.dice_roll.specs.declared.answers.Roll.TheVariants as rolled
@@ -8,19 +8,21 @@ use Rattle.gcl_core.specs.declared.answers.Answer.TheVariants.{Ended, MoreBits}
 use Rattle.gcl_core.specs.declared.answers.Outcome.TheVariants as outcome
 use Rattle.gcl_core.specs.declared.refusals.TheConstants.{TOO_FINE, BAD_WORDS}
 use Rattle.report_text.specs.declared.refusals.Refusal.TheVariants.{Coded, Read, Write, Memory, NoFile}
-use Rattle.zar_io.specs.Faults.{CountsFault}
+use Rattle.zar_io.specs.declared.trace.Event.{Event}
+use Rattle.zar_io.specs.Trace.{failures, is_open}
+use Rattle.zar_io.specs.Written.{IsWritten}
 use Rattle.zar_cli.specs.declared.command.Command.{Command}
 use Rattle.zar_cli.specs.declared.said.Said.{Said}
 use Rattle.zar_cli.specs.declared.said.Said.TheVariants.{Answered, Accepted, Costed, Shown, Drawn, Found, Rolled, Helped}
 use Rattle.zar_cli.specs.declared.statuses.TheConstants.{DONE, WORDS_REFUSED, READ_FAULT, WRITE_FAULT, MASS_REFUSED, LIMIT_REACHED, NO_FILE}
 use Rattle.zar_cli.specs.declared.statuses.TheConstants as status
-use Rattle.zar_cli.specs.Answer.{FitsWords, MissesNamed, IsAnswer}
-use Rattle.zar_cli.specs.Cause.{NamesMissing, HasCause}
-use Rattle.zar_cli.specs.Delivery.{answer_status, roll_status, said_status, status_of, CountsIf}
-use Rattle.zar_cli.specs.Fits.{Fits}
+use Rattle.zar_cli.specs.Answer.{IsSaid, IsAnswer}
+use Rattle.zar_cli.specs.Cause.{NoneFailed, HasCause}
+use Rattle.zar_cli.specs.Delivery.{answer_status, roll_status, said_status, status_of}
+use Rattle.zar_cli.specs.inner.Said.{Fits}
 use Rattle.zar_cli.specs.ByStages.{Output}
-use Rattle.zar_cli.specs.Seen.{FilesSeen, SinkSeen, IsQuiet, NoWriteFailed}
-use Rattle.zar_cli.specs.Stages.{refusal_in, CountsRead, ClosesAfter}
+use Rattle.zar_cli.specs.Spelling.{names_of}
+use Rattle.zar_cli.specs.Stages.{refusal_in, Misses, Leaves}
 use Rattle.zar_cli.specs.Forms.{CallWord}
 use Rattle.zar_cli.specs.Words.{command_of, is_bad}
 use Rattle.zar_cli.proofs.Codes.{output_codes}
@@ -87,22 +89,41 @@ few_codes c code at (inr is) = output_codes (Coded code at) is.0 c is.1
 
 -- ---- outputs
 
-module _ (old new : ℕ) where
-  read_status : (o : Output) → CountsRead (refusal_in o) old new → status_of o ≡ READ_FAULT → CountsFault old new
-  read_status (Ok s) counts e = absurd (said_apart (said_status s) (said_statuses s) (inr (inl e)))
-  read_status (Err (Coded code at)) counts e = absurd (coded_apart (code == BAD_WORDS) (nat_lt TOO_FINE code) (inl e))
-  read_status (Err Read) counts e = counts
-  read_status (Err Write) counts e = absurd (omega arith)
-  read_status (Err Memory) counts e = absurd (omega arith)
-  read_status (Err NoFile) counts e = absurd (omega arith)
+-- the output is one of the command, or the refusal of words
+abbrev FitsWords : Result Command ℕ → Output → Type 0
+FitsWords (Ok command) output = Fits command output
+FitsWords (Err at) output = output ≡ Err (Coded BAD_WORDS (Some at))
 
-  read_counts : (o : Output) → CountsRead (refusal_in o) old new → old < new → o ≡ Err Read
-  read_counts (Ok s) counts h = absurd (omega (arith, counts))
-  read_counts (Err (Coded code at)) counts h = absurd (omega (arith, counts))
-  read_counts (Err Read) counts h = refl
-  read_counts (Err Write) counts h = absurd (omega (arith, counts))
-  read_counts (Err Memory) counts h = absurd (omega (arith, counts))
-  read_counts (Err NoFile) counts h = absurd (omega (arith, counts))
+fits_words : (c : Result Command ℕ) (before now : List Event) (o : Output) → IsSaid c before now o → FitsWords c o
+fits_words (Ok c) before now o said = said.fits
+fits_words (Err at) before now o said = said.0
+
+leaves_words : (c : Result Command ℕ) (before now : List Event) (o : Output) → IsSaid c before now o → Leaves (names_of c) (refusal_in o) before now
+leaves_words (Ok c) before now o said = said.leaves
+leaves_words (Err at) before now o said = subst (λ x. Leaves [] (refusal_in x) before now) (sym said.0) (ap failures said.1)
+
+module _ (names : List CallWord) (before now : List Event) where
+  read_status : (o : Output) → Leaves names (refusal_in o) before now → status_of o ≡ READ_FAULT → failures before < failures now
+  read_status (Ok s) leaves e = absurd (said_apart (said_status s) (said_statuses s) (inr (inl e)))
+  read_status (Err (Coded code at)) leaves e = absurd (coded_apart (code == BAD_WORDS) (nat_lt TOO_FINE code) (inl e))
+  read_status (Err Read) leaves e = omega (arith, leaves.0)
+  read_status (Err Write) leaves e = absurd (omega arith)
+  read_status (Err Memory) leaves e = absurd (omega arith)
+  read_status (Err NoFile) leaves e = absurd (omega arith)
+
+  read_counts : (o : Output) → Leaves names (refusal_in o) before now → failures before < failures now → o ≡ Err Read
+  read_counts (Ok s) leaves h = absurd (omega (arith, leaves))
+  read_counts (Err (Coded code at)) leaves h = absurd (omega (arith, leaves))
+  read_counts (Err Read) leaves h = refl
+  read_counts (Err Write) leaves h = absurd (omega (arith, leaves))
+  read_counts (Err Memory) leaves h = absurd (omega (arith, leaves))
+  read_counts (Err NoFile) leaves h = absurd (omega (arith, leaves.0))
+
+  closed_by_read : (o : Output) → Leaves names (refusal_in o) before now → o ≡ Err Read → is_open now ≡ false
+  closed_by_read o leaves e = (subst (λ x. Leaves names (refusal_in x) before now) e leaves).1
+
+  missed : (o : Output) → Leaves names (refusal_in o) before now → o ≡ Err NoFile → Misses names now
+  missed o leaves e = (subst (λ x. Leaves names (refusal_in x) before now) e leaves).1
 
 missing_output : (o : Output) → status_of o ≡ NO_FILE → o ≡ Err NoFile
 missing_output (Ok s) e = absurd (said_apart (said_status s) (said_statuses s) (inr (inr (inr e))))
@@ -137,36 +158,48 @@ words_output : (c : Result Command ℕ) (o : Output) → FitsWords c o → IsTru
 words_output (Ok c) o fits bad = absurd (cc)
 words_output (Err at) o fits bad = ap status_of fits
 
-missing_names : (c : Result Command ℕ) (may : CallWord → Bool) (o : Output) → FitsWords c o → MissesNamed c may o → o ≡ Err NoFile → NamesMissing c may
-missing_names (Ok c) may o fits misses e = subst (λ x. MissesNamed (Ok c) may x) e misses
-missing_names (Err at) may o fits misses e = let both : ◌≡◌ {A = Output} (Err (Coded BAD_WORDS (Some at))) (Err NoFile) = sym fits ∙ e in cc
-
 -- ---- delivery
 
-module _ (a b c d : ℕ) (said shown : ℕ) where
-  counts_write : (out err : Bool) → CountsIf out a b → CountsIf err c d → shown ≡ (if out || err then WRITE_FAULT else said) → (said ≡ WRITE_FAULT → ⊥) → shown ≡ WRITE_FAULT
-      → CountsFault a b ⊎ CountsFault c d
-  counts_write true err x y is never e = inl x
-  counts_write false true x y is never e = inr y
-  counts_write false false x y is never e = absurd (never (sym is ∙ e))
+rose : (before now : List Event) (text : List ℕ) → IsWritten true before now text → failures before < failures now
+rose before now text is = omega (arith, is.0)
 
-  is_write : (out err : Bool) → CountsIf out a b → CountsIf err c d → shown ≡ (if out || err then WRITE_FAULT else said) → (a < b) ⊎ (c < d) → shown ≡ WRITE_FAULT
-  is_write true err x y is h = is
+stood : (before now : List Event) (text : List ℕ) → IsWritten false before now text → failures now ≡ failures before
+stood before now text is = is.0
+
+module _ (out out_now err err_now : List Event) (s t : List ℕ) (said shown : ℕ) where
+  counts_write : (o e : Bool) → IsWritten o out out_now s → IsWritten e err err_now t → shown ≡ (if o || e then WRITE_FAULT else said) → (said ≡ WRITE_FAULT → ⊥) → shown ≡ WRITE_FAULT
+      → (failures out < failures out_now) ⊎ (failures err < failures err_now)
+  counts_write true e x y is never fault = inl (rose out out_now s x)
+  counts_write false true x y is never fault = inr (rose err err_now t y)
+  counts_write false false x y is never fault = absurd (never (sym is ∙ fault))
+
+  is_write : (o e : Bool) → IsWritten o out out_now s → IsWritten e err err_now t → shown ≡ (if o || e then WRITE_FAULT else said)
+      → (failures out < failures out_now) ⊎ (failures err < failures err_now) → shown ≡ WRITE_FAULT
+  is_write true e x y is h = is
   is_write false true x y is h = is
-  is_write false false x y is (inl h) = absurd (omega (arith, x))
-  is_write false false x y is (inr h) = absurd (omega (arith, y))
+  is_write false false x y is (inl h) = absurd (omega (arith, stood out out_now s x))
+  is_write false false x y is (inr h) = absurd (omega (arith, stood err err_now t y))
 
   -- no write failed
-  is_said : (out err : Bool) → CountsIf out a b → CountsIf err c d → shown ≡ (if out || err then WRITE_FAULT else said) → IsQuiet a b → IsQuiet c d → shown ≡ said
-  is_said true err x y is q r = let rose = x.rose q.could in let none = q.none in absurd (omega arith)
-  is_said false true x y is q r = let rose = y.rose r.could in let none = r.none in absurd (omega arith)
+  is_said : (o e : Bool) → IsWritten o out out_now s → IsWritten e err err_now t → shown ≡ (if o || e then WRITE_FAULT else said)
+      → failures out_now ≡ failures out → failures err_now ≡ failures err → shown ≡ said
+  is_said true e x y is q r = absurd (omega (arith, rose out out_now s x))
+  is_said false true x y is q r = absurd (omega (arith, rose err err_now t y))
   is_said false false x y is q r = is
 
+module _ (said shown : ℕ) where
   -- another status than that of a write fault is what is said
   is_other : (out err : Bool) → shown ≡ (if out || err then WRITE_FAULT else said) → (n : ℕ) → shown ≡ n → (n ≡ WRITE_FAULT → ⊥) → said ≡ n
   is_other true err is n e ne = absurd (ne (sym e ∙ is))
   is_other false true is n e ne = absurd (ne (sym e ∙ is))
   is_other false false is n e ne = sym is ∙ e
+
+-- one of both writes failed
+pub some_failed : (out err : Bool) (said : ℕ) → (out ≡ true) ⊎ (err ≡ true) → WRITE_FAULT ≡ (if out || err then WRITE_FAULT else said)
+some_failed true err said failed = refl
+some_failed false true said failed = refl
+some_failed false false said (inl failed) = absurd (cc)
+some_failed false false said (inr failed) = absurd (cc)
 
 -- neither write failed
 pub none_failed : (out err : Bool) (said shown : ℕ) → out ≡ false → err ≡ false → shown ≡ said → shown ≡ (if out || err then WRITE_FAULT else said)
@@ -176,25 +209,27 @@ none_failed false false said shown o e is = is
 
 -- ---- the causes
 
-module _ (words : List CallWord) (status : ℕ) (files : FilesSeen) (out err : SinkSeen) (a : IsAnswer words status files out err) where
+module _ (words : List CallWord) (status : ℕ) (files files_now out out_now err err_now : List Event) (a : IsAnswer words status files files_now out out_now err err_now) where
   other : (n : ℕ) → status ≡ n → (n ≡ WRITE_FAULT → ⊥) → status_of a.output ≡ n
-  other n e ne = is_other out.faults out.faults_now err.faults err.faults_now (status_of a.output) status a.delivered.out_failed a.delivered.err_failed a.delivered.status_is n e ne
+  other n e ne = is_other (status_of a.output) status a.delivered.out_failed a.delivered.err_failed a.delivered.status_is n e ne
 
-  unfailed : NoWriteFailed out err → status ≡ status_of a.output
-  unfailed none = is_said out.faults out.faults_now err.faults err.faults_now (status_of a.output) status a.delivered.out_failed a.delivered.err_failed
-      a.delivered.on_out.counts a.delivered.on_err.counts a.delivered.status_is none.on_out none.on_err
+  unfailed : NoneFailed out out_now err err_now → status ≡ status_of a.output
+  unfailed none = is_said out out_now err err_now _ _ (status_of a.output) status a.delivered.out_failed a.delivered.err_failed
+      a.delivered.on_out a.delivered.on_err a.delivered.status_is none.on_out none.on_err
 
-  pub has_cause : HasCause words status files out err
+  abbrev names : List CallWord
+  names = names_of (command_of words)
+
+  pub has_cause : HasCause words status files files_now out out_now err err_now
   has_cause = record {
-    write_fault = counts_write out.faults out.faults_now err.faults err.faults_now (status_of a.output) status a.delivered.out_failed a.delivered.err_failed
-        a.delivered.on_out.counts a.delivered.on_err.counts a.delivered.status_is (never_writes (command_of words) a.output a.said.fits);
-    failed_write = is_write out.faults out.faults_now err.faults err.faults_now (status_of a.output) status a.delivered.out_failed a.delivered.err_failed
-        a.delivered.on_out.counts a.delivered.on_err.counts a.delivered.status_is;
-    read_fault = λ e. read_status files.faults files.faults_now a.output a.said.counts (other READ_FAULT e (λ w. omega arith));
-    failed_read = λ none rose. unfailed none ∙ ap status_of (read_counts files.faults files.faults_now a.output a.said.counts rose);
-    bad_words = λ e. words_status (command_of words) a.output a.said.fits (other WORDS_REFUSED e (λ w. omega arith));
-    refused_words = λ none bad. unfailed none ∙ words_output (command_of words) a.output a.said.fits bad;
-    missing = λ e. missing_names (command_of words) files.may_be_missing a.output a.said.fits a.said.misses (missing_output a.output (other NO_FILE e (λ w. omega arith)));
-    closed_if_missing = λ e. subst (λ o. ClosesAfter (refusal_in o) files.open_now) (missing_output a.output (other NO_FILE e (λ w. omega arith))) a.said.closes;
-    closed_by_a_fault = λ rose. subst (λ o. ClosesAfter (refusal_in o) files.open_now) (read_counts files.faults files.faults_now a.output a.said.counts rose) a.said.closes;
+    write_fault = counts_write out out_now err err_now _ _ (status_of a.output) status a.delivered.out_failed a.delivered.err_failed
+        a.delivered.on_out a.delivered.on_err a.delivered.status_is (never_writes (command_of words) a.output (fits_words (command_of words) files files_now a.output a.said));
+    failed_write = is_write out out_now err err_now _ _ (status_of a.output) status a.delivered.out_failed a.delivered.err_failed
+        a.delivered.on_out a.delivered.on_err a.delivered.status_is;
+    read_fault = λ e. read_status names files files_now a.output (leaves_words (command_of words) files files_now a.output a.said) (other READ_FAULT e (λ w. omega arith));
+    failed_read = λ none rose. unfailed none ∙ ap status_of (read_counts names files files_now a.output (leaves_words (command_of words) files files_now a.output a.said) rose);
+    bad_words = λ e. words_status (command_of words) a.output (fits_words (command_of words) files files_now a.output a.said) (other WORDS_REFUSED e (λ w. omega arith));
+    refused_words = λ none bad. unfailed none ∙ words_output (command_of words) a.output (fits_words (command_of words) files files_now a.output a.said) bad;
+    missing = λ e. missed names files files_now a.output (leaves_words (command_of words) files files_now a.output a.said) (missing_output a.output (other NO_FILE e (λ w. omega arith)));
+    closed_by_a_fault = λ rose. closed_by_read names files files_now a.output (leaves_words (command_of words) files files_now a.output a.said) (read_counts names files files_now a.output (leaves_words (command_of words) files files_now a.output a.said) rose);
   }

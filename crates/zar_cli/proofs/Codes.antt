@@ -10,15 +10,17 @@ use Rattle.gcl_core.specs.text.Texts.{IsRefusedText, too_long, no_piece, wide_nu
 use Rattle.report_text.specs.declared.refusals.Refusal.{Refusal}
 use Rattle.report_text.specs.declared.refusals.Refusal.TheVariants.{Coded, Read, Write, Memory, NoFile}
 use Rattle.zar_cli.specs.declared.command.Command.{Command}
-use Rattle.zar_cli.specs.declared.command.Command.TheVariants.{Checked, Show, Gen, Fast, Help}
+use Rattle.zar_cli.specs.declared.command.Command.TheVariants.{Checked, Show, Gen, Fast, Roll, Help}
 use Rattle.zar_cli.specs.declared.command.Source.TheVariants.{File, Stream}
 use Rattle.zar_cli.specs.declared.command.Work.{Work}
-use Rattle.zar_cli.specs.declared.command.Work.TheVariants.{Sample, Mass, Cost, Posterior, Audit, Tally, Runs, Hunt, Check, Code}
+use Rattle.zar_cli.specs.declared.command.Work.TheVariants.{Sample, Mass, Cost, Posterior, Exact, Audit, Tally, Runs, Hunt, Check, Code}
 use Rattle.zar_cli.specs.declared.said.Said.{Said}
 use Rattle.zar_cli.specs.declared.said.Said.TheVariants.{Answered, Rolled}
 use Rattle.zar_cli.specs.Costs as costs
 use Rattle.zar_cli.specs.Costs.{SaysCost}
 use Rattle.zar_cli.specs.Counts.{ShowsText}
+use Rattle.zar_cli.specs.ExactMasses as exact
+use Rattle.zar_cli.specs.ExactMasses.{SaysExact}
 use Rattle.zar_cli.specs.Forms.{CallWord}
 use Rattle.zar_cli.specs.Masses as masses
 use Rattle.zar_cli.specs.Masses.{SaysMasses}
@@ -26,7 +28,9 @@ use Rattle.zar_cli.specs.ByStages.{Output, says, reading, on_bits, HasOrRefuses,
 use Rattle.zar_cli.specs.Output.{IsWorkedOut, IsOutput}
 use Rattle.zar_cli.specs.Posterior as posterior
 use Rattle.zar_cli.specs.Posterior.{SaysBounds}
+use Rattle.weighted_roll.specs.WeightedRoll.{weighted_roll}
 use Rattle.zar_cli.specs.Rolls.{weights_text, weights_said}
+use Rattle.zar_cli.specs.WeightedRolls.{labels_text}
 
 abbrev pub IsRefusal : Refusal → Type 0
 IsRefusal (Coded code at) = code < BAD_WORDS
@@ -76,6 +80,11 @@ bounds_codes p turns _ (posterior.too_wide h) = omega arith
 bounds_codes p turns _ (posterior.too_many_states h) = omega arith
 bounds_codes p turns _ (posterior.all_failed h) = omega arith
 
+exact_codes : (p : SourceProgram) (e : Refusal) → SaysExact p (Err e) → IsRefusal e
+exact_codes p _ (exact.too_wide h) = omega arith
+exact_codes p _ (exact.too_many_states h) = omega arith
+exact_codes p _ (exact.all_failed h) = omega arith
+
 -- ---- commands
 
 module _ (e : Refusal) where
@@ -120,6 +129,7 @@ module _ (e : Refusal) where
   work_codes file p (Mass turns attempts rounds) is = masses_codes p turns attempts rounds e is
   work_codes file p (Cost limits) is = costs_codes p limits e is
   work_codes file p (Posterior turns) is = bounds_codes p turns e is
+  work_codes file p Exact is = exact_codes p e is
   work_codes file p (Audit depth limits) is = of_shown _ is
   work_codes file p (Tally range limits) is = of_shown _ is
   work_codes file p (Runs range limits) is = of_said _ is
@@ -134,4 +144,7 @@ module _ (e : Refusal) where
   output_codes file (Fast labels flips (Some (File bits))) is = of_bits (file bits) (λ w. Rolled (fast_roll labels flips w)) is
   output_codes file (Fast labels flips (Some (Stream seed stream budget))) is = of_said _ is
   output_codes file (Fast labels flips None) is = of_weights (weights_text labels flips) is
+  output_codes file (Roll weights flips (Some (File bits))) is = of_bits (file bits) (λ w. Rolled (weighted_roll weights flips w)) is
+  output_codes file (Roll weights flips (Some (Stream seed stream budget))) is = of_said _ is
+  output_codes file (Roll weights flips None) is = of_weights (labels_text weights flips) is
   output_codes file (Help topic) is = of_said _ is

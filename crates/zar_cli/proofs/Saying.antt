@@ -1,6 +1,7 @@
 -- What a command says, from what its stages give.
-use Rattle.std.proofs.Common.{◌≡◌, ℕ, ◌<◌, ◌||◌, Bool, true, false, IsTrue, List, [], ◌∷◌, length, Option, Some, None, Ok, Err, ◌⊎◌, inl, inr, refl, sym, ◌∙◌, ap, subst, arith}
-use Rattle.std.specs.List.{list_any}
+use Rattle.std.proofs.Common.{◌≡◌, ℕ, zero, suc, ◌+◌, ◌<◌, Bool, true, List, [], ◌∷◌, length, Option, Some, None, Ok, Err, ◌⊎◌, inl, inr, refl, sym, ◌∙◌, ap, subst, arith}
+use Rattle.std.specs.List.{slice_index_or}
+use Rattle.std.specs.Prelude.{Contains}
 use Rattle.gcl_core.specs.meaning.Syntax.{SourceProgram}
 use Rattle.gcl_core.specs.text.Canonical.{canonical_text}
 use Rattle.gcl_core.specs.text.Texts.{IsWrittenIn, IsRefusedText, Spells, SpellsNone}
@@ -8,32 +9,35 @@ use Rattle.gcl_parse.specs.OneReading.{HasOneReadingAsWritten, HasOneReading}
 use Rattle.report_text.specs.declared.refusals.Refusal.{Refusal}
 use Rattle.report_text.specs.declared.refusals.Refusal.TheVariants.{Coded, Read, Write, Memory, NoFile}
 use Rattle.zar_io.specs.FileBits.{file_bits}
+use Rattle.zar_io.specs.Trace.{World, Agrees, failures}
+use Rattle.zar_io.specs.declared.trace.Event.{Event}
 use Rattle.zar_cli.specs.declared.command.Command.{Command}
 use Rattle.zar_cli.specs.declared.command.Command.TheVariants.{Show}
 use Rattle.zar_cli.specs.declared.said.Said.{Said}
 use Rattle.zar_cli.specs.declared.said.Said.TheVariants.{Shown}
-use Rattle.zar_cli.specs.Answer.{IsSaid}
-use Rattle.zar_cli.specs.Fits.{MaySay, Fits}
+use Rattle.zar_cli.specs.Fits.{MaySay}
+use Rattle.zar_cli.specs.inner.Said.{Fits}
 use Rattle.zar_cli.specs.Needs.{names_in, takes_memory}
 use Rattle.zar_cli.specs.ByStages.{Output, says, reading, on_bits, if_written, if_spelled}
 use Rattle.zar_cli.specs.Output.{IsOutput, SaysOrRunsOut}
 use Rattle.zar_cli.specs.inner.Readings.{InFile, NoneInFile, OfFile, GivesOnBits}
 use Rattle.zar_cli.specs.inner.Stage.{IsStage, OfOutside}
-use Rattle.zar_cli.specs.Seen.{FilesSeen, IsQuiet}
-use Rattle.zar_cli.specs.Stages.{CountsRead, MissesOneOf}
+use Rattle.zar_cli.specs.Stages.{Leaves}
+use Rattle.zar_cli.specs.inner.Said.{Asks}
+use Rattle.zar_cli.specs.Answer.{IsSaidOf}
 use Rattle.zar_cli.specs.Forms.{CallWord}
+use Rattle.zar_cli.proofs.Going.{some_asked, asks_first}
 
--- a call that counted no fault refuses no read
-pub no_read : (old new : ℕ) (e : Refusal) → CountsRead (Some e) old new → IsQuiet old new → e ≡ Read → ⊥
-no_read old new e counts quiet is =
-    let fault = subst (λ x. CountsRead (Some x) old new) is counts in
-    let rose : old < new = fault.rose quiet.could in
-    let none : new ≡ old = quiet.none in
+-- a stage that recorded no failure refuses no read
+pub no_read : (names : List CallWord) (before now : List Event) (e : Refusal) → Leaves names (Some e) before now → failures now ≡ failures before → e ≡ Read → ⊥
+no_read names before now e leaves quiet is =
+    let failed = subst (λ x. Leaves names (Some x) before now) is leaves in
+    let more : failures now ≡ failures before + 1 = failed.0 in
     omega arith
 
 -- what is said of an equal output
-pub said_as : (command : Command) (files : FilesSeen) (output other : Output) → output ≡ other → IsSaid (Ok command) files other → IsSaid (Ok command) files output
-said_as command files output other same said = subst (IsSaid (Ok command) files) (sym same) said
+pub said_as : (command : Command) (before now : List Event) (output other : Output) → output ≡ other → IsSaidOf command before now other → IsSaidOf command before now output
+said_as command before now output other same said = subst (IsSaidOf command before now) (sym same) said
 
 -- ---- texts
 
@@ -119,35 +123,48 @@ module _ (file : Option (List ℕ)) {A : Type 0} (f : List Bool → A) where
 -- ---- stages
 
 -- a name of fewer is one of more
-pub misses_more : (few more : List CallWord) (may : CallWord → Bool) (r : Option Refusal) → (list_any may few ≡ true → list_any may more ≡ true)
-    → MissesOneOf few may r → MissesOneOf more may r
-misses_more few more may (Some NoFile) h misses = grind (arith, h)
-misses_more few more may (Some Read) h misses = tt
-misses_more few more may (Some (Coded code at)) h misses = tt
-misses_more few more may (Some Write) h misses = tt
-misses_more few more may (Some Memory) h misses = tt
-misses_more few more may None h misses = tt
+pub leaves_more : (few more : List CallWord) (before now : List Event) (r : Option Refusal) → ((name : CallWord) → Contains few name → Contains more name) → Leaves few r before now → Leaves more r before now
+leaves_more few more before now (Some NoFile) h leaves = (leaves.0, (leaves.1.0, h leaves.1.0 leaves.1.1, leaves.1.2, leaves.1.3))
+leaves_more few more before now (Some Read) h leaves = leaves
+leaves_more few more before now (Some (Coded code at)) h leaves = leaves
+leaves_more few more before now (Some Write) h leaves = leaves
+leaves_more few more before now (Some Memory) h leaves = leaves
+leaves_more few more before now None h leaves = leaves
 
--- what a stage refuses is said
-pub said_refused : (command : Command) (files : FilesSeen) (names : List CallWord) (e : Refusal) → Fits command (Err e) → IsStage names files (Some e)
-    → (list_any files.may_be_missing names ≡ true → list_any files.may_be_missing (names_in command) ≡ true)
-    → (IsTrue files.told → IsQuiet files.faults files.faults_now → SaysOrRunsOut files.file command (Err e)) → IsSaid (Ok command) files (Err e)
-said_refused command files names e fits stage more tells = record {
+pub behind_first : (first : CallWord) (names : List CallWord) (name : CallWord) → Contains names name → Contains (first ∷ names) name
+behind_first first names name among = (suc among.0, omega (arith, among.1), among.2)
+
+only_first : (name program : CallWord) (rest : List CallWord) → name ≡ program → (other : CallWord) → Contains (name ∷ []) other → Contains (program ∷ rest) other
+only_first name program rest same other among = by_place among.0 among.1 among.2
+  where
+    by_place : (k : ℕ) → k < 1 → slice_index_or (name ∷ []) k other ≡ other → Contains (program ∷ rest) other
+    by_place zero below is = (0, omega arith, sym same ∙ is)
+    by_place (suc k) below is = absurd (omega (arith, below))
+
+-- what the first stage of a command refuses is said
+pub said_refused : (command : Command) (name program : CallWord) (rest : List CallWord) (before now : List Event) (e : Refusal) → name ≡ program → names_in command ≡ program ∷ rest
+    → Fits command (Err e) → IsStage (name ∷ []) before now (Some e) → (failures now ≡ failures before → (file : World) → Agrees file now → SaysOrRunsOut file command (Err e))
+    → IsSaidOf command before now (Err e)
+said_refused command name program rest before now e same names fits stage tells = record {
   fits = fits;
-  counts = stage.counts;
-  closes = stage.closes;
-  misses = misses_more names (names_in command) files.may_be_missing (Some e) more stage.misses;
+  leaves = subst (λ l. Leaves l (Some e) before now) (sym names) (leaves_more (name ∷ []) (program ∷ rest) before now (Some e) (only_first name program rest same) stage.leaves);
+  asks = asks;
   tells = tells;
+  some = some_asked (names_in command) before now asks;
 }
+  where
+    asks : Asks (names_in command) before now
+    asks = subst (λ l. Asks l before now) (sym names) (asks_first name program rest before now same stage.goes)
 
 -- what is said where no stage gave up
-pub said_all : (command : Command) (files : FilesSeen) (said : Said) → Fits command (Ok said) → files.faults_now ≡ files.faults
-    → (IsTrue files.told → IsOutput files.file command (Ok said)) → IsSaid (Ok command) files (Ok said)
-said_all command files said fits counts tells = record { fits = fits; counts = counts; closes = tt; misses = tt; tells = λ told quiet. inr (tells told) }
+pub said_all : (command : Command) (before now : List Event) (said : Said) → Fits command (Ok said) → failures now ≡ failures before → Asks (names_in command) before now
+    → ((file : World) → Agrees file now → IsOutput file command (Ok said)) → IsSaidOf command before now (Ok said)
+said_all command before now said fits leaves asks tells = record { fits = fits; leaves = leaves; asks = asks; tells = λ quiet file agrees. inr (tells file agrees); some = some_asked (names_in command) before now asks }
 
 -- a call that was refused where memory runs out
-pub said_memory : (command : Command) (files : FilesSeen) → takes_memory command ≡ true → files.faults_now ≡ files.faults → IsSaid (Ok command) files (Err Memory)
-said_memory command files takes counts = record { fits = inl takes; counts = counts; closes = tt; misses = tt; tells = λ told quiet. inl refl }
+pub said_memory : (command : Command) (before now : List Event) → takes_memory command ≡ true → failures now ≡ failures before → Asks (names_in command) before now
+    → IsSaidOf command before now (Err Memory)
+said_memory command before now takes leaves asks = record { fits = inl takes; leaves = leaves; asks = asks; tells = λ quiet file agrees. inl refl; some = some_asked (names_in command) before now asks }
 
 -- ---- a command that names a file
 
@@ -168,55 +185,43 @@ module _ (command : Command) (named : 0 < length (names_in command)) (takes : ta
   text_fits One Refuses file Memory none is = inl takes
   text_fits One Refuses file NoFile none is = inl named
 
-or_first : (a b : Bool) → (a || false) ≡ true → (a || b) ≡ true
-or_first true b e = refl
-or_first false b e = absurd (cc)
-
-pub or_second : (a b : Bool) → b ≡ true → (a || b) ≡ true
-or_second true b e = refl
-or_second false b e = e
-
-or_output : (file : CallWord → Option (List ℕ)) (command : Command) (Is : Output → Type 0) (output : Output) → (Is output → IsOutput file command output)
+pub or_output : (file : CallWord → Option (List ℕ)) (command : Command) (Is : Output → Type 0) (output : Output) → (Is output → IsOutput file command output)
     → OrMemory Is output → SaysOrRunsOut file command output
 or_output file command Is output is (inl memory) = inl memory
 or_output file command Is output is (inr h) = inr (is h)
 
 -- the text of its first file is refused
-module _ (command : Command) (takes : takes_memory command ≡ true) (files : FilesSeen) (name program : CallWord) (rest : List CallWord) (same : name ≡ program)
+module _ (command : Command) (takes : takes_memory command ≡ true) (before now : List Event) (name program : CallWord) (rest : List CallWord) (same : name ≡ program)
     (names : names_in command ≡ program ∷ rest) (One : List ℕ → Type 0) (Refuses : List ℕ → ℕ → Option ℕ → Type 0) (go : (CallWord → Option (List ℕ)) → List ℕ → Output → Type 0)
     (refused : (file : CallWord → Option (List ℕ)) (text : List ℕ) (code : ℕ) (at : Option ℕ) → One text → Refuses text code at → go file text (Err (Coded code at)))
     (is : (file : CallWord → Option (List ℕ)) (output : Output) → reading (file program) (go file) output → IsOutput file command output) where
   some_names : 0 < length (names_in command)
   some_names = subst (λ l. 0 < length l) (sym names) (omega arith)
 
-  among : list_any files.may_be_missing (name ∷ []) ≡ true → list_any files.may_be_missing (names_in command) ≡ true
-  among = subst (λ n. list_any files.may_be_missing (n ∷ []) ≡ true → list_any files.may_be_missing (names_in command) ≡ true) (sym same)
-      (subst (λ l. list_any files.may_be_missing (program ∷ []) ≡ true → list_any files.may_be_missing l ≡ true) (sym names)
-      (or_first (files.may_be_missing program) (list_any files.may_be_missing rest)))
-
-  pub refused_text : (e : Refusal) → IsStage (name ∷ []) files (Some e) → OfFile files.told (files.file name) (λ file. NoneInFile One Refuses file e) → IsSaid (Ok command) files (Err e)
+  pub refused_text : (e : Refusal) → IsStage (name ∷ []) before now (Some e) → OfFile name now (λ file. NoneInFile One Refuses file e) → IsSaidOf command before now (Err e)
   refused_text e stage none =
-      said_refused command files (name ∷ []) e
+      said_refused command name program rest before now e same names
       (text_fits command some_names takes One Refuses none.some.0 e none.some.1 (λ code at text one h. is (λ _. Some text) (Err (Coded code at)) (refused (λ _. Some text) text code at one h)))
-      stage among
-      (λ told quiet. or_output files.file command (reading (files.file program) (go files.file)) (Err e) (is files.file (Err e))
-      (text_refused (files.file program) One Refuses (go files.file) (refused files.file) e (subst (λ n. NoneInFile One Refuses (files.file n) e) same (none.tells told))
-      (no_read files.faults files.faults_now e stage.counts quiet)))
+      stage
+      (λ quiet file agrees. or_output file command (reading (file program) (go file)) (Err e) (is file (Err e))
+      (text_refused (file program) One Refuses (go file) (refused file) e (subst (λ n. NoneInFile One Refuses (file n) e) same (none.tells file agrees))
+      (no_read (name ∷ []) before now e stage.leaves quiet)))
 
 -- ---- a command that takes a program as it is written
 
-module _ (files : FilesSeen) (name program : CallWord) (same : name ≡ program) where
+module _ (before now : List Event) (name program : CallWord) (same : name ≡ program) where
   abbrev shown : SourceProgram → Output → Type 0
   shown p = says (Shown (canonical_text p))
 
-  pub refused_written : (e : Refusal) → IsStage (name ∷ []) files (Some e) → OfFile files.told (files.file name) (λ file. NoneInFile HasOneReadingAsWritten IsRefusedText file e)
-      → IsSaid (Ok (Show program)) files (Err e)
-  refused_written = refused_text (Show program) refl files name program [] same refl HasOneReadingAsWritten IsRefusedText (λ file. if_written shown)
+  pub refused_written : (e : Refusal) → IsStage (name ∷ []) before now (Some e) → OfFile name now (λ file. NoneInFile HasOneReadingAsWritten IsRefusedText file e)
+      → IsSaidOf (Show program) before now (Err e)
+  refused_written = refused_text (Show program) refl before now name program [] same refl HasOneReadingAsWritten IsRefusedText (λ file. if_written shown)
       (λ file text code at one none. written_none text shown _ code at one none refl) (λ file output is. is)
 
-  pub said_written : (p : SourceProgram) (places : List ℕ) (said : Said) → files.faults_now ≡ files.faults
-      → OfFile files.told (files.file name) (λ file. InFile file HasOneReadingAsWritten (λ text. IsWrittenIn text p places)) → shown p (Ok said) → IsSaid (Ok (Show program)) files (Ok said)
-  said_written p places said counts there gone =
-      said_all (Show program) files said (inr ((λ _. there.some.0), written_there there.some.0 shown (Ok said) p places there.some.1 gone)) counts
-      (λ told. written_there (files.file program) shown (Ok said) p places
-      (subst (λ n. InFile (files.file n) HasOneReadingAsWritten (λ text. IsWrittenIn text p places)) same (there.tells told)) gone)
+  pub said_written : (p : SourceProgram) (places : List ℕ) (said : Said) → IsStage (name ∷ []) before now None
+      → OfFile name now (λ file. InFile file HasOneReadingAsWritten (λ text. IsWrittenIn text p places)) → shown p (Ok said) → IsSaidOf (Show program) before now (Ok said)
+  said_written p places said stage there gone =
+      said_all (Show program) before now said (inr ((λ _. there.some.0), written_there there.some.0 shown (Ok said) p places there.some.1 gone)) stage.leaves
+      (asks_first name program [] before now same stage.goes)
+      (λ file agrees. written_there (file program) shown (Ok said) p places
+      (subst (λ n. InFile (file n) HasOneReadingAsWritten (λ text. IsWrittenIn text p places)) same (there.tells file agrees)) gone)

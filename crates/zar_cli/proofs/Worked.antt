@@ -1,6 +1,5 @@
 -- What is said of work on a checked program, from what reading the program gives and what the work owes.
-use Rattle.std.proofs.Common.{◌≡◌, ℕ, Bool, IsTrue, List, [], ◌∷◌, Option, Some, None, Ok, Err, ◌⊎◌, inl, inr, refl, sym, subst, arith}
-use Rattle.std.specs.List.{list_any}
+use Rattle.std.proofs.Common.{◌≡◌, ℕ, List, [], ◌∷◌, Option, Some, None, Ok, Err, ◌⊎◌, inl, inr, refl, sym, ◌∙◌, subst, arith}
 use Rattle.gcl_core.specs.declared.answers.Answer.{Answer}
 use Rattle.gcl_core.specs.declared.answers.Limits.{Limits}
 use Rattle.gcl_core.specs.meaning.Runs.{run_on}
@@ -9,67 +8,82 @@ use Rattle.gcl_core.specs.text.Texts.{Spells, SpellsNone}
 use Rattle.gcl_parse.specs.OneReading.{HasOneReading}
 use Rattle.report_text.specs.declared.refusals.Refusal.{Refusal}
 use Rattle.report_text.specs.declared.refusals.Refusal.TheVariants.{Coded, Read, Write, Memory, NoFile}
+use Rattle.zar_io.specs.Trace.{World, Agrees, failures}
+use Rattle.zar_io.specs.declared.trace.Event.{Event}
 use Rattle.zar_cli.specs.declared.command.Command.{Command}
 use Rattle.zar_cli.specs.declared.command.Command.TheVariants.{Checked}
 use Rattle.zar_cli.specs.declared.command.Source.TheVariants.{File}
 use Rattle.zar_cli.specs.declared.command.Work.{Work}
 use Rattle.zar_cli.specs.declared.command.Work.TheVariants.{Sample}
 use Rattle.zar_cli.specs.declared.said.Said.TheVariants.{Answered}
-use Rattle.zar_cli.specs.Answer.{IsSaid}
 use Rattle.zar_cli.specs.ByStages.{Output, if_spelled}
-use Rattle.zar_cli.specs.Fits.{MaySay, Fits}
+use Rattle.zar_cli.specs.Fits.{MaySay}
+use Rattle.zar_cli.specs.inner.Said.{Fits, Asks}
 use Rattle.zar_cli.specs.Forms.{CallWord}
 use Rattle.zar_cli.specs.Needs.{names_in_work}
 use Rattle.zar_cli.specs.Output.{IsWorkedOut, SaysOrRunsOut}
-use Rattle.zar_cli.specs.Seen.{FilesSeen}
-use Rattle.zar_cli.specs.Stages.{refusal_in}
+use Rattle.zar_cli.specs.Stages.{refusal_in, Leaves}
+use Rattle.zar_cli.specs.Answer.{IsSaidOf}
 use Rattle.zar_cli.specs.inner.Readings.{InFile, NoneInFile, OfFile, GivesOnBits}
 use Rattle.zar_cli.specs.inner.Stage.{IsStage, OfOutside}
 use Rattle.zar_cli.specs.inner.Works.{Works, Gives, WorksAlone}
-use Rattle.zar_cli.proofs.Saying.{no_read, spelled_none, checked_ok, bits_refused, bits_given, misses_more, outside_may, or_second, refused_text}
+use Rattle.zar_cli.proofs.Saying.{no_read, spelled_none, checked_ok, bits_refused, bits_given, leaves_more, behind_first, outside_may, refused_text}
+use Rattle.zar_io.proofs.TraceLemmas.{agrees_before, goes_on-none}
+use Rattle.zar_cli.proofs.Going.{some_asked, asks_then}
+use Rattle.zar_cli.proofs.Opening.{leaves_since}
 
 -- ---- what work owes
 
 -- without files
-module _ (work : Work) (p : SourceProgram) (files : FilesSeen) (counts : files.faults_now ≡ files.faults) where
-  alone : (output : Output) → ((file : CallWord → Option (List ℕ)) → Gives (IsWorkedOut file p work) output) → Works work p files output
-  alone (Ok said) gives = record { fits = λ program. inr gives; stage = record { counts = counts; closes = tt; misses = tt }; tells = λ told quiet. inr (gives files.file) }
-  alone (Err (Coded code at)) gives = record { fits = λ program. inr gives; stage = record { counts = counts; closes = tt; misses = tt }; tells = λ told quiet. inr (gives files.file) }
-  alone (Err Memory) gives = record { fits = λ program. inl refl; stage = record { counts = counts; closes = tt; misses = tt }; tells = λ told quiet. inl refl }
+module _ (work : Work) (p : SourceProgram) (now : List Event) (names : names_in_work work ≡ []) where
+  silent : (r : Option Refusal) → Leaves [] r now now → IsStage (names_in_work work) now now r
+  silent r leaves = subst (λ l. IsStage l now now r) (sym names) (record { leaves = leaves; goes = goes_on-none now now refl })
+
+  alone : (output : Output) → ((file : CallWord → Option (List ℕ)) → Gives (IsWorkedOut file p work) output) → Works work p now now output
+  alone (Ok said) gives = record { fits = λ program. inr gives; stage = silent None refl; tells = λ quiet file agrees. inr (gives file) }
+  alone (Err (Coded code at)) gives = record { fits = λ program. inr gives; stage = silent (Some (Coded code at)) refl; tells = λ quiet file agrees. inr (gives file) }
+  alone (Err Memory) gives = record { fits = λ program. inl refl; stage = silent (Some Memory) refl; tells = λ quiet file agrees. inl refl }
   alone (Err Read) gives = absurd (gives (λ _. None))
   alone (Err Write) gives = absurd (gives (λ _. None))
   alone (Err NoFile) gives = absurd (gives (λ _. None))
 
-pub works_alone : (work other : Work) (p : SourceProgram) (files : FilesSeen) (output : Output) → work ≡ other → WorksAlone other p output → files.faults_now ≡ files.faults
-    → Works work p files output
-works_alone work other p files output same h counts = subst (λ w. Works w p files output) (sym same) (alone other p files counts output h.gives)
+pub works_alone : (work other : Work) (p : SourceProgram) (now : List Event) (output : Output) → work ≡ other → WorksAlone other p output → names_in_work other ≡ []
+    → Works work p now now output
+works_alone work other p now output same h names = subst (λ w. Works w p now now output) (sym same) (alone other p now names output h.gives)
 
 -- a run on the bits of a file
-module _ (bits : CallWord) (limits : Limits) (p : SourceProgram) (files : FilesSeen) where
-  pub sample_refused : (e : Refusal) → OfOutside e → IsStage (bits ∷ []) files (Some e) → (IsTrue files.told → GivesOnBits (run_on p limits) (files.file bits) (Err e))
-      → Works (Sample (File bits) limits) p files (Err e)
+module _ (bits : CallWord) (limits : Limits) (p : SourceProgram) (before now : List Event) where
+  pub sample_refused : (e : Refusal) → OfOutside e → IsStage (bits ∷ []) before now (Some e) → ((file : World) → Agrees file now → GivesOnBits (run_on p limits) (file bits) (Err e))
+      → Works (Sample (File bits) limits) p before now (Err e)
   sample_refused e of stage answers = record {
     fits = λ program. inl (outside_may (Checked program (Sample (File bits) limits)) (omega arith) refl e of);
     stage = stage;
-    tells = λ told quiet. bits_refused (files.file bits) (run_on p limits) (λ w. Answered (run_on p limits w)) e (answers told) (no_read files.faults files.faults_now e stage.counts quiet);
+    tells = λ quiet file agrees. bits_refused (file bits) (run_on p limits) (λ w. Answered (run_on p limits w)) e (answers file agrees) (no_read (bits ∷ []) before now e stage.leaves quiet);
   }
 
-  pub sample_answered : (answer : Answer) → files.faults_now ≡ files.faults → (IsTrue files.told → GivesOnBits (run_on p limits) (files.file bits) (Ok answer))
-      → Works (Sample (File bits) limits) p files (Ok (Answered answer))
-  sample_answered answer counts answers = record {
+  pub sample_answered : (answer : Answer) → IsStage (bits ∷ []) before now None → ((file : World) → Agrees file now → GivesOnBits (run_on p limits) (file bits) (Ok answer))
+      → Works (Sample (File bits) limits) p before now (Ok (Answered answer))
+  sample_answered answer stage answers = record {
     fits = λ program. inl tt;
-    stage = record { counts = counts; closes = tt; misses = tt };
-    tells = λ told quiet. inr (bits_given (files.file bits) (run_on p limits) Answered answer (answers told));
+    stage = stage;
+    tells = λ quiet file agrees. inr (bits_given (file bits) (run_on p limits) Answered answer (answers file agrees));
   }
+
+-- what the run answered is said
+pub sample_said : (work : Work) (name bits : CallWord) (limits : Limits) (p : SourceProgram) (before now : List Event) (answer : Answer) → work ≡ Sample (File bits) limits → name ≡ bits
+    → IsStage (name ∷ []) before now None → ((file : World) → Agrees file now → GivesOnBits (run_on p limits) (file name) (Ok answer)) → Works work p before now (Ok (Answered answer))
+sample_said work name bits limits p before now answer is same stage answers = subst (λ w. Works w p before now (Ok (Answered answer))) (sym is)
+    (sample_answered bits limits p before now answer (subst (λ n. IsStage (n ∷ []) before now None) same stage)
+    (λ file agrees. subst (λ n. GivesOnBits (run_on p limits) (file n) (Ok answer)) same (answers file agrees)))
 
 -- ---- from the program's file
 
 module _ (command : Command) (name program : CallWord) (work : Work) (is : command ≡ Checked program work) (same : name ≡ program) where
   -- it gives no program
-  pub refused_checked : (files : FilesSeen) (e : Refusal) → IsStage (name ∷ []) files (Some e) → OfFile files.told (files.file name) (λ file. NoneInFile HasOneReading SpellsNone file e)
-      → IsSaid (Ok command) files (Err e)
-  refused_checked files e stage none = subst (λ c. IsSaid (Ok c) files (Err e)) (sym is)
-      (refused_text (Checked program work) refl files name program (names_in_work work) same refl HasOneReading SpellsNone (λ file. if_spelled (λ q. IsWorkedOut file q work))
+  pub refused_checked : (before now : List Event) (e : Refusal) → IsStage (name ∷ []) before now (Some e) → OfFile name now (λ file. NoneInFile HasOneReading SpellsNone file e)
+      → IsSaidOf command before now (Err e)
+  refused_checked before now e stage none = subst (λ c. IsSaidOf c before now (Err e)) (sym is)
+      (refused_text (Checked program work) refl before now name program (names_in_work work) same refl HasOneReading SpellsNone (λ file. if_spelled (λ q. IsWorkedOut file q work))
       (λ file text code at one refused. spelled_none text (λ q. IsWorkedOut file q work) _ code at one refused refl) (λ file output said. said) e stage none)
 
   module _ (p : SourceProgram) (output : Output) where
@@ -84,23 +98,22 @@ module _ (command : Command) (name program : CallWord) (work : Work) (is : comma
     tells_all file there (inl memory) = inl memory
     tells_all file there (inr says) = inr (checked_ok (file program) (λ q. IsWorkedOut file q work) output p there says)
 
-    worked_over : (files : FilesSeen) → OfFile files.told (files.file name) Has → Works work p files output → IsSaid (Ok (Checked program work)) files output
-    worked_over files there works = record {
-      fits = fits_some there.some.0 there.some.1 (works.fits program);
-      counts = works.stage.counts;
-      closes = works.stage.closes;
-      misses = misses_more (names_in_work work) (program ∷ names_in_work work) files.may_be_missing (refusal_in output)
-          (or_second (files.may_be_missing program) (list_any files.may_be_missing (names_in_work work))) works.stage.misses;
-      tells = λ told quiet. tells_all files.file (subst (λ n. Has (files.file n)) same (there.tells told)) (works.tells told quiet);
-    }
+    -- a failure after the program was read is one since the call began
+    since : (before mid now : List Event) (r : Option Refusal) → failures mid ≡ failures before → Leaves (names_in_work work) r mid now → Leaves (program ∷ names_in_work work) r before now
+    since before mid now r read leaves = leaves_more (names_in_work work) (program ∷ names_in_work work) before now r (behind_first program (names_in_work work))
+        (leaves_since (names_in_work work) before mid now r read leaves)
 
     -- the work begins where the program was read
-    pub worked_after : (told : Bool) (file read : CallWord → Option (List ℕ)) (may might : CallWord → Bool) (faults before now : ℕ) (is_open : Bool) → read ≡ file → might ≡ may → before ≡ faults
-        → OfFile told (file name) Has → Works work p (record { told = told; file = read; may_be_missing = might; faults = before; faults_now = now; open_now = is_open }) output
-        → IsSaid (Ok command) (record { told = told; file = file; may_be_missing = may; faults = faults; faults_now = now; open_now = is_open }) output
-    worked_after told file read may might faults before now is_open same_files same_names same_faults there works =
-        subst (λ c. IsSaid (Ok c) (record { told = told; file = file; may_be_missing = may; faults = faults; faults_now = now; open_now = is_open }) output) (sym is)
-        (worked_over _ there
-        (subst (λ f. Works work p (record { told = told; file = f; may_be_missing = may; faults = faults; faults_now = now; open_now = is_open }) output) same_files
-        (subst (λ m. Works work p (record { told = told; file = read; may_be_missing = m; faults = faults; faults_now = now; open_now = is_open }) output) same_names
-        (subst (λ n. Works work p (record { told = told; file = read; may_be_missing = might; faults = n; faults_now = now; open_now = is_open }) output) same_faults works))))
+    module _ (before mid now : List Event) (read : IsStage (name ∷ []) before mid None) (there : OfFile name mid Has) (works : Works work p mid now output) where
+      asks : Asks (program ∷ names_in_work work) before now
+      asks = asks_then name program (names_in_work work) before mid now same read.goes works.stage.goes
+
+      pub worked_after : IsSaidOf command before now output
+      worked_after = subst (λ c. IsSaidOf c before now output) (sym is) (record {
+        fits = fits_some there.some.0 there.some.1 (works.fits program);
+        leaves = since before mid now (refusal_in output) read.leaves works.stage.leaves;
+        asks = asks;
+        tells = λ quiet file agrees. tells_all file (subst (λ n. Has (file n)) same (there.tells file (agrees_before file _ mid now works.stage.goes agrees)))
+            (works.tells (quiet ∙ sym read.leaves) file agrees);
+        some = some_asked (program ∷ names_in_work work) before now asks;
+      })

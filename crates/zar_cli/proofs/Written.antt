@@ -3,31 +3,27 @@ use Rattle.std.proofs.Common.{◌≡◌, ℕ, ◌+◌, ◌<◌, Bool, true, fals
 use Rattle.std.proofs.Math.Seq.{take-append-add, drop-cons}
 use Rattle.std.proofs.lemmas.Grind.{flat_map-append}
 use Rattle.std.proofs.lemmas.List.{take-append-le, take-append-drop}
-use Rattle.zar_cli.specs.Delivery.{CountsIf, AppendsUnless, IsWrittenOn}
-use Rattle.zar_cli.specs.Seen.{SinkSeen}
+use Rattle.zar_io.specs.declared.trace.Event.{Event}
+use Rattle.zar_io.specs.Trace.{written}
+use Rattle.zar_io.specs.Written.{IsWritten}
 
--- a part of the front of a text is one of the text with more behind it
-front : (old new s t : List ℕ) → AppendsUnless true old new s → AppendsUnless true old new (s ++ t)
-front old new s t (n, below, is) = (n, omega (arith, length-append s t), rw (take-append-le n s t (omega arith)) is)
+module _ (before now : List Event) where
+  -- a part of the front of a text is one of the text with more behind it
+  cut_short : (s t : List ℕ) → IsWritten true before now s → IsWritten true before now (s ++ t)
+  cut_short s t is = (is.0, (is.1.0, omega (arith, is.1.1, length-append s t), rw (take-append-le is.1.0 s t (omega (arith, is.1.1))) is.1.2))
 
--- behind the first text
-behind : (failed : Bool) (old now new s t : List ℕ) → now ≡ old ++ s → AppendsUnless failed now new t → AppendsUnless failed old new (s ++ t)
-behind true old now new s t first (n, below, is) =
-    (length s + n, omega (arith, length-append s t), rw (take-append-add s t n) (is ∙ ap (λ w. w ++ take n t) first ∙ append_assoc old s (take n t)))
-behind false old now new s t first is = is ∙ ap (λ w. w ++ t) first ∙ append_assoc old s t
-
-cut_short : {sink : SinkSeen} {s : List ℕ} (t : List ℕ) → IsWrittenOn true sink s → IsWrittenOn true sink (s ++ t)
-cut_short {sink} {s} t w = record { counts = w.counts; appends = λ told. front sink.written sink.written_now s t (w.appends told) }
-
--- one text behind another
-pub one_behind : {failed told told_now : Bool} {m n p : ℕ} {old now new s t : List ℕ} → (IsTrue told → IsTrue told_now)
-    → IsWrittenOn false (record { told = told; faults = m; faults_now = n; written = old; written_now = now }) s
-    → IsWrittenOn failed (record { told = told_now; faults = n; faults_now = p; written = now; written_now = new }) t
-    → IsWrittenOn failed (record { told = told; faults = m; faults_now = p; written = old; written_now = new }) (s ++ t)
-one_behind {failed} {told} {told_now} {m} {n} {p} {old} {now} {new} {s} {t} still first second = record {
-  counts = subst (λ k. CountsIf failed k p) first.counts second.counts;
-  appends = λ h. behind failed old now new s t (first.appends h) (second.appends (still h));
-}
+  -- one text behind another
+  pub one_behind : (mid : List Event) (failed : Bool) (s t : List ℕ) → IsWritten false before mid s → IsWritten failed mid now t → IsWritten failed before now (s ++ t)
+  one_behind mid true s t first second =
+      let n = second.1.0 in (
+        second.0 ∙ ap (λ k. k + 1) first.0,
+        (
+          length s + n,
+          omega (arith, second.1.1, length-append s t),
+          rw (take-append-add s t n) (second.1.2 ∙ ap (λ w. w ++ take n t) first.1 ∙ append_assoc (written before) s (take n t)),
+        ),
+      )
+  one_behind mid false s t first second = (second.0 ∙ first.0, second.1 ∙ ap (λ w. w ++ t) first.1 ∙ append_assoc (written before) s t)
 
 -- members of a list, of which the texts of the first i were written
 module _ {X : Type 0} (xs : List X) (f : X → List ℕ) (i : ℕ) (d : X) (below : i < length xs) where
@@ -36,8 +32,7 @@ module _ {X : Type 0} (xs : List X) (f : X → List ℕ) (i : ℕ) (d : X) (belo
       ∙ ap (flat_map f) (take-append-drop i xs)
 
   -- that of the next is not
-  pub next_fails : {told told_now : Bool} {m n p : ℕ} {old now new : List ℕ} → (IsTrue told → IsTrue told_now)
-      → IsWrittenOn false (record { told = told; faults = m; faults_now = n; written = old; written_now = now }) (flat_map f (take i xs))
-      → IsWrittenOn true (record { told = told_now; faults = n; faults_now = p; written = now; written_now = new }) (f (get_or xs i d))
-      → IsWrittenOn true (record { told = told; faults = m; faults_now = p; written = old; written_now = new }) (flat_map f xs)
-  next_fails still first next = rw (← cut) (one_behind still first (cut_short (flat_map f (drop (suc i) xs)) next))
+  pub next_fails : (before mid now : List Event) → IsWritten false before mid (flat_map f (take i xs)) → IsWritten true mid now (f (get_or xs i d)) → IsWritten true before now (flat_map f xs)
+  next_fails before mid now first next =
+      let rest = flat_map f (drop (suc i) xs) in
+      rw (← cut) (one_behind before now mid true (flat_map f (take i xs)) (f (get_or xs i d) ++ rest) first (cut_short mid now (f (get_or xs i d)) rest next))

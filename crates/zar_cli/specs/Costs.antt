@@ -7,11 +7,11 @@ use Rattle.gcl_core.specs.meaning.Syntax.{SourceProgram}
 use Rattle.cost_fold.specs.declared.error.CostError.TheVariants.{TooWide, TooManyStates}
 use Rattle.cost_fold.specs.Refused.{CostRefused}
 use Rattle.cost_law.specs.ExpectedBits.{expected_bits}
+use Rattle.mass_lines.specs.Narrow.{IsNarrow}
 use Rattle.report_text.specs.declared.refusals.Refusal.{Refusal}
 use Rattle.report_text.specs.declared.refusals.Refusal.TheVariants.{Coded}
 use Rattle.zar_cli.specs.declared.said.Said.{Said}
 use Rattle.zar_cli.specs.declared.said.Said.TheVariants.{Costed}
-use Rattle.zar_cli.specs.Narrow.{IsNarrow}
 
 -- The number is exact, and no wider than 128 bits. A refusal comes only by its cause.
 pub data SaysCost (p : SourceProgram) (l : Limits) : Result Said Refusal → Type 0 where

@@ -1,14 +1,15 @@
 -- The forms of the words of a call: the name of a file, a number, and a key of a tally.
-use Rattle.std.specs.Prelude.{ℕ, ◌-◌, ◌^◌, nat_le, Bool, true, false, ◌&&◌, ◌==◌, ℤ, pos, neg_ℤ, List, [], ◌∷◌, length, map, Option, Some, None, option_map, if◌then◌else◌}
+use Rattle.std.specs.Prelude.{ℕ, ◌-◌, ◌^◌, nat_le, Bool, true, false, ◌&&◌, ◌==◌, ℤ, pos, neg_ℤ, List, [], ◌∷◌, length, take, drop, map, Option, Some, None, option_map, if◌then◌else◌}
 use Rattle.std.specs.List.{list_all}
 use Rattle.std.specs.Option.{option_or}
+use Rattle.std.specs.Str.{bytes_eq}
 use Rattle.std.specs.Str.Parse.{digits_value}
 use Rattle.gcl_core.specs.text.Names.{value_named}
 use Rattle.gcl_core.specs.text.Pieces.{is_digit}
 use Rattle.gcl_core.specs.declared.answers.Outcome.TheVariants as outcome
 use Rattle.gcl_core.specs.declared.answers.TallyKey.{TallyKey}
 use Rattle.gcl_core.specs.declared.answers.TallyKey.TheVariants as key
-use Rattle.zar_cli.specs.declared.keys.TheConstants.{WANTS}
+use Rattle.zar_cli.specs.declared.keys.TheConstants.{WANTS, BEFORE_VALUES}
 use Rattle.zar_cli.specs.declared.settings.TheConstants.{MOST_DIGITS}
 
 abbrev pub CallWord : Type 0
@@ -32,10 +33,15 @@ value_in [] = None
 value_in (b ∷ bs) = if b == 45 then option_map (λ n. neg_ℤ (pos n)) (number_in 0 (2 ^ 63) bs)
     else option_map pos (number_in 0 (2 ^ 63 - 1) (b ∷ bs))
 
--- the way to end that has this word
+-- the same, also as it is printed
+abbrev pub printed_value_in : CallWord → Option ℤ
+printed_value_in word =
+    value_in (if bytes_eq BEFORE_VALUES.now (take (length BEFORE_VALUES.now) word) then drop (length BEFORE_VALUES.now) word else word)
+
+-- the way to end that has these words
 unfoldable pub want_named : CallWord → Option TallyKey
 want_named word = value_named (map (λ want. (want.0.now, want.1)) WANTS) word
 
--- to end in a fault, at a limit or where the bits run out, by a word, and else in a value
+-- to end in a fault, at a limit or where the bits run out, by its words, and else in a value
 abbrev pub key_named : CallWord → Option TallyKey
-key_named word = option_or (want_named word) (option_map (λ v. key.Outcome (outcome.Value v)) (value_in word))
+key_named word = option_or (want_named word) (option_map (λ v. key.Outcome (outcome.Value v)) (printed_value_in word))

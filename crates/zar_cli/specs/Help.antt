@@ -1,8 +1,9 @@
 -- What `help` and `--version` print: pages of words and numbers, which are constants of the code.
-use Rattle.std.specs.Prelude.{ℕ, List, ◌++◌, flat_map, Option, Some, None, decimal}
-use Rattle.zar_cli.specs.declared.help.TheConstants.{VERSION, COMMANDS, SAMPLE, MASS, COST, POSTERIOR, AUDIT, TALLY, RUNS, HUNT, CHECK, SHOW, CODE, GEN, FAST}
+use Rattle.std.specs.Prelude.{ℕ, List, [], ◌++◌, map, flat_map, Option, Some, None, unwrap_or, slice_get, decimal}
+use Rattle.zar_cli.specs.declared.explained.TheConstants.{REFUSALS}
+use Rattle.zar_cli.specs.declared.help.TheConstants.{VERSION, COMMANDS, SAMPLE, MASS, COST, POSTERIOR, EXACT, AUDIT, TALLY, RUNS, HUNT, CHECK, SHOW, CODE, GEN, FAST, ROLL}
 use Rattle.zar_cli.specs.declared.help.Topic.{Topic}
-use Rattle.zar_cli.specs.declared.help.Topic.TheVariants.{Everything, One, Version}
+use Rattle.zar_cli.specs.declared.help.Topic.TheVariants.{Everything, One, Refused, Version}
 use Rattle.zar_cli.specs.declared.settings.Verb.TheVariants as verb
 
 -- the words, and the number behind them where there is one
@@ -17,12 +18,17 @@ Page = record { now : List ℕ } × record { now : List (record { now : List (re
 abbrev pub page_text : Page → List ℕ
 page_text (words, parts) = words.now ++ flat_map (λ part. flat_map (λ piece. piece_text piece.0.now piece.1) part.now) parts.now
 
+-- what the refusal of a code means; a number that is no code has no words
+unfoldable pub refusal_page : ℕ → List ℕ
+refusal_page code = unwrap_or (slice_get (map (λ w. w.now) REFUSALS) code) []
+
 abbrev pub page_of : Topic → Page
 page_of Everything = COMMANDS
 page_of (One verb.Sample) = SAMPLE
 page_of (One verb.Mass) = MASS
 page_of (One verb.Cost) = COST
 page_of (One verb.Posterior) = POSTERIOR
+page_of (One verb.Exact) = EXACT
 page_of (One verb.Audit) = AUDIT
 page_of (One verb.Tally) = TALLY
 page_of (One verb.Runs) = RUNS
@@ -32,6 +38,8 @@ page_of (One verb.Show) = SHOW
 page_of (One verb.Code) = CODE
 page_of (One verb.Gen) = GEN
 page_of (One verb.Fast) = FAST
+page_of (One verb.Roll) = ROLL
+page_of (Refused code) = (record { now = refusal_page code }, record { now = [] })
 page_of Version = VERSION
 
 abbrev pub topic_text : Topic → List ℕ

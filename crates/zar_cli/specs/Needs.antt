@@ -1,7 +1,7 @@
 -- What a command needs: the files that it names, and memory.
 use Rattle.std.specs.Prelude.{Bool, true, false, List, [], ◌∷◌, Some, None}
 use Rattle.zar_cli.specs.declared.command.Command.{Command}
-use Rattle.zar_cli.specs.declared.command.Command.TheVariants.{Checked, Show, Gen, Fast, Help}
+use Rattle.zar_cli.specs.declared.command.Command.TheVariants.{Checked, Show, Gen, Fast, Roll, Help}
 use Rattle.zar_cli.specs.declared.command.Source.{Source}
 use Rattle.zar_cli.specs.declared.command.Source.TheVariants.{File, Stream}
 use Rattle.zar_cli.specs.declared.command.Work.{Work}
@@ -24,6 +24,8 @@ names_in (Show program) = program ∷ []
 names_in (Gen k) = []
 names_in (Fast labels flips (Some source)) = names_of_bits source
 names_in (Fast labels flips None) = []
+names_in (Roll weights flips (Some source)) = names_of_bits source
+names_in (Roll weights flips None) = []
 names_in (Help topic) = []
 
 -- whether it takes memory: help, and a roll on the bits of a stream, hold nothing

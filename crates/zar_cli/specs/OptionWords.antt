@@ -8,6 +8,7 @@ use Rattle.gcl_core.specs.declared.answers.TallyKey.{TallyKey}
 use Rattle.gcl_core.specs.declared.answers.TallyKey.TheVariants as key
 use Rattle.stream_runs.specs.declared.range.SeedRange.{SeedRange}
 use Rattle.stream_runs.specs.declared.range.TheConstants.{MOST_STREAMS}
+use Rattle.weighted_roll.specs.Listed.{weights_in}
 use Rattle.zar_cli.specs.declared.command.Source.{Source}
 use Rattle.zar_cli.specs.declared.command.Source.TheVariants as source
 use Rattle.zar_cli.specs.declared.settings.Form.{Form}
@@ -28,6 +29,7 @@ abbrev pub fits : Form → CallWord → Bool
 fits form.Name word = is_name word
 fits (form.Number least most) word = is_some (number_in least most word)
 fits form.Wanted word = is_some (key_named word)
+fits form.Weights word = is_some (weights_in word)
 
 -- bits of a file and bits of a stream exclude each other
 abbrev pub excludes : CallWord → CallWord → Bool
@@ -78,6 +80,7 @@ abbrev pub number_of : Form → CallWord → Option ℕ
 number_of form.Name word = None
 number_of (form.Number least most) word = number_in least most word
 number_of form.Wanted word = None
+number_of form.Weights word = None
 
 abbrev pub number_given : Setting → Options → Option ℕ
 number_given s o = option_and_then (number_of s.1) (value_of s.0 o)
@@ -85,17 +88,17 @@ number_given s o = option_and_then (number_of s.1) (value_of s.0 o)
 abbrev pub number_or : ℕ → Setting → Options → ℕ
 number_or usual s o = unwrap_or (number_given s o) usual
 
--- the limits of a run, each the usual where it is not given
-abbrev pub limits_with : ℕ → Options → Limits
-limits_with turns o =
+-- the limits of a run, each this number where it is not given
+abbrev pub limits_with : ℕ → ℕ → ℕ → Options → Limits
+limits_with turns attempts rounds o =
     record {
       turns = number_or turns (of_code TURNS) o;
-      attempts = number_or USUAL_LIMIT (of_code ATTEMPTS) o;
-      rounds = number_or USUAL_LIMIT (of_code ROUNDS) o;
+      attempts = number_or attempts (of_code ATTEMPTS) o;
+      rounds = number_or rounds (of_code ROUNDS) o;
     }
 
 abbrev pub limits_of : Options → Limits
-limits_of o = limits_with USUAL_LIMIT o
+limits_of o = limits_with USUAL_LIMIT USUAL_LIMIT USUAL_LIMIT o
 
 -- where bits come from, where that is given
 abbrev pub has_source : Options → Bool

@@ -6,12 +6,13 @@ use Rattle.gcl_core.specs.declared.rules.TheConstants.{MOST_LIMIT}
 use Rattle.generated_program.specs.declared.generating.TheConstants.{GREATEST_NUMBER}
 use Rattle.mass_fold.specs.Refused.{IsLimit}
 use Rattle.stream_runs.specs.Ranges.{IsRange, IsWorkers}
+use Rattle.weighted_roll.specs.Weights.{AreWeights}
 use Rattle.zar_cli.specs.declared.command.Command.{Command}
-use Rattle.zar_cli.specs.declared.command.Command.TheVariants.{Checked, Show, Gen, Fast, Help}
+use Rattle.zar_cli.specs.declared.command.Command.TheVariants.{Checked, Show, Gen, Fast, Roll, Help}
 use Rattle.zar_cli.specs.declared.command.Source.{Source}
 use Rattle.zar_cli.specs.declared.command.Source.TheVariants.{File, Stream}
 use Rattle.zar_cli.specs.declared.command.Work.{Work}
-use Rattle.zar_cli.specs.declared.command.Work.TheVariants.{Sample, Mass, Cost, Posterior, Audit, Tally, Runs, Hunt, Check, Code}
+use Rattle.zar_cli.specs.declared.command.Work.TheVariants.{Sample, Mass, Cost, Posterior, Exact, Audit, Tally, Runs, Hunt, Check, Code}
 use Rattle.zar_io.specs.declared.stream_bits.TheConstants.{MOST_BUDGET}
 use Rattle.audit_walk.specs.declared.auditing.TheConstants.{MOST_DEPTH}
 
@@ -24,6 +25,7 @@ WorkHasRange (Sample source limits) = InRange limits × SourceHasRange source
 WorkHasRange (Mass turns attempts rounds) = (turns ≤ MOST_LIMIT) × IfSome attempts IsLimit × IfSome rounds IsLimit
 WorkHasRange (Cost limits) = InRange limits
 WorkHasRange (Posterior turns) = turns ≤ MOST_LIMIT
+WorkHasRange Exact = Unit {0}
 WorkHasRange (Audit depth limits) = (depth ≤ MOST_DEPTH) × InRange limits
 WorkHasRange (Tally range limits) = InRange limits × IsRange range × IsWorkers range.workers
 WorkHasRange (Runs range limits) = InRange limits × IsRange range × IsWorkers range.workers
@@ -37,4 +39,5 @@ HasRange (Show program) = Unit {0}
 HasRange (Gen k) = k ≤ GREATEST_NUMBER
 HasRange (Fast labels flips source) =
     (LEAST_LABELS ≤ labels) × (labels ≤ MOST_LABELS) × (flips ≤ MOST_FLIPS) × IfSome source SourceHasRange
+HasRange (Roll weights flips source) = AreWeights weights × (flips ≤ MOST_FLIPS) × IfSome source SourceHasRange
 HasRange (Help topic) = Unit {0}

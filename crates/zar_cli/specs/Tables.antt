@@ -1,25 +1,11 @@
--- The lines of rows, one behind the other.
-use Rattle.std.specs.Prelude.{ℕ, ◌==◌, ◌^◌, List, [], ◌∷◌, ◌++◌, if◌then◌else◌}
+-- The lines of audits and of tallies.
+use Rattle.std.specs.Prelude.{ℕ, ◌==◌, ◌^◌, List, [], ◌++◌, if◌then◌else◌}
 use Rattle.gcl_core.specs.declared.answers.Outcome.{Outcome}
 use Rattle.gcl_core.specs.declared.answers.TallyKey.{TallyKey}
 use Rattle.gcl_core.specs.weighing.Fractions.{Fraction}
 use Rattle.frac128.specs.Fraction.{lowest}
-use Rattle.report_text.specs.Lines.{mass_text, bound_text, other_text, undecided_text, tally_text}
-
-abbrev pub rows_text : {A : Type 0} → (A → List ℕ) → List A → List ℕ
-rows_text line [] = []
-rows_text line (row ∷ rows) = line row ++ rows_text line rows
-
--- each outcome with its mass
-abbrev pub masses_text : List (Outcome × Fraction) → List ℕ
-masses_text rows = rows_text (λ row. mass_text row.0 row.1) rows
-
--- each value and fault with its bounds, and what all others have at most, if that is above 0
-abbrev pub bound_rows_text : List (Outcome × Fraction × Fraction) → List ℕ
-bound_rows_text rows = rows_text (λ row. bound_text row.0 row.1 row.2) rows
-
-abbrev pub bounds_text : List (Outcome × Fraction × Fraction) → Fraction → List ℕ
-bounds_text rows other = bound_rows_text rows ++ (if other.0 == 0 then [] else other_text other)
+use Rattle.mass_lines.specs.RowLines.{rows_text}
+use Rattle.report_text.specs.Lines.{mass_text, undecided_text, tally_text}
 
 -- n of the strings of `depth` bits, as a fraction in lowest terms
 abbrev pub share_of : ℕ → ℕ → Fraction

@@ -1,12 +1,14 @@
 // The commands, and the names of the files that they read.
 
-ghost use Rattle.std.specs.Prelude.{◌≡◌, MatchResult};
+ghost use Rattle.std.specs.Prelude.{◌≡◌, true, is_some, unwrap_or, MatchResult, []};
+ghost use Rattle.weighted_roll.specs.Listed.{weights_in};
 
 use crate::help::Topic;
 use gcl_core::{Limits, TallyKey};
 use std::alloc::{AllocError, Global};
 use std::marker::Model;
 use stream_runs::SeedRange;
+use weighted_roll::weights_in;
 
 /// The name of a file, as a word of the call. It is seen as the list of its bytes.
 #[derive(Drop)]
@@ -39,6 +41,39 @@ impl FileName {
     }
 }
 
+/// The weights that a word of the call lists. They are seen as the list of them.
+#[derive(Drop)]
+pub struct WeightList {
+    weights: Vec<u64>,
+}
+
+impl Model for WeightList {
+    ghost use Rattle.std.specs.Prelude.{List, ℕ};
+
+    ghost Value = { List ℕ };
+
+    ghost view = { λ l. l.weights.items };
+}
+
+impl WeightList {
+    pub(crate) fn of(alloc: Global, word: &str) -> Result<WeightList, AllocError>
+        requires { is_some (weights_in word.now) ≡ true }
+        ensures { MatchResult result (λ list. list ≡ unwrap_or (weights_in word.now) []) (λ _. Unit {0}) }
+    {
+        match weights_in(alloc, word)? {
+            Some(weights) => Ok(WeightList { weights }),
+            None => unreachable!(),
+        }
+    }
+
+    /// The weights, in order. It takes no memory.
+    pub fn weights(&self) -> &[u64]
+        ensures { result.now ≡ self.now }
+    {
+        self.weights.as_slice()
+    }
+}
+
 /// Where bits come from.
 #[derive(Drop)]
 pub enum Source {
@@ -59,6 +94,8 @@ pub enum Work {
     Cost(Limits),
     /// The bounds of each outcome for every greater limit of turns.
     Posterior(u64),
+    /// The mass of each outcome with no limit, and what never ends.
+    Exact,
     /// The audit of its runs by all bit strings of one length.
     Audit(u32, Limits),
     /// The tally of its runs over the streams of a range.
@@ -85,6 +122,8 @@ pub enum Command {
     /// Draws a label by the Fast Dice Roller: how many labels, the most flips, and the source of bits; without a source, weighs
     /// the labels.
     Fast(u64, u64, Option<Source>),
+    /// Draws a label by these weights: the most flips, and the source of bits; without a source, weighs the labels.
+    Roll(WeightList, u64, Option<Source>),
     /// Tells of all commands, of the options of one, or of the version.
     Help(Topic),
 }

@@ -38,8 +38,7 @@ impl Drawn {
     ghost use Rattle.gcl_core.specs.meaning.Views.{source_of};
     ghost use Rattle.stream_lines.specs.Lines.{lines_of_range};
     ghost use Rattle.stream_runs.specs.Ranges.{IsRange, IsWorkers};
-    ghost use Rattle.zar_cli.specs.Delivery.{IsWrittenOn};
-    ghost use Rattle.zar_cli.specs.Seen.{sink_seen};
+    ghost use Rattle.zar_io.specs.Written.{IsWritten};
 
     /// The lines of the program's runs on the streams of the range. It takes no memory.
     pub fn of(program: Checked, range: SeedRange, limits: Limits) -> Drawn
@@ -65,7 +64,7 @@ impl Drawn {
         gate: &G,
     ) -> Result<Result<(), Failed>, AllocError>
         ensures written { IfOk result (λ done.
-            IsWrittenOn (is_err done) (sink_seen S.told S.faults S.written sink.old sink.new) self.now) }
+            IsWritten (is_err done) (S.answered sink.old) (S.answered sink.new) self.now) }
         ensures untouched { OnErr result (sink.new ≡ sink.old) }
     {
         write_runs(

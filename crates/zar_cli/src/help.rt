@@ -1,17 +1,22 @@
 // What `help` and `--version` print. A number in brackets stands where the option is not given.
 
-ghost use Rattle.std.specs.Prelude.{◌≡◌, ◌++◌, flat_map};
-ghost use Rattle.zar_cli.specs.Help.{piece_text, topic_text};
+ghost use Rattle.std.specs.Prelude.{◌≡◌, ◌++◌, [], map, flat_map, unwrap_or, slice_get};
+ghost use Rattle.zar_cli.specs.Help.{piece_text, refusal_page, topic_text};
+ghost use Rattle.zar_cli.specs.Words.{code_named, topic_named};
 
+use crate::explained::REFUSALS;
 use crate::settings::{
-    LEAST_GENERATED, USUAL_BUDGET, USUAL_FLIPS, USUAL_LIMIT, USUAL_MASS_TURNS, USUAL_WEIGHED_FLIPS,
-    USUAL_WORKERS, Verb,
+    LEAST_GENERATED, USUAL_BUDGET, USUAL_COST_ATTEMPTS, USUAL_COST_ROUNDS, USUAL_FLIPS,
+    USUAL_LIMIT, USUAL_MASS_TURNS, USUAL_WEIGHED_FLIPS, USUAL_WORKERS, Verb, number_in, row_named,
 };
 use audit_walk::MOST_DEPTH;
 use dice_roll::{LEAST_LABELS, MOST_FLIPS, MOST_LABELS};
 use gcl_core::MOST_LIMIT;
+use gcl_core::refusals::BAD_WORDS;
 use generated_program::GREATEST_NUMBER;
+use report_text::VERSION_LINE;
 use stream_runs::MOST_WORKERS;
+use weighted_roll::{GREATEST_SUM, MOST_LISTED};
 use zar_io::MOST_BUDGET;
 
 /// What help is asked for.
@@ -21,6 +26,8 @@ pub enum Topic {
     Everything,
     /// The options of one.
     One(Verb),
+    /// What a refusal means, by the number of its code.
+    Refused(u8),
     Version,
 }
 
@@ -52,7 +59,7 @@ const DEPTH: Piece = (
 );
 
 const WANT: Piece = (
-    "--want X      a value, or overflow, zero-divisor, bad-bound, turns, attempts, rounds or more-bits\n",
+    "--want X      a value, or overflow, zero-divisor, bad-bound, turns, attempts, rounds or more-bits, or as tally prints it\n",
     None,
 );
 
@@ -113,6 +120,13 @@ const WORK: Part = &[
     END,
 ];
 
+// What stands between the commas.
+const WEIGHTS: Part = &[
+    ("W,W,..       2 to ", Some(MOST_LISTED as u64)),
+    (" weights that add up to 1 to ", Some(GREATEST_SUM)),
+    (", none of them the whole sum\n", None),
+];
+
 // The flips of a roll.
 const FLIPS: Part = &[
     ("--flips N     the most flips, 0 to ", Some(MOST_FLIPS)),
@@ -121,7 +135,7 @@ const FLIPS: Part = &[
     END,
 ];
 
-pub const VERSION: Page = ("zar 1.0.0\n", &[]);
+pub const VERSION: Page = (VERSION_LINE, &[]);
 
 pub const COMMANDS: Page = (
     "zar sample FILE --bits FILE
@@ -130,10 +144,12 @@ zar sample FILE --seed N
     run the program once, on the bits of a seeded stream
 zar mass FILE
     print each outcome with its exact mass
-zar cost FILE --attempts N --rounds N
+zar cost FILE
     print how many bits a run reads on average
 zar posterior FILE
     print each value and fault with bounds that hold for every greater limit of turns
+zar exact FILE
+    print each outcome with its exact mass where nothing is limited, and what never ends
 zar audit FILE --depth N
     print how all strings of N bits end
 zar tally FILE --seed N --from N --to N
@@ -152,8 +168,12 @@ zar gen N
     generate a program from a number, and print its size and a tally of it
 zar fast N
     draw one of N labels, or print what they weigh
+zar roll W,W,..
+    draw a label by weights, or print what the labels weigh
 zar help COMMAND
     print the options of a command
+zar help CODE
+    say what a refusal means, by its code, E1 to E16
 zar --version
     print the version
 ",
@@ -178,11 +198,21 @@ pub const MASS: Page = (
 );
 
 pub const COST: Page = (
-    "zar cost FILE --attempts N --rounds N
-    print how many bits a run reads on average
+    "zar cost FILE
+    print how many bits a run reads on average, under limits
 
 ",
-    &[&[ATTEMPTS, REQUIRED, ROUNDS, REQUIRED], MASS_TURNS],
+    &[
+        &[
+            ATTEMPTS,
+            (" (", Some(USUAL_COST_ATTEMPTS)),
+            END,
+            ROUNDS,
+            (" (", Some(USUAL_COST_ROUNDS)),
+            END,
+        ],
+        MASS_TURNS,
+    ],
 );
 
 pub const POSTERIOR: Page = (
@@ -191,6 +221,13 @@ pub const POSTERIOR: Page = (
 
 ",
     &[MASS_TURNS],
+);
+
+pub const EXACT: Page = (
+    "zar exact FILE
+    print each outcome with its exact mass where nothing is limited, and what never ends
+",
+    &[],
 );
 
 pub const AUDIT: Page = (
@@ -278,6 +315,52 @@ zar fast N --seed N
     ],
 );
 
+pub const ROLL: Page = (
+    "zar roll W,W,..
+    print what labels of these weights weigh, and how many flips a roll makes on average
+zar roll W,W,.. --bits FILE
+zar roll W,W,.. --seed N
+    draw a label by these weights
+
+",
+    &[WEIGHTS, ONE_RUN, FLIPS],
+);
+
+// The text at a place of a table, which has none behind its end.
+fn text_at(table: &[&'static str], at: usize) -> &'static str
+    ensures { result.now ≡ unwrap_or (slice_get (map (λ w. w.now) table.now) at) [] }
+{
+    if at < table.len() { table[at] } else { "" }
+}
+
+// What the refusal of a code means. A number that is no code has no words.
+#[tactic(auto, unfolding(crate::specs::Help::refusal_page))]
+fn refusal_page(code: u8) -> &'static str
+    ensures { result.now ≡ refusal_page code }
+{
+    text_at(&REFUSALS, usize::from(code))
+}
+
+// The number of the code that a word is: E, and the number.
+fn code_named(word: &str) -> Option<u8>
+    ensures { result ≡ code_named word.now }
+{
+    match word.strip_prefix('E') {
+        Some(digits) => Some(number_in(1, u64::from(BAD_WORDS), digits)? as u8),
+        None => None,
+    }
+}
+
+/// What help is asked for by the word of a command, or by the code of a refusal.
+pub fn topic_named(word: &str) -> Option<Topic>
+    ensures { result ≡ topic_named word.now }
+{
+    match row_named(word) {
+        Some(row) => Some(Topic::One(row.0)),
+        None => Some(Topic::Refused(code_named(word)?)),
+    }
+}
+
 /// The page that is asked for.
 pub fn page_of(topic: Topic) -> Page
     ensures { result.0.now ++ flat_map (λ part. flat_map (λ piece. piece_text piece.0.now piece.1) part.now) result.1.now
@@ -289,6 +372,7 @@ pub fn page_of(topic: Topic) -> Page
         Topic::One(Verb::Mass) => MASS,
         Topic::One(Verb::Cost) => COST,
         Topic::One(Verb::Posterior) => POSTERIOR,
+        Topic::One(Verb::Exact) => EXACT,
         Topic::One(Verb::Audit) => AUDIT,
         Topic::One(Verb::Tally) => TALLY,
         Topic::One(Verb::Runs) => RUNS,
@@ -298,6 +382,8 @@ pub fn page_of(topic: Topic) -> Page
         Topic::One(Verb::Code) => CODE,
         Topic::One(Verb::Gen) => GEN,
         Topic::One(Verb::Fast) => FAST,
+        Topic::One(Verb::Roll) => ROLL,
+        Topic::Refused(code) => (refusal_page(code), &[]),
         Topic::Version => VERSION,
     }
 }

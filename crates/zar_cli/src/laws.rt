@@ -4,11 +4,11 @@ ghost use Rattle.std.specs.Prelude.{ℕ, List};
 ghost use Rattle.gcl_core.specs.declared.answers.Limits.{Limits};
 ghost use Rattle.gcl_core.specs.meaning.Syntax.{SourceProgram};
 ghost use Rattle.gcl_core.specs.text.Texts.{Spells};
+ghost use Rattle.zar_io.specs.declared.trace.Event.{Event};
 ghost use Rattle.zar_cli.specs.Answer.{IsAnswer};
 ghost use Rattle.zar_cli.specs.Cause.{HasCause};
 ghost use Rattle.zar_cli.specs.Forms.{CallWord};
 ghost use Rattle.zar_cli.specs.Samples.{SamplesExactly};
-ghost use Rattle.zar_cli.specs.Seen.{FilesSeen, SinkSeen};
 
 use gcl_parse::spelled_programs_are_checked;
 use weighing_law::{
@@ -33,6 +33,6 @@ pub fn zar_samples_exactly()
 /// It does nothing: its clause says that each status that answers a call has its cause, so the clause `cause` of `zar` promises
 /// no more than the clause `answer`.
 pub fn answers_have_causes()
-    ensures { (words : List CallWord) (status : ℕ) (files : FilesSeen) (out err : SinkSeen) → IsAnswer words status files out err
-        → HasCause words status files out err }
+    ensures { (words : List CallWord) (status : ℕ) (files files' out out' err err' : List Event)
+        → IsAnswer words status files files' out out' err err' → HasCause words status files files' out out' err err' }
 {}

@@ -74,7 +74,7 @@ impl<'a> Options<'a> {
         let word = self.value_of(setting.0)?;
         match setting.1 {
             Form::Number(least, most) => number_in(least, most, word),
-            Form::Name | Form::Wanted => None,
+            Form::Name | Form::Wanted | Form::Weights => None,
         }
     }
 
@@ -130,16 +130,18 @@ impl<'a> Options<'a> {
         }
     }
 
-    /// The limits of a run, each the usual where it is not given, and so many turns where none are.
-    pub fn limits_with(self, turns: u64) -> Limits
+    /// The limits of a run, each the number here where it is not given.
+    pub fn limits_with(self, turns: u64, attempts: u64, rounds: u64) -> Limits
         requires turns { turns ≤ MOST_LIMIT }
-        ensures limits { result ≡ limits_with turns (options_of self.entry) }
+        requires attempts { (1 ≤ attempts) × (attempts ≤ MOST_LIMIT) }
+        requires rounds { (1 ≤ rounds) × (rounds ≤ MOST_LIMIT) }
+        ensures limits { result ≡ limits_with turns attempts rounds (options_of self.entry) }
         ensures range { InRange result }
     {
         Limits {
             turns: self.number_or(turns, TURNS),
-            attempts: self.number_or(USUAL_LIMIT, ATTEMPTS),
-            rounds: self.number_or(USUAL_LIMIT, ROUNDS),
+            attempts: self.number_or(attempts, ATTEMPTS),
+            rounds: self.number_or(rounds, ROUNDS),
         }
     }
 
@@ -148,6 +150,6 @@ impl<'a> Options<'a> {
         ensures limits { result ≡ limits_of (options_of self.entry) }
         ensures range { InRange result }
     {
-        self.limits_with(USUAL_LIMIT)
+        self.limits_with(USUAL_LIMIT, USUAL_LIMIT, USUAL_LIMIT)
     }
 }

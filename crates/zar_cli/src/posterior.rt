@@ -8,9 +8,8 @@ ghost use Rattle.zar_cli.specs.inner.Works.{WorksAlone};
 
 use crate::refusing::mass_refusal;
 use crate::said::Said;
-use crate::tables::bounds_text;
 use gcl_core::Checked;
-use posterior_bounds::bounds;
+use mass_lines::bounds_text;
 use report_text::Refusal;
 use std::alloc::Global;
 
@@ -19,8 +18,8 @@ pub fn bounds_of(alloc: Global, program: &Checked, turns: u64) -> Result<Said, R
     requires { turns ≤ MOST_LIMIT }
     ensures { WorksAlone (Posterior turns) (source_of program.now) result }
 {
-    match bounds(alloc, program, turns) {
-        Ok(found) => Ok(Said::Shown(bounds_text(alloc, &found)?)),
+    match bounds_text(alloc, program, turns) {
+        Ok(lines) => Ok(Said::Shown(lines)),
         Err(error) => Err(mass_refusal(error)),
     }
 }

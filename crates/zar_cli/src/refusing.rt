@@ -1,8 +1,9 @@
 // Why work on a program is refused.
 
 ghost use Rattle.std.specs.Prelude.{◌≡◌};
-ghost use Rattle.zar_cli.specs.inner.Readings.{mass_code};
+ghost use Rattle.zar_cli.specs.inner.Readings.{exact_code, mass_code};
 
+use exact_fold::ExactError;
 use gcl_core::refusals;
 use mass_fold::MassError;
 use report_text::Refusal;
@@ -16,5 +17,17 @@ pub fn mass_refusal(error: MassError) -> Refusal
         MassError::TooManyStates => Refusal::Coded(refusals::TOO_MANY_STATES, None),
         MassError::AllFailed => Refusal::Coded(refusals::ALL_FAILED, None),
         MassError::OutOfMemory => Refusal::Memory,
+    }
+}
+
+/// Why there are no exact masses, as a refusal.
+pub fn exact_refusal(error: ExactError) -> Refusal
+    ensures { result ≡ exact_code error }
+{
+    match error {
+        ExactError::TooWide => Refusal::Coded(refusals::TOO_WIDE, None),
+        ExactError::TooManyStates => Refusal::Coded(refusals::TOO_MANY_STATES, None),
+        ExactError::AllFailed => Refusal::Coded(refusals::ALL_FAILED, None),
+        ExactError::OutOfMemory => Refusal::Memory,
     }
 }

@@ -1,16 +1,15 @@
 // Rolls, and what their labels weigh.
 
-ghost use Rattle.std.specs.Prelude.{◌≡◌, ◌≤◌, [], ◌∷◌, IsTrue, IfErr, IfOk};
+ghost use Rattle.std.specs.Prelude.{◌≡◌, ◌≤◌, [], ◌∷◌, IfErr, IfOk};
 ghost use Rattle.dice_roll.specs.FastRoll.{fast_roll};
 ghost use Rattle.dice_roll.specs.declared.rules.TheConstants.{LEAST_LABELS, MOST_LABELS, MOST_FLIPS};
 ghost use Rattle.zar_cli.specs.inner.Readings.{GivesOnBits};
 ghost use Rattle.zar_cli.specs.Rolls.{shares_text, weights_text};
-ghost use Rattle.zar_cli.specs.Seen.{files_seen};
-ghost use Rattle.zar_cli.specs.inner.Kept.{KeepsFiles};
 ghost use Rattle.zar_cli.specs.inner.Stage.{IsStage, OfOutside};
 ghost use Rattle.zar_cli.specs.Stages.{refusal_in};
 ghost use Rattle.zar_io.specs.declared.stream_bits.TheConstants.{MOST_BUDGET};
 ghost use Rattle.zar_io.specs.StreamBits.{stream_bits};
+ghost use Rattle.zar_io.specs.Trace.{World, Agrees};
 
 use crate::source::open_bits;
 use dice_roll::{Roll, roll, share};
@@ -30,11 +29,11 @@ pub fn roll_on_file<F: Files>(
     requires low { LEAST_LABELS ≤ labels }
     requires high { labels ≤ MOST_LABELS }
     requires few { flips ≤ MOST_FLIPS }
-    ensures answer { IsTrue F.told → GivesOnBits (fast_roll labels flips) (F.file files.old name.now) result }
+    ensures answer { (file : World) → Agrees file (F.answered files.new)
+        → GivesOnBits (fast_roll labels flips) (file name.now) result }
     ensures refused { IfErr result OfOutside }
     ensures stage { IsStage
-        (name.now ∷ []) (files_seen F.told F.file F.may_be_missing F.faults F.is_open files.old files.new) (refusal_in result) }
-    ensures kept { KeepsFiles F.file F.may_be_missing files.old files.new }
+        (name.now ∷ []) (F.answered files.old) (F.answered files.new) (refusal_in result) }
 {
     open_bits(files, name)?;
     let mut bits = FileBits::new(files);

@@ -1,17 +1,16 @@
 // The run of a program on some bits.
 
-ghost use Rattle.std.specs.Prelude.{◌≤◌, [], ◌∷◌, IfErr, IsTrue};
+ghost use Rattle.std.specs.Prelude.{◌≤◌, [], ◌∷◌, IfErr};
 ghost use Rattle.gcl_core.specs.meaning.LimitRange.{InRange};
 ghost use Rattle.gcl_core.specs.meaning.Runs.{run_on};
 ghost use Rattle.gcl_core.specs.meaning.Views.{source_of};
 ghost use Rattle.zar_cli.specs.declared.command.Source.TheVariants.{Stream};
 ghost use Rattle.zar_cli.specs.declared.command.Work.TheVariants.{Sample};
-ghost use Rattle.zar_cli.specs.Seen.{files_seen};
 ghost use Rattle.zar_cli.specs.Stages.{refusal_in};
-ghost use Rattle.zar_cli.specs.inner.Kept.{KeepsFiles};
 ghost use Rattle.zar_cli.specs.inner.Readings.{GivesOnBits};
 ghost use Rattle.zar_cli.specs.inner.Stage.{IsStage, OfOutside};
 ghost use Rattle.zar_cli.specs.inner.Works.{WorksAlone};
+ghost use Rattle.zar_io.specs.Trace.{World, Agrees};
 ghost use Rattle.zar_io.specs.declared.stream_bits.TheConstants.{MOST_BUDGET};
 
 use crate::said::Said;
@@ -32,11 +31,11 @@ pub fn run_on_file<F: Files>(
     name: &str,
 ) -> Result<Answer, Refusal>
     requires { InRange limits.now }
-    ensures answer { IsTrue F.told → GivesOnBits (run_on (source_of program.now) limits.now) (F.file files.old name.now) result }
+    ensures answer { (file : World) → Agrees file (F.answered files.new)
+        → GivesOnBits (run_on (source_of program.now) limits.now) (file name.now) result }
     ensures refused { IfErr result OfOutside }
     ensures stage { IsStage
-        (name.now ∷ []) (files_seen F.told F.file F.may_be_missing F.faults F.is_open files.old files.new) (refusal_in result) }
-    ensures kept { KeepsFiles F.file F.may_be_missing files.old files.new }
+        (name.now ∷ []) (F.answered files.old) (F.answered files.new) (refusal_in result) }
 {
     open_bits(files, name)?;
     let sampler = compile(alloc, program)?;

@@ -18,6 +18,7 @@ use dice_roll::{LEAST_LABELS, MOST_FLIPS, MOST_LABELS};
 use gcl_core::MOST_LIMIT;
 use generated_program::GREATEST_NUMBER;
 use stream_runs::MOST_WORKERS;
+use weighted_roll::lists_weights;
 use zar_io::MOST_BUDGET;
 
 /// The word of a command.
@@ -27,6 +28,7 @@ pub enum Verb {
     Mass,
     Cost,
     Posterior,
+    Exact,
     Audit,
     Tally,
     Runs,
@@ -36,6 +38,7 @@ pub enum Verb {
     Code,
     Gen,
     Fast,
+    Roll,
 }
 
 /// What a word has to be.
@@ -45,8 +48,10 @@ pub enum Form {
     Name,
     /// A number, from the least to the most.
     Number(u64, u64),
-    /// A way to end: a word of `WANTS`, or a value.
+    /// A way to end: words of `WANTS`, or a value.
     Wanted,
+    /// Weights that a roll may have, with a comma between two.
+    Weights,
 }
 
 /// An option: its word, and the form of its value.
@@ -103,14 +108,12 @@ const LABELS: Form = Form::Number(LEAST_LABELS, MOST_LABELS);
 pub type Row = (Verb, Form, &'static [Setting], &'static [Setting]);
 
 /// Each command by its word. Code and definitions read this table.
-pub const VERBS: [(&str, Row); 13] = [
+pub const VERBS: [(&str, Row); 15] = [
     ("sample", (Verb::Sample, Form::Name, SAMPLE, &[])),
     ("mass", (Verb::Mass, Form::Name, LIMITS, &[])),
-    (
-        "cost",
-        (Verb::Cost, Form::Name, LIMITS, &[ATTEMPTS, ROUNDS]),
-    ),
+    ("cost", (Verb::Cost, Form::Name, LIMITS, &[])),
     ("posterior", (Verb::Posterior, Form::Name, &[TURNS], &[])),
+    ("exact", (Verb::Exact, Form::Name, &[], &[])),
     ("audit", (Verb::Audit, Form::Name, AUDIT, &[DEPTH])),
     ("tally", (Verb::Tally, Form::Name, TALLY, &[SEED, FROM, TO])),
     ("runs", (Verb::Runs, Form::Name, TALLY, &[SEED, FROM, TO])),
@@ -123,6 +126,7 @@ pub const VERBS: [(&str, Row); 13] = [
     ("code", (Verb::Code, Form::Name, &[], &[])),
     ("gen", (Verb::Gen, GENERATED, &[], &[])),
     ("fast", (Verb::Fast, LABELS, ROLL, &[])),
+    ("roll", (Verb::Roll, Form::Weights, ROLL, &[])),
 ];
 
 /// The words that ask for help.
@@ -137,6 +141,10 @@ pub const MOST_DIGITS: usize = 20;
 pub const USUAL_LIMIT: u64 = 1000;
 /// The limit of turns under which masses, expected bits and bounds are worked out where none is given.
 pub const USUAL_MASS_TURNS: u64 = 30;
+/// The limit of attempts under which expected bits are worked out where none is given.
+pub const USUAL_COST_ATTEMPTS: u64 = 2;
+/// The limit of rounds under which they are where none is given.
+pub const USUAL_COST_ROUNDS: u64 = 1;
 /// The budget of bits of a stream where none is given.
 pub const USUAL_BUDGET: u64 = 65_536;
 /// The workers on a range of streams where no number is given.
@@ -191,6 +199,8 @@ impl Form {
                 Some(_) => Some(0),
                 None => None,
             },
+            Form::Weights if lists_weights(word) => Some(0),
+            Form::Weights => None,
         }
     }
 }

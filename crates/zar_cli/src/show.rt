@@ -2,8 +2,8 @@
 
 ghost use Rattle.std.specs.Prelude.{◌≡◌, is_err, IsTrue, IfOk, OnErr, if◌then◌else◌};
 ghost use Rattle.report_text.specs.Lines.{refusal_text};
-ghost use Rattle.zar_cli.specs.Delivery.{answer_status, roll_status, said_status, is_of_masses, refusal_status, status_of, said_text, out_text, err_text, IsWrittenOn};
-ghost use Rattle.zar_cli.specs.Seen.{sink_seen};
+ghost use Rattle.zar_cli.specs.Delivery.{answer_status, roll_status, said_status, is_of_masses, refusal_status, status_of, said_text, out_text, err_text};
+ghost use Rattle.zar_io.specs.Written.{IsWritten};
 ghost use Rattle.zar_cli.specs.inner.AsWritten.{is_drawn, IsDrawn};
 
 use crate::said::Said;
@@ -103,7 +103,7 @@ fn put_said<R: Threads + Sync, S: Sink, G: Gate>(
     gate: &G,
 ) -> Result<Result<(), Failed>, AllocError>
     ensures written { IfOk result (λ done.
-        IsWrittenOn (is_err done) (sink_seen S.told S.faults S.written sink.old sink.new) (said_text said.now)) }
+        IsWritten (is_err done) (S.answered sink.old) (S.answered sink.new) (said_text said.now)) }
     ensures untouched { OnErr result ((sink.new ≡ sink.old) × IsTrue (is_drawn said.now)) }
 {
     match said {
@@ -123,7 +123,7 @@ fn put_said<R: Threads + Sync, S: Sink, G: Gate>(
 
 /// Writes the line of a refusal.
 pub fn put_refusal<S: Sink>(sink: &mut S, refusal: &Refusal) -> Result<(), Failed>
-    ensures { IsWrittenOn (is_err result) (sink_seen S.told S.faults S.written sink.old sink.new) (refusal_text refusal.now) }
+    ensures { IsWritten (is_err result) (S.answered sink.old) (S.answered sink.new) (refusal_text refusal.now) }
 {
     put_text(sink, fault_line(refusal).bytes())
 }
@@ -139,9 +139,9 @@ pub fn show<R: Threads + Sync, O: Sink, E: Sink, G: Gate>(
     gate: &G,
 ) -> Result<Delivery, AllocError>
     ensures on_out { IfOk result (λ shown.
-        IsWrittenOn shown.out_failed (sink_seen O.told O.faults O.written out.old out.new) (out_text output.now)) }
+        IsWritten shown.out_failed (O.answered out.old) (O.answered out.new) (out_text output.now)) }
     ensures on_err { IfOk result (λ shown.
-        IsWrittenOn shown.err_failed (sink_seen E.told E.faults E.written err.old err.new)
+        IsWritten shown.err_failed (E.answered err.old) (E.answered err.new)
         (if shown.out_failed then refusal_text Refusal.Write else err_text output.now)) }
     ensures untouched { OnErr result ((out.new ≡ out.old) × (err.new ≡ err.old) × IsDrawn output.now) }
 {

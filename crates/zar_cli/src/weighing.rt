@@ -8,13 +8,11 @@ ghost use Rattle.mass_fold.specs.Refused.{IsLimit};
 ghost use Rattle.zar_cli.specs.declared.command.Work.TheVariants.{Cost, Mass};
 ghost use Rattle.zar_cli.specs.inner.Works.{WorksAlone};
 
-use crate::narrow::is_narrow;
 use crate::refusing::mass_refusal;
 use crate::said::Said;
-use crate::tables::masses_text;
 use cost_fold::{CostError, cost};
 use gcl_core::{Checked, Limits, refusals};
-use mass_fold::mass;
+use mass_lines::{is_narrow, masses_text};
 use report_text::Refusal;
 use std::alloc::Global;
 
@@ -31,8 +29,8 @@ pub fn masses_of(
     requires rounds { IfSome rounds IsLimit }
     ensures { WorksAlone (Mass turns attempts rounds) (source_of program.now) result }
 {
-    match mass(alloc, program, turns, attempts, rounds) {
-        Ok(rows) => Ok(Said::Shown(masses_text(alloc, &rows)?)),
+    match masses_text(alloc, program, turns, attempts, rounds) {
+        Ok(lines) => Ok(Said::Shown(lines)),
         Err(error) => Err(mass_refusal(error)),
     }
 }

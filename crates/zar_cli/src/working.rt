@@ -7,13 +7,12 @@ ghost use Rattle.gcl_core.specs.text.ReadingOrder.{count_all};
 ghost use Rattle.zar_cli.specs.declared.command.Work.TheVariants.{Runs, Check, Code};
 ghost use Rattle.stream_runs.specs.Ranges.{IsRange, IsWorkers};
 ghost use Rattle.zar_cli.specs.Range.{WorkHasRange};
-ghost use Rattle.zar_cli.specs.Seen.{files_seen};
-ghost use Rattle.zar_cli.specs.inner.Kept.{KeepsFiles};
 ghost use Rattle.zar_cli.specs.inner.Works.{Works, WorksAlone};
 
 use crate::command::{Source, Work};
 use crate::counting::{audit_of, tally_of};
 use crate::drawn::Drawn;
+use crate::exactly::exact_masses_of;
 use crate::hunting::found_of;
 use crate::posterior::bounds_of;
 use crate::said::Said;
@@ -69,9 +68,8 @@ pub fn work_on<R: Threads + Sync, F: Files, G: Gate>(
 ) -> Result<Said, Refusal>
     requires statements { count_all (source_of program).body < 2 ^ 32 - 1 }
     requires range { WorkHasRange work.now }
-    ensures said { Works work.now (source_of program)
-        (files_seen F.told F.file F.may_be_missing F.faults F.is_open files.old files.new) result }
-    ensures kept { KeepsFiles F.file F.may_be_missing files.old files.new }
+    ensures { Works work.now (source_of program)
+        (F.answered files.old) (F.answered files.new) result }
 {
     match work {
         Work::Sample(Source::File(bits), limits) => {
@@ -86,6 +84,7 @@ pub fn work_on<R: Threads + Sync, F: Files, G: Gate>(
         }
         Work::Cost(limits) => bits_of(alloc, &program, limits),
         Work::Posterior(turns) => bounds_of(alloc, &program, *turns),
+        Work::Exact => exact_masses_of(alloc, &program),
         Work::Audit(depth, limits) => audit_of(rt, alloc, &program, *depth, limits),
         Work::Tally(range, limits) => tally_of(rt, alloc, &program, range, limits, gate),
         Work::Runs(range, limits) => Ok(runs_of(program, range, limits)),

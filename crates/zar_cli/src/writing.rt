@@ -1,33 +1,29 @@
 // Writing lines and pages. No memory is taken, and the first write that fails ends it.
 
-ghost use Rattle.std.specs.Prelude.{◌++◌, IsTrue, is_err, decimal, flat_map};
-ghost use Rattle.zar_cli.specs.Delivery.{IsWrittenOn};
+ghost use Rattle.std.specs.Prelude.{◌++◌, is_err, decimal, flat_map};
+ghost use Rattle.zar_io.specs.Written.{IsWritten};
 ghost use Rattle.zar_cli.specs.Help.{piece_text, topic_text};
-ghost use Rattle.zar_cli.specs.Seen.{sink_seen};
 
 use crate::help::{Part, Piece, Topic, page_of};
 use itoa::Buffer;
 use zar_io::{Failed, Sink, put};
 
 pub fn put_text<S: Sink>(sink: &mut S, text: &[u8]) -> Result<(), Failed>
-    ensures written { IsWrittenOn (is_err result) (sink_seen S.told S.faults S.written sink.old sink.new) text.now }
-    ensures still_told { IsTrue (S.told sink.old) → IsTrue (S.told sink.new) }
+    ensures { IsWritten (is_err result) (S.answered sink.old) (S.answered sink.new) text.now }
 {
     put(sink, text)?;
     Ok(())
 }
 
 fn put_number<S: Sink>(sink: &mut S, n: u64) -> Result<(), Failed>
-    ensures written { IsWrittenOn (is_err result) (sink_seen S.told S.faults S.written sink.old sink.new) (decimal n) }
-    ensures still_told { IsTrue (S.told sink.old) → IsTrue (S.told sink.new) }
+    ensures { IsWritten (is_err result) (S.answered sink.old) (S.answered sink.new) (decimal n) }
 {
     put_text(sink, Buffer::new().format(n).as_bytes())
 }
 
 fn put_piece<S: Sink>(sink: &mut S, words: &str, number: Option<u64>) -> Result<(), Failed>
-    ensures written { IsWrittenOn (is_err result) (sink_seen S.told S.faults S.written sink.old sink.new)
+    ensures { IsWritten (is_err result) (S.answered sink.old) (S.answered sink.new)
         (piece_text words.now number) }
-    ensures still_told { IsTrue (S.told sink.old) → IsTrue (S.told sink.new) }
 {
     put_text(sink, words.as_bytes())?;
     match number {
@@ -37,9 +33,8 @@ fn put_piece<S: Sink>(sink: &mut S, words: &str, number: Option<u64>) -> Result<
 }
 
 fn put_part<S: Sink>(sink: &mut S, part: &[Piece]) -> Result<(), Failed>
-    ensures written { IsWrittenOn (is_err result) (sink_seen S.told S.faults S.written sink.old sink.new)
+    ensures { IsWritten (is_err result) (S.answered sink.old) (S.answered sink.new)
         (flat_map (λ piece. piece_text piece.0.now piece.1) part.now) }
-    ensures still_told { IsTrue (S.told sink.old) → IsTrue (S.told sink.new) }
 {
     for (words, number) in part {
         put_piece(sink, words, *number)?;
@@ -48,9 +43,8 @@ fn put_part<S: Sink>(sink: &mut S, part: &[Piece]) -> Result<(), Failed>
 }
 
 fn put_parts<S: Sink>(sink: &mut S, parts: &[Part]) -> Result<(), Failed>
-    ensures written { IsWrittenOn (is_err result) (sink_seen S.told S.faults S.written sink.old sink.new)
+    ensures { IsWritten (is_err result) (S.answered sink.old) (S.answered sink.new)
         (flat_map (λ part. flat_map (λ piece. piece_text piece.0.now piece.1) part.now) parts.now) }
-    ensures still_told { IsTrue (S.told sink.old) → IsTrue (S.told sink.new) }
 {
     for part in parts {
         put_part(sink, part)?;
@@ -59,7 +53,7 @@ fn put_parts<S: Sink>(sink: &mut S, parts: &[Part]) -> Result<(), Failed>
 }
 
 fn put_page<S: Sink>(sink: &mut S, words: &str, parts: &[Part]) -> Result<(), Failed>
-    ensures { IsWrittenOn (is_err result) (sink_seen S.told S.faults S.written sink.old sink.new)
+    ensures { IsWritten (is_err result) (S.answered sink.old) (S.answered sink.new)
         (words.now ++ flat_map (λ part. flat_map (λ piece. piece_text piece.0.now piece.1) part.now) parts.now) }
 {
     put_text(sink, words.as_bytes())?;
@@ -68,7 +62,7 @@ fn put_page<S: Sink>(sink: &mut S, words: &str, parts: &[Part]) -> Result<(), Fa
 
 /// Writes the help that is asked for.
 pub fn put_topic<S: Sink>(sink: &mut S, topic: Topic) -> Result<(), Failed>
-    ensures { IsWrittenOn (is_err result) (sink_seen S.told S.faults S.written sink.old sink.new) (topic_text topic) }
+    ensures { IsWritten (is_err result) (S.answered sink.old) (S.answered sink.new) (topic_text topic) }
 {
     let (words, parts) = page_of(topic);
     put_page(sink, words, parts)

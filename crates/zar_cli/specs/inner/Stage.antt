@@ -1,16 +1,16 @@
 -- What a stage that reads files owes, and by what it may refuse.
-use Rattle.std.specs.Prelude.{List, Option}
+use Rattle.std.specs.Prelude.{List, reverse, Option}
 use Rattle.report_text.specs.declared.refusals.Refusal.{Refusal}
 use Rattle.report_text.specs.declared.refusals.Refusal.TheVariants.{Coded, Read, Write, Memory, NoFile}
+use Rattle.zar_io.specs.declared.trace.Event.{Event}
+use Rattle.zar_io.specs.GoesOn.{GoesOn}
 use Rattle.zar_cli.specs.Forms.{CallWord}
-use Rattle.zar_cli.specs.Seen.{FilesSeen}
-use Rattle.zar_cli.specs.Stages.{CountsRead, ClosesAfter, MissesOneOf}
+use Rattle.zar_cli.specs.Stages.{Leaves}
 
--- a stage that reads files of these names
-pub record IsStage (names : List CallWord) (files : FilesSeen) (refusal : Option Refusal) : Type 0 where
-  pub counts : CountsRead refusal files.faults files.faults_now
-  pub closes : ClosesAfter refusal files.open_now
-  pub misses : MissesOneOf names files.may_be_missing refusal
+-- a stage that seeks the files of these names
+pub record IsStage (names : List CallWord) (before now : List Event) (refusal : Option Refusal) : Type 0 where
+  pub leaves : Leaves names refusal before now
+  pub goes : GoesOn (reverse names) before now
 
 -- a failed read, a missing file, or want of memory
 abbrev pub OfOutside : Refusal → Type 0

@@ -1,7 +1,9 @@
 -- What work on a checked program owes.
-use Rattle.std.specs.Prelude.{◌≡◌, ℕ, List, IsTrue, Option, Ok, Err, ◌⊎◌}
+use Rattle.std.specs.Prelude.{◌≡◌, ℕ, List, Option, Ok, Err, ◌⊎◌}
 use Rattle.gcl_core.specs.meaning.Syntax.{SourceProgram}
 use Rattle.report_text.specs.declared.refusals.Refusal.TheVariants.{Coded, Read, Write, Memory, NoFile}
+use Rattle.zar_io.specs.declared.trace.Event.{Event}
+use Rattle.zar_io.specs.Trace.{World, Agrees, failures}
 use Rattle.zar_cli.specs.declared.command.Command.TheVariants.{Checked}
 use Rattle.zar_cli.specs.declared.command.Work.{Work}
 use Rattle.zar_cli.specs.ByStages.{Output}
@@ -9,17 +11,16 @@ use Rattle.zar_cli.specs.Fits.{MaySay}
 use Rattle.zar_cli.specs.Forms.{CallWord}
 use Rattle.zar_cli.specs.Needs.{names_in_work}
 use Rattle.zar_cli.specs.Output.{IsWorkedOut}
-use Rattle.zar_cli.specs.Seen.{FilesSeen, IsQuiet}
 use Rattle.zar_cli.specs.Stages.{refusal_in}
 use Rattle.zar_cli.specs.inner.Stage.{IsStage}
 
--- over files: what it says over the bytes that they tell, whatever it may say where they tell none, and its stage
-pub record Works (work : Work) (p : SourceProgram) (files : FilesSeen) (output : Output) : Type 0 where
+-- over files: what it says over any that may have answered so, whatever it may say beside that, and its stage
+pub record Works (work : Work) (p : SourceProgram) (before now : List Event) (output : Output) : Type 0 where
   pub fits : (program : CallWord)
       → MaySay (Checked program work) output ⊎ ((file : CallWord → Option (List ℕ)) → IsWorkedOut file p work output)
-  pub stage : IsStage (names_in_work work) files (refusal_in output)
-  pub tells : IsTrue files.told → IsQuiet files.faults files.faults_now
-      → (output ≡ Err Memory) ⊎ IsWorkedOut files.file p work output
+  pub stage : IsStage (names_in_work work) before now (refusal_in output)
+  pub tells : failures now ≡ failures before → (file : World) → Agrees file now
+      → (output ≡ Err Memory) ⊎ IsWorkedOut file p work output
 
 -- that is said, or memory has run out; no file was read
 abbrev pub Gives : (Output → Type 0) → Output → Type 0

@@ -6,13 +6,13 @@ use Rattle.zar_cli.proofs.source.read_written.Goals as goal
 pub returns-in_err-text-clause-program : goal.returns-in_err-text-clause-program
 returns-in_err-text-clause-program g c =
     let out : c.from_residual.result ≡ Err c.in_err-text.field-0.0 = grind arith in
-    subst (λ r. OfFile g.F.Files.told (g.F.Files.file c.args.files.now c.args.name.now) (λ file. ReadsWritten file r)) (sym out)
+    subst (λ r. OfFile c.args.name.now (g.F.Files.answered c.read_text.new.files) (λ file. ReadsWritten file r)) (sym out)
     (record { tells = c.in_err-text.ensures.no_text; some = c.in_err-text.ensures.some_text })
 
 pub returns-clause-program : goal.returns-clause-program
 returns-clause-program g c =
     let one = c.one_reading.ensures.written c.as_slice.result.now in
     record {
-      tells = λ told. writes_file _ _ _ (c.in_ok-text.ensures.text told ∙ ap Some (sym c.as_slice.ensures.value)) one c.parse_text.ensures.written;
+      tells = λ file agrees. writes_file _ _ _ (c.in_ok-text.ensures.text file agrees ∙ ap Some (sym c.as_slice.ensures.value)) one c.parse_text.ensures.written;
       some = (Some c.as_slice.result.now, writes_file _ _ _ refl one c.parse_text.ensures.written);
     }

@@ -1,7 +1,7 @@
 use Rattle.std.proofs.Common.{◌≡◌, ◌∙◌, ◌+◌, ◌++◌, ap, drop}
 use Rattle.report_text.specs.Lines.{mass_text}
 use Rattle.zar_cli.specs.Tables.{share_of, audit_rows_text}
-use Rattle.zar_cli.proofs.RowLines.{rows_go}
+use Rattle.mass_lines.proofs.RowByRow.{rows_go}
 use Rattle.zar_cli.proofs.tables.audit_rows_text.Goals as goal
 
 pub loop-i-preserved : goal.loop-i-preserved

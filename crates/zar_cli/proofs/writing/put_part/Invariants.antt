@@ -1,12 +1,10 @@
-use Rattle.std.proofs.Common.{false, IsTrue, take, flat_map}
-use Rattle.zar_cli.specs.Delivery.{IsWrittenOn}
+use Rattle.std.proofs.Common.{false, take, flat_map}
+use Rattle.zar_io.specs.Written.{IsWritten}
 use Rattle.zar_cli.specs.Help.{piece_text}
-use Rattle.zar_cli.specs.Seen.{sink_seen}
 use Rattle.zar_cli.proofs.writing.put_part.Given as goal
 
 abbrev pub invariant-loop-words : goal.invariant-loop-words
 invariant-loop-words g l = record {
-  written : IsWrittenOn false (sink_seen g.S.Sink.told g.S.Sink.faults g.S.Sink.written l.initial.sink l.sink)
+  written : IsWritten false (g.S.Sink.answered l.initial.sink) (g.S.Sink.answered l.sink)
       (flat_map (λ piece. piece_text piece.0.now piece.1) (take l.words-index l.part));
-  still_told : IsTrue (g.S.Sink.told l.initial.sink) → IsTrue (g.S.Sink.told l.sink);
 }

@@ -1,0 +1,15 @@
+use Rattle.std.proofs.Common.{Err, sym, subst}
+use Rattle.gcl_core.specs.meaning.Views.{source_of}
+use Rattle.zar_cli.specs.ExactMasses.{SaysExact, exact}
+use Rattle.zar_cli.specs.inner.Works.{Gives}
+use Rattle.zar_cli.proofs.Refusals.{exact_refused}
+use Rattle.zar_cli.proofs.exactly.exact_masses_of.Goals as goal
+
+pub returns-in-Ok : goal.returns-in-Ok
+returns-in-Ok c = record { gives = λ file. exact c.in-Ok.lines c.in-Ok.ensures.lines }
+
+pub returns-in-Err : goal.returns-in-Err
+returns-in-Err c = record {
+  gives = λ file. subst (λ e. Gives (SaysExact (source_of c.args.program.now)) (Err e)) (sym c.exact_refusal.ensures)
+      (exact_refused (source_of c.args.program.now) c.in-Err.error c.in-Err.ensures.refused);
+}
