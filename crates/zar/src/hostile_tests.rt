@@ -36,7 +36,7 @@ struct Row {
 
 // Byte by byte, the text of 47 bytes takes an open, as many reads, and one that finds its end; the one byte of bits an open and a
 // read.
-const ROWS: [Row; 9] = [
+const ROWS: [Row; 10] = [
     Row {
         words: &["sample", "p.gcl", "--bits", "b.bin"],
         program: TWO_THIRDS,
@@ -93,6 +93,16 @@ const ROWS: [Row; 9] = [
         failing: Failing::Files(7),
         status: 7,
         out: b"more bits 40000\n",
+        err: b"",
+    },
+    Row {
+        words: &["roll", "3,2,1", "--bits", "b.bin"],
+        program: b"",
+        bits: b"\xc0",
+        step: 1,
+        failing: Failing::Files(2),
+        status: 0,
+        out: b"value 2 bits 3\n",
         err: b"",
     },
     Row {

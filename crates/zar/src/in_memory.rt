@@ -1,12 +1,13 @@
 // Calls over files and sinks in memory.
 
-ghost use Rattle.std.specs.Prelude.{◌≡◌, ◌^◌, ◌<◌, ◌++◌, IfOk, map, length, string_bytes, vec_len};
-ghost use Rattle.zar_io.specs.MemFiles.{named_file, files_faults};
-ghost use Rattle.zar_io.specs.MemSink.{sink_bytes, sink_faults};
+ghost use Rattle.std.specs.Prelude.{◌≡◌, ◌^◌, ◌<◌, ◌++◌, Ok, IfOk, map, length, string_bytes, vec_len};
+ghost use Rattle.zar_io.specs.MemFiles.{named_file, files_answered};
+ghost use Rattle.zar_io.specs.MemSink.{sink_answered};
+ghost use Rattle.zar_io.specs.Trace.{failures, written};
+ghost use Rattle.zar_cli.specs.declared.command.Command.{Command};
 ghost use Rattle.zar_cli.specs.Delivery.{status_of, out_text, err_text};
 ghost use Rattle.zar_cli.specs.ByStages.{Output};
-ghost use Rattle.zar_cli.specs.Output.{TellsWords};
-ghost use Rattle.zar_cli.specs.Seen.{IsQuiet};
+ghost use Rattle.zar_cli.specs.Output.{SaysOrRunsOut};
 ghost use Rattle.zar_cli.specs.Words.{command_of};
 
 use std::alloc::{AllocError, Global};
@@ -27,7 +28,7 @@ pub(crate) fn spelled(alloc: Global, call: &[&str]) -> Result<Vec<String>, Alloc
     Ok(words)
 }
 
-// A call of which no read and no write failed has the status of what the files tell of its words, and writes exactly that.
+// A call of which no read and no write failed has the status of what is said of its words over the files, and writes exactly that.
 fn call<R: Threads + Sync>(
     rt: &R,
     alloc: Global,
@@ -37,12 +38,14 @@ fn call<R: Threads + Sync>(
     err: &mut MemSink,
 ) -> u8
     requires { length words.now < 2 ^ 32 }
-    ensures said { IsQuiet (files_faults files.old) (files_faults files.new)
-        → IsQuiet (sink_faults out.old) (sink_faults out.new) → IsQuiet (sink_faults err.old) (sink_faults err.new)
-        → (output : Output) × TellsWords (named_file files.old) (command_of (map string_bytes words.now)) output
+    ensures said { failures (files_answered files.new) ≡ failures (files_answered files.old)
+        → failures (sink_answered out.new) ≡ failures (sink_answered out.old)
+        → failures (sink_answered err.new) ≡ failures (sink_answered err.old)
+        → (output : Output)
+        × ((c : Command) → command_of (map string_bytes words.now) ≡ Ok c → SaysOrRunsOut (named_file files.new) c output)
         × (result ≡ status_of output)
-        × (sink_bytes out.new ≡ sink_bytes out.old ++ out_text output)
-        × (sink_bytes err.new ≡ sink_bytes err.old ++ err_text output) }
+        × (written (sink_answered out.new) ≡ written (sink_answered out.old) ++ out_text output)
+        × (written (sink_answered err.new) ≡ written (sink_answered err.old) ++ err_text output) }
 {
     zar(rt, alloc, words, files, out, err, &Open)
 }
@@ -50,7 +53,7 @@ fn call<R: Threads + Sync>(
 #[test]
 fn says_in_memory(rt: HostRuntime) -> Result<(), Fail> {
     let two_thirds: &[u8] = b"choice 2/3 { x := 1; } or { x := 2; } return x;";
-    let cases: [(&[u8], &[&str], &[u8]); 9] = [
+    let cases: [(&[u8], &[&str], &[u8]); 12] = [
         (
             two_thirds,
             &["mass", "p.gcl"],
@@ -60,6 +63,11 @@ fn says_in_memory(rt: HostRuntime) -> Result<(), Fail> {
             b"go := 1; while go = 1 { choice 1/2 { x := x + 1; } or { go := 0; } } return x;",
             &["posterior", "p.gcl", "--turns", "2"],
             b"value 0 from 1/2 to 3/4\nvalue 1 from 1/4 to 1/2\nother from 0/1 to 1/4\n",
+        ),
+        (
+            b"choice 1/3 { x := 1; } or { skip; } while x = 0 { skip; } return x;",
+            &["exact", "p.gcl"],
+            b"value 1 mass 1/3\nendless mass 2/3\n",
         ),
         (
             two_thirds,
@@ -93,6 +101,12 @@ fn says_in_memory(rt: HostRuntime) -> Result<(), Fail> {
             b"",
             &["fast", "6", "--flips", "5"],
             b"each mass 5/32\nlimit flips mass 1/16\n",
+        ),
+        (b"", &["roll", "3,2,1", "--seed", "0"], b"value 1 bits 2\n"),
+        (
+            b"",
+            &["roll", "3,0,1", "--flips", "1"],
+            b"value 0 mass 1/2\nlimit flips mass 1/2\nbits 1/1\n",
         ),
     ];
     let mut row = 0u32;

@@ -3,31 +3,38 @@
 
 ghost use Rattle.std.specs.Prelude.{◌<◌, ◌^◌, length};
 
+mod calls;
 #[cfg(test)]
 mod comparing;
+mod excerpt;
+mod explaining;
 #[cfg(test)]
 mod gate_tests;
 #[cfg(test)]
 mod hostile_tests;
 #[cfg(test)]
 mod in_memory;
+mod keeping;
+mod nearest;
+mod on_host;
 mod progress;
+mod repairs;
 #[cfg(test)]
 mod tests;
 mod wiping;
 #[cfg(test)]
 mod words_tests;
 
+use crate::explaining::explain;
+use crate::on_host::on_host;
 use crate::progress::Progress;
-use crate::wiping::WipingSink;
 use std::alloc::{AllocError, Global};
 use std::io::IsTerminal;
 use std::process::ExitCode;
 use std::rt::Env;
 use std::{env, io};
 use zar_cli::statuses::{NO_WORDS, OUT_OF_MEMORY};
-use zar_cli::{Command, Work, read_words, zar};
-use zar_io::{HostFiles, HostSink};
+use zar_cli::{Command, Work, read_words};
 
 // The words after the program's name, or the status that says why there are none.
 fn words<R: Env + AllocGlobal>(rt: &R) -> Result<Vec<String>, u8> {
@@ -68,24 +75,25 @@ fn main(rt: HostRuntime) -> ExitCode {
         return ExitCode::from(NO_WORDS);
     }
     let out_is_seen = rt.stdout().is_terminal();
-    let streams = if rt.stderr().is_terminal() {
+    let err_is_seen = rt.stderr().is_terminal();
+    let streams = if err_is_seen {
         streams_of_range(rt.alloc(), words.as_slice(), out_is_seen)
     } else {
         None
     };
     let progress = Progress::new(&rt, streams);
-    let mut files = HostFiles::new(&rt);
-    let mut out = WipingSink::new(HostSink::new(rt.stdout()), &progress, out_is_seen);
-    let mut err = WipingSink::new(HostSink::new(rt.stderr()), &progress, true);
-    let status = zar(
+    let (status, _files, _out, err) = on_host(
         &rt,
         rt.alloc(),
         words.as_slice(),
-        &mut files,
-        &mut out,
-        &mut err,
+        rt.stdout(),
+        rt.stderr(),
         &progress,
+        out_is_seen,
     );
     progress.wipe();
+    if err_is_seen {
+        explain(&rt, words.as_slice(), err.kept());
+    }
     ExitCode::from(status)
 }

@@ -1,7 +1,6 @@
 // The top call over files and sinks in memory.
 
-ghost use Rattle.std.specs.Prelude.{◌≡◌, ◌<◌, ◌^◌, IfOk, OnOk, length, false, vec_len};
-ghost use Rattle.zar_io.specs.MemFiles.{has_open};
+ghost use Rattle.std.specs.Prelude.{◌<◌, ◌^◌, length};
 
 use crate::in_memory::spelled;
 use std::alloc::{AllocError, Global};

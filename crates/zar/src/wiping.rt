@@ -15,11 +15,9 @@ pub struct WipingSink<'p, S: Sink + Drop, R: Clock + Eprint> {
 }
 
 impl<'p, S: Sink + Drop, R: Clock + Eprint> WipingSink<'p, S, R> {
-    /// What it tells is what the other sink does.
+    /// Its record is that of the other sink.
     pub fn new(sink: S, progress: &'p Progress<'p, R>, is_seen: bool) -> WipingSink<'p, S, R>
-        ensures faults { ⟦<WipingSink<'p, S, R> as Sink>⟧.faults result ≡ S.faults sink }
-        ensures told { ⟦<WipingSink<'p, S, R> as Sink>⟧.told result ≡ S.told sink }
-        ensures written { ⟦<WipingSink<'p, S, R> as Sink>⟧.written result ≡ S.written sink }
+        ensures { ⟦<WipingSink<'p, S, R> as Sink>⟧.answered result ≡ S.answered sink }
     {
         WipingSink {
             sink,
@@ -30,13 +28,7 @@ impl<'p, S: Sink + Drop, R: Clock + Eprint> WipingSink<'p, S, R> {
 }
 
 impl<S: Sink + Drop, R: Clock + Eprint> Sink for WipingSink<'_, S, R> {
-    ghost faults = { λ s. S.faults s.sink };
-
-    ghost told = { λ s. S.told s.sink };
-
-    ghost written = { λ s. S.written s.sink };
-
-    ghost bounded = { λ s. S.bounded s.sink };
+    ghost answered = { λ s. S.answered s.sink };
 
     fn write(&mut self, piece: &[u8]) -> Result<usize, Failed> {
         if self.is_seen {

@@ -136,16 +136,17 @@ fn reads_the_options_of_sample(rt: HostRuntime) -> Result<(), Fail> {
 
 #[test]
 fn names_the_first_wrong_word_of_counts(rt: HostRuntime) -> Result<(), Fail> {
-    let cases: [(&[&str], u32); 17] = [
-        (&["cost", "p"], 2),
-        (&["cost", "p", "--attempts", "1"], 4),
-        (&["cost", "p", "--rounds", "1", "--turns", "2"], 6),
+    let cases: [(&[&str], u32); 18] = [
+        (&["cost", "p", "--depth", "1"], 2),
+        (&["cost", "p", "--attempts"], 3),
+        (&["cost", "p", "--rounds", "1", "--turns", "-2"], 5),
         (&["sample", "p", "--stream", "1"], 4),
         (&["sample", "p", "--seed", "1", "--depth", "2"], 4),
         (&["mass", "p", "--turns", "-1"], 3),
         (&["mass", "p", "--turns"], 3),
         (&["mass", "p", "--bits", "b"], 2),
         (&["posterior", "p", "--attempts", "1"], 2),
+        (&["exact", "p", "--turns", "1"], 2),
         (&["posterior", "p", "--turns", "1000000001"], 3),
         (&["audit", "p"], 2),
         (&["audit", "p", "--depth", "21"], 3),
@@ -203,12 +204,22 @@ fn reads_the_numbers_of_counts(rt: HostRuntime) -> Result<(), Fail> {
         }
         _ => panic!(rt; "no cost"),
     }
+    match read(rt.alloc(), &["cost", "p"])? {
+        Ok(Command::Checked(_, Work::Cost(limits))) => {
+            assert_eq!(rt; (limits.turns, limits.attempts, limits.rounds), (30, 2, 1));
+        }
+        _ => panic!(rt; "no cost"),
+    }
     match &read(rt.alloc(), &["posterior", "p"])? {
         Ok(Command::Checked(program, Work::Posterior(turns))) => {
             assert_eq!(rt; program.text(), "p");
             assert_eq!(rt; *turns, 30);
         }
         _ => panic!(rt; "no posterior"),
+    }
+    match read(rt.alloc(), &["exact", "p"])? {
+        Ok(Command::Checked(_, Work::Exact)) => (),
+        _ => panic!(rt; "no exact"),
     }
     match read(rt.alloc(), &["audit", "p", "--depth", "3"])? {
         Ok(Command::Checked(_, Work::Audit(depth, limits))) => {
@@ -244,7 +255,7 @@ fn reads_the_numbers_of_counts(rt: HostRuntime) -> Result<(), Fail> {
 
 #[test]
 fn names_the_first_wrong_word_behind_a_number(rt: HostRuntime) -> Result<(), Fail> {
-    let cases: [(&[&str], u32); 13] = [
+    let cases: [(&[&str], u32); 17] = [
         (&["gen"], 1),
         (&["gen", "0"], 1),
         (&["gen", "1001"], 1),
@@ -257,6 +268,10 @@ fn names_the_first_wrong_word_behind_a_number(rt: HostRuntime) -> Result<(), Fai
         (&["fast", "6", "--budget", "1", "--flips", "2"], 6),
         (&["fast", "6", "--flips", "1000000001"], 3),
         (&["fast", "6", "--flips", "1", "--flips", "1"], 4),
+        (&["roll"], 1),
+        (&["roll", "3", "--seed", "1"], 1),
+        (&["roll", "3,2,", "--seed", "1"], 1),
+        (&["roll", "3,2,1", "--budget", "1"], 4),
         (&["sample", "p", "--bits", "b", "--flips", "1"], 4),
     ];
     let mut row = 0u32;
@@ -290,6 +305,31 @@ fn reads_the_numbers_of_gen_and_fast(rt: HostRuntime) -> Result<(), Fail> {
             assert_eq!(rt; labels, 1 << 62);
             assert_eq!(rt; flips, 1000);
             assert_eq!(rt; bits.text(), "b");
+        }
+        _ => panic!(rt; "no roll"),
+    }
+    Ok(())
+}
+
+#[test]
+fn reads_the_weights_of_roll(rt: HostRuntime) -> Result<(), Fail> {
+    match read(rt.alloc(), &["roll", "3,02,0"])? {
+        Ok(Command::Roll(list, flips, None)) => {
+            assert_eq!(rt; list.weights(), [3, 2, 0].as_slice());
+            assert_eq!(rt; flips, 30);
+        }
+        _ => panic!(rt; "no shares"),
+    }
+    match read(rt.alloc(), &["roll", "1,1", "--seed", "7"])? {
+        Ok(Command::Roll(list, flips, source)) => {
+            assert_eq!(rt; list.weights(), [1, 1].as_slice());
+            assert_eq!(rt; flips, 1000);
+            match source {
+                Some(Source::Stream(seed, stream, budget)) => {
+                    assert_eq!(rt; (seed, stream, budget), (7, 0, 65_536));
+                }
+                _ => panic!(rt; "no stream"),
+            }
         }
         _ => panic!(rt; "no roll"),
     }
@@ -374,7 +414,7 @@ fn wanted(alloc: Global, word: &str) -> Result<Result<TallyKey, WordsError>, All
 
 #[test]
 fn keys_are_named(rt: HostRuntime) -> Result<(), Fail> {
-    let cases: [(&str, Option<Outcome>); 21] = [
+    let cases: [(&str, Option<Outcome>); 36] = [
         ("0", Some(Outcome::Value(0))),
         ("-0", Some(Outcome::Value(0))),
         ("-5", Some(Outcome::Value(-5))),
@@ -396,6 +436,24 @@ fn keys_are_named(rt: HostRuntime) -> Result<(), Fail> {
         ("9223372036854775808", None),
         ("-9223372036854775809", None),
         ("000000000000000000005", None),
+        ("value 5", Some(Outcome::Value(5))),
+        ("value -5", Some(Outcome::Value(-5))),
+        ("zero divisor", Some(Outcome::Fault(Fault::ZeroDivisor))),
+        ("bad bound", Some(Outcome::Fault(Fault::BadBound))),
+        ("fault overflow", Some(Outcome::Fault(Fault::Overflow))),
+        (
+            "fault zero divisor",
+            Some(Outcome::Fault(Fault::ZeroDivisor)),
+        ),
+        ("fault bad bound", Some(Outcome::Fault(Fault::BadBound))),
+        ("limit turns", Some(Outcome::Limit(Limit::Turns))),
+        ("limit attempts", Some(Outcome::Limit(Limit::Attempts))),
+        ("limit rounds", Some(Outcome::Limit(Limit::Rounds))),
+        ("value", None),
+        ("value ", None),
+        ("value  5", None),
+        ("value value 5", None),
+        ("fault zero-divisor", None),
     ];
     for (word, outcome) in cases {
         let want = match outcome {
@@ -405,10 +463,7 @@ fn keys_are_named(rt: HostRuntime) -> Result<(), Fail> {
         assert_eq!(rt; wanted(rt.alloc(), word)?, want, "{word}");
     }
     assert_eq!(rt; wanted(rt.alloc(), "more-bits")?, Ok(TallyKey::MoreBits));
-    assert_eq!(rt;
-        wanted(rt.alloc(), "more bits")?,
-        Err(WordsError::BadWords { at: 3 })
-    );
+    assert_eq!(rt; wanted(rt.alloc(), "more bits")?, Ok(TallyKey::MoreBits));
     Ok(())
 }
 
@@ -427,5 +482,9 @@ fn reads_what_help_is_asked_for(rt: HostRuntime) -> Result<(), Fail> {
     assert!(rt; asks_for(alloc, &["help"], Topic::Everything)?);
     assert!(rt; asks_for(alloc, &["-h", "tally"], Topic::One(Verb::Tally))?);
     assert!(rt; asks_for(alloc, &["--version"], Topic::Version)?);
+    assert!(rt; asks_for(alloc, &["--help", "E16"], Topic::Refused(16))?);
+    for word in ["E0", "E17", "E", "e5", "E5 ", "5"] {
+        assert!(rt; read(alloc, &["help", word])?.is_err(), "{word}");
+    }
     Ok(())
 }

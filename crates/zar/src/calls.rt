@@ -1,0 +1,208 @@
+//! What is wrong with the words of a call, and what would be right.
+
+use crate::excerpt::shown;
+use crate::nearest::Nearest;
+use std::alloc::{AllocError, Global};
+use zar_cli::{Form, HELP, Row, Setting, VERBS, VERSION_WORD, Verb};
+
+/// The row of the command that the first word is.
+pub fn row_of(words: &[String]) -> Option<Row> {
+    let word = words.first()?;
+    for (name, row) in &VERBS {
+        if word.as_str() == *name {
+            return Some(*row);
+        }
+    }
+    None
+}
+
+// The option of this word.
+fn setting_of(takes: &[Setting], word: &str) -> Option<Setting> {
+    for setting in takes {
+        if setting.0 == word {
+            return Some(*setting);
+        }
+    }
+    None
+}
+
+// The option stands among the words before this place.
+fn is_given(words: &[String], at: usize, option: &str) -> bool {
+    for (i, word) in words.iter().enumerate().skip(2) {
+        if i < at && i % 2 == 0 && word.as_str() == option {
+            return true;
+        }
+    }
+    false
+}
+
+/// The call, with a mark under the word of this number, or behind the last.
+pub fn call_marked(alloc: Global, words: &[String], at: usize) -> Result<String, AllocError> {
+    let mut call = String::from_str(alloc, "  zar ")?;
+    let mut mark = String::from_str(alloc, "      ")?;
+    for (i, word) in words.iter().enumerate() {
+        for byte in word.as_bytes() {
+            call.push(shown(*byte))?;
+            if i <= at {
+                mark.push(if i == at { '^' } else { ' ' })?;
+            }
+        }
+        call.push(' ')?;
+        if i < at {
+            mark.push(' ')?;
+        }
+    }
+    if words.len() <= at {
+        mark.push('^')?;
+    }
+    format!(in alloc; "{}\n{mark}\n", call.trim_end())
+}
+
+// What a word of this form is.
+fn form_said(alloc: Global, form: Form) -> Result<String, AllocError> {
+    match form {
+        Form::Name => String::from_str(alloc, "the name of a file"),
+        Form::Number(least, most) => format!(in alloc; "a number from {least} to {most}"),
+        Form::Weights => String::from_str(alloc, "weights, with a comma between two, as 3,2,1"),
+        Form::Wanted => String::from_str(
+            alloc,
+            "a value, or a way to end as tally prints it, as 'limit turns'",
+        ),
+    }
+}
+
+// No command has this word.
+fn of_command(alloc: Global, words: &[String]) -> Result<String, AllocError> {
+    let Some(word) = words.first() else {
+        return String::from_str(alloc, "a command is missing");
+    };
+    let mut nearest = Nearest::to(word.as_str());
+    for (name, _) in &VERBS {
+        nearest = nearest.offer(alloc, name)?;
+    }
+    for name in &HELP {
+        nearest = nearest.offer(alloc, name)?;
+    }
+    let question = nearest.offer(alloc, VERSION_WORD)?.question(alloc)?;
+    format!(in alloc; "there is no command '{word}'{question}")
+}
+
+// Behind `help` stands another word than that of a command.
+fn of_topic(alloc: Global, words: &[String], at: usize) -> Result<String, AllocError> {
+    let asks_for_help = words
+        .first()
+        .is_some_and(|word| word.as_str() != VERSION_WORD);
+    let word = match words.get(at) {
+        Some(word) if at == 1 && asks_for_help => word,
+        _ => return String::from_str(alloc, "this is one word too many"),
+    };
+    let mut nearest = Nearest::to(word.as_str());
+    for (name, _) in &VERBS {
+        nearest = nearest.offer(alloc, name)?;
+    }
+    let question = nearest.question(alloc)?;
+    format!(in alloc; "'{word}' is no command, and no code from E1 to E16{question}")
+}
+
+// The word behind a command is missing, or of another form.
+fn of_first(alloc: Global, form: Form) -> Result<String, AllocError> {
+    match form {
+        Form::Name => String::from_str(
+            alloc,
+            "the file of the program is missing; standard input is /dev/stdin",
+        ),
+        _ => format!(in alloc; "{} is wanted here", form_said(alloc, form)?),
+    }
+}
+
+// An option that the command does not take, or that was given.
+fn of_option(
+    alloc: Global,
+    takes: &[Setting],
+    words: &[String],
+    at: usize,
+    word: &str,
+) -> Result<String, AllocError> {
+    if takes.is_empty() {
+        return String::from_str(alloc, "this command takes no options");
+    }
+    if is_given(words, at, word) {
+        return format!(in alloc; "{word} was given before");
+    }
+    if setting_of(takes, word).is_some() {
+        return String::from_str(
+            alloc,
+            "bits of a file and bits of a stream exclude each other",
+        );
+    }
+    if let Some((name, value)) = word.split_once('=') {
+        if setting_of(takes, name).is_some() {
+            return format!(in alloc; "an option and its value are two words: {name} {value}");
+        }
+    }
+    let mut nearest = Nearest::to(word);
+    for setting in takes {
+        nearest = nearest.offer(alloc, setting.0)?;
+    }
+    let question = nearest.question(alloc)?;
+    format!(in alloc; "this command has no option '{word}'{question}")
+}
+
+// The value of an option is missing, or of another form.
+fn of_value(alloc: Global, row: &Row, option: &str, is_there: bool) -> Result<String, AllocError> {
+    let Some(setting) = setting_of(row.2, option) else {
+        return String::from_str(alloc, "a value is missing here");
+    };
+    let form = form_said(alloc, setting.1)?;
+    if is_there {
+        format!(in alloc; "{option} takes {form}")
+    } else {
+        format!(in alloc; "the value of {option} is missing: {form}")
+    }
+}
+
+// Something is missing behind all words, or the range is none.
+fn of_end(alloc: Global, row: &Row, words: &[String]) -> Result<String, AllocError> {
+    for setting in row.3 {
+        if !is_given(words, words.len(), setting.0) {
+            return format!(in alloc;
+                "{} is missing: {}",
+                setting.0,
+                form_said(alloc, setting.1)?
+            );
+        }
+    }
+    match row.0 {
+        Verb::Sample => String::from_str(
+            alloc,
+            "where bits come from is missing: --seed N or --bits FILE",
+        ),
+        Verb::Fast => String::from_str(alloc, "--stream and --budget need a --seed"),
+        _ => String::from_str(
+            alloc,
+            "--to has to be at least --from, and at most 1099511627776 above it",
+        ),
+    }
+}
+
+// What is wrong with the word of this number behind the command of a row.
+fn of_row(alloc: Global, row: &Row, words: &[String], at: usize) -> Result<String, AllocError> {
+    match (at, words.get(at)) {
+        (0 | 1, _) => of_first(alloc, row.1),
+        (_, None) if at % 2 == 0 => of_end(alloc, row, words),
+        (_, Some(word)) if at % 2 == 0 => of_option(alloc, row.2, words, at, word.as_str()),
+        (_, value) => match words.get(at.saturating_sub(1)) {
+            Some(option) => of_value(alloc, row, option.as_str(), value.is_some()),
+            None => String::from_str(alloc, "a word is missing here"),
+        },
+    }
+}
+
+/// What is wrong with the word of this number.
+pub fn wrong_word(alloc: Global, words: &[String], at: usize) -> Result<String, AllocError> {
+    match (row_of(words), at) {
+        (None, 0) => of_command(alloc, words),
+        (None, _) => of_topic(alloc, words, at),
+        (Some(row), _) => of_row(alloc, &row, words, at),
+    }
+}

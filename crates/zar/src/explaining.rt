@@ -1,0 +1,159 @@
+//! What is shown behind the line of a refusal where a person reads it: the place, what is wrong, and what may help.
+
+use crate::calls::{call_marked, row_of, wrong_word};
+use crate::excerpt::{excerpt, shown};
+use crate::repairs::find_wrong;
+use gcl_core::refusals::BAD_WORDS;
+use std::alloc::{AllocError, Global};
+use std::fs;
+use std::fs::OpenFile;
+use std::io::Eprint;
+use std::rt::Files;
+use zar_cli::{Form, REFUSALS};
+
+// The code of a refusal and its place, if its line has them.
+fn refusal_in(line: &str) -> Option<(u8, Option<usize>)> {
+    let (code, rest) = line.strip_prefix("error E")?.split_once(' ')?;
+    let place = match rest.rsplit_once(" at ") {
+        Some((_, place)) => place.parse::<usize>().ok(),
+        None => None,
+    };
+    Some((code.parse::<u8>().ok()?, place))
+}
+
+// The sentence of a code, and what may help.
+fn page_front(alloc: Global, code: u8) -> Result<String, AllocError> {
+    let page = REFUSALS.get(usize::from(code)).copied().unwrap_or("");
+    let mut said = String::new(alloc);
+    for (i, line) in page.lines().enumerate() {
+        if i == 0 || line.starts_with("mend: ") {
+            said.push_str("  ")?;
+            said.push_str(line)?;
+            said.push('\n')?;
+        }
+    }
+    Ok(said)
+}
+
+// The text of a file that can be read twice.
+fn text_of<R: Files + AllocGlobal>(rt: &R, name: &str) -> Option<Vec<u8>> {
+    let file = fs::open(rt, name).ok()?;
+    if file.metadata().ok()?.is_file() {
+        fs::read(rt, name).ok()
+    } else {
+        None
+    }
+}
+
+// The place of a refusal in a text.
+fn of_place(
+    alloc: Global,
+    name: &str,
+    text: &[u8],
+    code: u8,
+    at: usize,
+) -> Result<String, AllocError> {
+    let end = text.trim_ascii_end().len();
+    match find_wrong(alloc, text, code, at)? {
+        Some(found) => {
+            let excerpt = excerpt(alloc, name, text, found.from.min(end), found.length)?;
+            format!(in alloc; "{excerpt}  {}\n", found.said)
+        }
+        None => {
+            let excerpt = excerpt(alloc, name, text, at.min(end), 1)?;
+            format!(in alloc; "{excerpt}{}", page_front(alloc, code)?)
+        }
+    }
+}
+
+// What is wrong with a text, or with masses.
+fn of_text<R: Files + AllocGlobal>(
+    rt: &R,
+    words: &[String],
+    code: u8,
+    place: Option<usize>,
+) -> Result<String, AllocError> {
+    let alloc = rt.alloc();
+    let said = match (place, words.get(1)) {
+        (Some(at), Some(name)) => match text_of(rt, name.as_str()) {
+            Some(text) => of_place(alloc, name.as_str(), text.as_slice(), code, at)?,
+            None => page_front(alloc, code)?,
+        },
+        _ => page_front(alloc, code)?,
+    };
+    format!(in alloc; "{said}  'zar help E{code}' says more\n")
+}
+
+// What is wrong with words.
+fn of_words(alloc: Global, words: &[String], at: usize) -> Result<String, AllocError> {
+    let call = call_marked(alloc, words, at)?;
+    let wrong = wrong_word(alloc, words, at)?;
+    match words.first() {
+        Some(command) if row_of(words).is_some() => {
+            format!(in alloc; "{call}  {wrong}\n  'zar help {command}' lists its options\n")
+        }
+        _ => format!(in alloc; "{call}  {wrong}\n  'zar help' lists the commands\n"),
+    }
+}
+
+// The first file that the words name and that cannot be opened.
+fn missing_file<'w, R: Files>(rt: &R, words: &'w [String]) -> Option<&'w str> {
+    let names_program = matches!(row_of(words), Some((_, Form::Name, _, _)));
+    for (i, word) in words.iter().enumerate().skip(1) {
+        let is_name = match i {
+            1 => names_program,
+            _ => words.get(i.saturating_sub(1))?.as_str() == "--bits",
+        };
+        if is_name && fs::open(rt, word.as_str()).is_err() {
+            return Some(word.as_str());
+        }
+    }
+    None
+}
+
+fn of_file<R: Files + AllocGlobal>(rt: &R, words: &[String]) -> Result<String, AllocError> {
+    match missing_file(rt, words) {
+        Some("-") => String::from_str(
+            rt.alloc(),
+            "  there is no file '-'; standard input is /dev/stdin\n",
+        ),
+        Some(name) => {
+            format!(in rt.alloc(); "  there is no file '{name}' here, or it may not be read\n")
+        }
+        None => Ok(String::new(rt.alloc())),
+    }
+}
+
+// What is said behind this line.
+fn explanation<R: Files + AllocGlobal>(
+    rt: &R,
+    words: &[String],
+    line: &str,
+) -> Result<String, AllocError> {
+    match refusal_in(line) {
+        Some((BAD_WORDS, Some(at))) => of_words(rt.alloc(), words, at),
+        Some((code, place)) => of_text(rt, words, code, place),
+        None if line == "error no file" => of_file(rt, words),
+        None => Ok(String::new(rt.alloc())),
+    }
+}
+
+// The same with a question mark for each byte that is no character of ASCII that prints.
+fn printable(alloc: Global, said: &str) -> Result<String, AllocError> {
+    let mut printed = String::new(alloc);
+    for byte in said.as_bytes() {
+        printed.push(if *byte == b'\n' { '\n' } else { shown(*byte) })?;
+    }
+    Ok(printed)
+}
+
+/// Shows on standard error what the line of a refusal means, which was written there. What cannot be worked out is left out.
+pub fn explain<R: Files + AllocGlobal + Eprint>(rt: &R, words: &[String], line: &[u8]) {
+    if let Ok(line) = str::from_utf8(line) {
+        if let Ok(said) = explanation(rt, words, line.trim_end()) {
+            if let Ok(printed) = printable(rt.alloc(), said.as_str()) {
+                let _ = eprint!(rt; "{printed}");
+            }
+        }
+    }
+}
