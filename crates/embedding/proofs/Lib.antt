@@ -1,5 +1,3 @@
 mod LowBits
-mod Tokens
-mod Unspelled
 mod Chances
 pub mod Rows

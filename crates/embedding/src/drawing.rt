@@ -1,16 +1,17 @@
 // Runs on bits of one's own.
 
-ghost use Rattle.std.specs.Prelude.{◌≡◌, IfOk, IfSome, IfNone, IsTrue};
+ghost use Rattle.std.specs.Prelude.{◌≡◌, IfOk, IfSome, IfNone};
 ghost use Rattle.gcl_core.specs.meaning.LimitRange.{InRange};
 ghost use Rattle.gcl_core.specs.meaning.Reading.{gives, more_bits};
 ghost use Rattle.gcl_core.specs.meaning.Runs.{run_on, reads, left_by};
 ghost use Rattle.gcl_core.specs.meaning.Views.{source_of};
 ghost use Rattle.many_runs.specs.InARow.{runs_in_a_row};
-ghost use Rattle.sampler_run.specs.Sampled.{CountsRun};
+ghost use Rattle.sampler_run.specs.Sampled.{RunFails};
+ghost use Rattle.zar_io.specs.Trace.{World, Agrees};
 
 use gcl_core::{Answer, Checked, Limits, Outcome};
 use sampler_run::{RunError, compile, go_on, runs_leave_the_rest, sample};
-use std::alloc::Global;
+use std::alloc::{AllocError, Global};
 use zar_io::Bits;
 
 /// The answer of the program's run on the bits that are left, under these limits: how it ended, and how many bits it read; or
@@ -22,10 +23,11 @@ pub fn draw<B: Bits>(
     bits: &mut B,
 ) -> Result<Answer, RunError>
     requires limits { InRange l.now }
-    ensures answer { IfOk result (λ answer. IsTrue B.told → answer ≡ run_on (source_of p.now) l.now (B.left bits.old)) }
-    ensures left { IfOk result
-        (λ answer. IsTrue B.told → B.left bits.new ≡ left_by (reads (source_of p.now) l.now (B.left bits.old))) }
-    ensures count { CountsRun result (B.faults bits.old) (B.faults bits.new) }
+    ensures answer { IfOk result (λ answer. (file : World) → Agrees file (B.answered bits.new)
+        → answer ≡ run_on (source_of p.now) l.now (B.left bits.old file)) }
+    ensures left { IfOk result (λ answer. (file : World) → Agrees file (B.answered bits.new)
+        → B.left bits.new file ≡ left_by (reads (source_of p.now) l.now (B.left bits.old file))) }
+    ensures fails { RunFails result (B.answered bits.old) (B.answered bits.new) }
 {
     runs_leave_the_rest();
     let sampler = compile(alloc, p)?;
@@ -44,11 +46,11 @@ pub fn draw_row<B: Bits>(
     bits: &mut B,
 ) -> Result<Option<Vec<Outcome>>, RunError>
     requires limits { InRange l.now }
-    ensures row { IfOk result (λ row. IfSome row (λ xs. IsTrue B.told →
-        runs_in_a_row (source_of p.now) l.now count (B.left bits.old) ≡ gives xs.items (B.left bits.new))) }
-    ensures none { IfOk result
-        (λ row. IfNone row (IsTrue B.told → runs_in_a_row (source_of p.now) l.now count (B.left bits.old) ≡ more_bits)) }
-    ensures count { CountsRun result (B.faults bits.old) (B.faults bits.new) }
+    ensures row { IfOk result (λ row. IfSome row (λ xs. (file : World) → Agrees file (B.answered bits.new)
+        → runs_in_a_row (source_of p.now) l.now count (B.left bits.old file) ≡ gives xs.items (B.left bits.new file))) }
+    ensures none { IfOk result (λ row. IfNone row ((file : World) → Agrees file (B.answered bits.new)
+        → runs_in_a_row (source_of p.now) l.now count (B.left bits.old file) ≡ more_bits)) }
+    ensures fails { RunFails result (B.answered bits.old) (B.answered bits.new) }
 {
     runs_leave_the_rest();
     let sampler = compile(alloc, p)?;
@@ -59,7 +61,7 @@ pub fn draw_row<B: Bits>(
         match stop.answer {
             Answer::Ended(outcome, _) => match row.push(outcome) {
                 Ok(()) => (),
-                Err(_) => return Err(RunError::OutOfMemory),
+                Err(full) => return Err(AllocError::from(full).into()),
             },
             Answer::MoreBits(_) => return Ok(None),
         }

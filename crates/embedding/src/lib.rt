@@ -12,5 +12,5 @@ mod word_bits;
 pub use drawing::{draw, draw_row};
 pub use error::ReadError;
 pub use reading::program;
-pub use weighing::chance;
+pub use weighing::{chance, limit_chance};
 pub use word_bits::WordBits;

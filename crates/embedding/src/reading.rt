@@ -6,10 +6,9 @@ ghost use Rattle.gcl_core.specs.text.Texts.{Spells};
 ghost use Rattle.gcl_core.specs.meaning.Views.{source_of};
 
 use crate::error::ReadError;
-use gcl_check::check;
 use gcl_core::Checked;
-use gcl_lex::lex;
-use gcl_parse::parse;
+use gcl_parse::one_reading;
+use gcl_text::{TextRefusal, check_text};
 use std::alloc::Global;
 
 /// The program that a text spells. `NoProgram` comes only where it spells none.
@@ -17,7 +16,10 @@ pub fn program(alloc: Global, text: &[u8]) -> Result<Checked, ReadError>
     ensures spelled { IfOk result (λ p. Spells text.now (source_of p)) }
     ensures none { IsErrOf result ReadError.NoProgram → (p : SourceProgram) → Spells text.now p → ⊥ }
 {
-    let tokens = lex(alloc, text)?;
-    let parsed = parse(alloc, text, tokens.as_slice())?;
-    Ok(check(parsed.program)?)
+    one_reading();
+    match check_text(alloc, text) {
+        Ok(program) => Ok(program),
+        Err(TextRefusal::Coded(_, _)) => Err(ReadError::NoProgram),
+        Err(TextRefusal::OutOfMemory) => Err(ReadError::OutOfMemory),
+    }
 }

@@ -1,6 +1,6 @@
 // Programs that are drawn from and weighed, with answers worked out by hand.
 
-use crate::{ReadError, WordBits, chance, draw, draw_row, program};
+use crate::{ReadError, WordBits, chance, draw, draw_row, limit_chance, program};
 use frac128::Frac;
 use gcl_core::{Answer, Limit, Limits, Outcome};
 use std::test::Fail;
@@ -40,6 +40,21 @@ fn draws_and_weighs(rt: HostRuntime) -> Result<(), Fail> {
     assert!(rt; is_fraction(rejected, 1, 16));
     let other = chance(alloc, &p, &LIMITS, Outcome::Value(3))?;
     assert!(rt; other.is_none());
+    Ok(())
+}
+
+const GAMBLER: &[u8] =
+    b"x := 2; while x > 0 and x < 5 { choice 1/3 { x := x + 1; } or { x := x - 1; } } return x;";
+
+// From k coins there are five with (2^k - 1)/(2^5 - 1).
+#[test]
+fn weighs_without_limits(rt: HostRuntime) -> Result<(), Fail> {
+    let alloc = rt.alloc();
+    let p = program(alloc, GAMBLER)?;
+    let five = limit_chance(alloc, &p, Outcome::Value(5))?;
+    assert!(rt; is_fraction(five, 3, 31));
+    let four = limit_chance(alloc, &p, Outcome::Value(4))?;
+    assert!(rt; four.is_none());
     Ok(())
 }
 

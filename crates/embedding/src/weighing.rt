@@ -1,14 +1,18 @@
 // What the outcomes of runs weigh.
 
-ghost use Rattle.std.specs.Prelude.{◌≡◌, ◌<◌, ℕ, length, Some, slice_get, IfOk, IfErr, IfSome, IfNone, Contains};
+ghost use Rattle.std.specs.Prelude.{◌≡◌, ◌<◌, ℕ, true, length, Some, slice_get, IfOk, IfErr, IfSome, IfNone, Contains};
 ghost use Rattle.frac128.specs.Fraction.{Fraction};
 ghost use Rattle.gcl_core.specs.meaning.Runs.{run_on};
 ghost use Rattle.gcl_core.specs.meaning.LimitRange.{InRange};
 ghost use Rattle.gcl_core.specs.meaning.Views.{source_of};
 ghost use Rattle.mass_fold.specs.Refused.{MassRefused};
 ghost use Rattle.weighing_law.specs.Weighing.{WeighsExactly, limited_mass};
+ghost use Rattle.exact_fold.specs.Refused.{WhyRefused};
+ghost use Rattle.posterior_bounds.specs.PosteriorBounds.{is_settled};
 ghost use Rattle.embedding.specs.Chance.{IsChance};
+ghost use Rattle.embedding.specs.LimitChance.{IsLimitChance};
 
+use exact_fold::{ExactError, exact, exact_masses_are_limits};
 use frac128::Frac;
 use gcl_core::{Checked, Limits, Outcome};
 use mass_fold::{FracRows, MassError, mass};
@@ -42,4 +46,17 @@ pub fn chance(alloc: Global, p: &Checked, l: &Limits, x: Outcome) -> Result<Opti
     p.is_kept();
     let rows = mass(alloc, p, l.turns, Some(l.attempts), Some(l.rounds))?;
     Ok(find(&rows, x))
+}
+
+/// The chance of a value or of a fault where nothing is limited, as a fraction in lowest terms, or `None` where it is 0. It is the
+/// limit of the chances as loops may take more and more turns. `AllFailed` comes only where in the limit every round fails.
+pub fn limit_chance(alloc: Global, p: &Checked, x: Outcome) -> Result<Option<Frac>, ExactError>
+    requires settled { is_settled x ≡ true }
+    ensures limit { IfOk result (IsLimitChance (source_of p.now) x) }
+    ensures refused { IfErr result (WhyRefused (source_of p.now)) }
+{
+    exact_masses_are_limits();
+    p.is_kept();
+    let masses = exact(alloc, p)?;
+    Ok(find(&masses.rows, x))
 }

@@ -1,12 +1,12 @@
 // Bits of one's own: those of a word.
 
-ghost use Rattle.std.specs.Prelude.{◌≡◌, ◌==◌, ◌≤◌, ◌/◌, ◌%◌, ◌^◌, true, false, None, IsTrue};
-ghost use Rattle.std.proofs.Common.{rules};
+ghost use Rattle.std.specs.Prelude.{◌≡◌, ◌==◌, ◌≤◌, ◌/◌, ◌%◌, ◌^◌, [], false, IsTrue};
 ghost use Rattle.zar_io.specs.FileBits.{low_bits};
+ghost use Rattle.zar_io.specs.Trace.{World};
 
 use zar_io::{Bits, Failed, Ready};
 
-/// The lowest bits of a word, the most significant of them first. No fault is ever counted.
+/// The lowest bits of a word, the most significant of them first. Nothing lies behind them, and no call fails.
 #[derive(Drop)]
 pub struct WordBits {
     word: u64,
@@ -21,8 +21,8 @@ impl WordBits {
     /// The lowest `count` bits of the word.
     pub fn new(word: u64, count: u32) -> WordBits
         requires { count ≤ 64 }
-        ensures told { IsTrue ⟦<WordBits as Bits>⟧.told }
-        ensures left { ⟦<WordBits as Bits>⟧.left result ≡ low_bits count word }
+        ensures left { (file : World) → ⟦<WordBits as Bits>⟧.left result file ≡ low_bits count word }
+        ensures answered { ⟦<WordBits as Bits>⟧.answered result ≡ [] }
     {
         WordBits {
             word,
@@ -40,12 +40,11 @@ fn bit_at(word: u64, place: u32) -> bool
     (word >> place) % 2 == 1
 }
 
+#[tactic(auto, using(zar_io::proofs::TraceLemmas::gone_on))]
 impl Bits for WordBits {
-    ghost faults = { λ s. 0 };
+    ghost answered = { λ s. [] };
 
-    ghost told = { true };
-
-    ghost left = { λ s. low_bits s.count s.word };
+    ghost left = { λ s file. low_bits s.count s.word };
 
     ghost ended = { λ s. s.ended };
 
@@ -53,13 +52,7 @@ impl Bits for WordBits {
 
     ghost source = { λ s. 0 };
 
-    ghost file = { λ s name. None };
-
-    ghost may_be_missing = { λ s name. false };
-
     ghost ready = { λ s. s.count };
-
-    ghost bounded = { λ s. Prim.search rules };
 
     fn next(&mut self) -> Result<Option<bool>, Failed> {
         if self.count == 0 {

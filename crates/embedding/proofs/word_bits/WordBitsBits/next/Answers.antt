@@ -4,13 +4,13 @@ use Rattle.embedding.proofs.LowBits.{none_left, first_bit}
 use Rattle.embedding.proofs.word_bits.WordBitsBits.next.Goals as goal
 
 pub returns-then-self-eq0-clause-bit : goal.returns-then-self-eq0-clause-bit
-returns-then-self-eq0-clause-bit c told =
+returns-then-self-eq0-clause-bit c file agrees =
     let none : c.args.self.now.count ≡ 0 = grind arith in
     let e = none_left c.args.self.now.count c.args.self.now.word none in
     (e, e)
 
 pub returns-clause-bit : goal.returns-clause-bit
-returns-clause-bit c told =
+returns-clause-bit c file agrees =
     let count = c.args.self.now.count in
     let word = c.args.self.now.word in
     let some : 0 < count = grind arith in
