@@ -14,7 +14,7 @@ LONGEST = 30
 
 
 class Row(typing.NamedTuple):
-    outcome: str
+    outcome: str  # in words
     mass: fractions.Fraction
     count: int
 
@@ -31,14 +31,22 @@ def said(zar, *words):
     return subprocess.run([zar, *words], capture_output=True, text=True, check=True).stdout
 
 
-def compared(zar, mass, tally):
-    """What the words of a `mass` and of a `tally` print, side by side. An outcome that one of them does not have is 0 there."""
-    masses, counts = printed.rows(said(zar, *mass), "mass"), printed.rows(said(zar, *tally), "count")
+def beside(mass, tally):
+    """What a `mass` or an `exact` and a `tally` printed, side by side. An outcome that one of them does not have is 0 there, and what
+    never ends is counted where runs reach the limit of turns."""
+    masses, counts = printed.rows(mass, "mass"), printed.rows(tally, "count")
+    if printed.Rest.ENDLESS in masses and printed.Limit.TURNS in counts:
+        counts[printed.Rest.ENDLESS] = counts.pop(printed.Limit.TURNS)
     rows = [
-        Row(outcome, fractions.Fraction(masses.get(outcome, 0)), int(counts.get(outcome, 0)))
+        Row(printed.words(outcome), masses.get(outcome, fractions.Fraction(0)), counts.get(outcome, 0))
         for outcome in sorted({*masses, *counts}, key=printed.order)
     ]
     return Comparison(rows, sum(row.count for row in rows))
+
+
+def compared(zar, mass, tally):
+    """What the words of a `mass` or an `exact` and of a `tally` print, side by side."""
+    return beside(said(zar, *mass), said(zar, *tally))
 
 
 def bound(mass, runs):
