@@ -7,7 +7,7 @@ ROOT = pathlib.Path(__file__).resolve().parent.parent
 USE = re.compile(r"^pub use ([\w:]+)::(?:\{([^}]*)\}|(\w+));", re.MULTILINE)
 PUBLIC_MODULE = re.compile(r"^pub mod (\w+);", re.MULTILINE)
 # A function with what stands before its body.
-FUNCTION = re.compile(r"^ *(?P<pub>pub )?(?:const )?fn (?P<name>\w+)\b(?P<head>(?:(?!\bfn \w).)*?)(?:^ *\{|\{\}?$|;$)", re.DOTALL | re.MULTILINE)
+FUNCTION = re.compile(r"^ *(?P<pub>pub )?(?:const |extern \"C\" )?fn (?P<name>\w+)\b(?P<head>(?:(?!\bfn \w).)*?)(?:^ *\{|\{\}?$|;$)", re.DOTALL | re.MULTILINE)
 CLAUSE = re.compile(r"^\s*ensures(?: (\w+))? \{", re.MULTILINE)
 BLOCK = re.compile(r"^(?P<head>(?:pub )?(?:impl|trait)\b[^{]*)\{\n(?P<body>.*?)^\}", re.DOTALL | re.MULTILINE)
 IMPL = re.compile(r"^impl(?:<[^>]*>)? (?:(?P<trait>\w+)(?:<.*>)? for )?(?P<type>\w+)")
