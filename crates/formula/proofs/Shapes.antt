@@ -1,91 +1,29 @@
 -- What the forms of a formula stand for.
-use Rattle.std.proofs.Common.{arith, ◌<◌, ◌≡◌, ℕ, ◌+◌, max, List, [], ◌∷◌, ◌++◌, Option, None, Some, ℤ, w64, to_z, of_z, refl, sym, ap, ◌∙◌, subst}
+use Rattle.std.proofs.Common.{arith, ◌<◌, ◌≡◌, ℕ, ◌+◌, max, List, Option, None, Some, ℤ, w64, to_z, of_z, sym, ap, ◌∙◌, subst, Bool}
+use Rattle.std.specs.Global.{Vec}
 use Rattle.std.proofs.lemmas.Option.{same_Some}
 use Rattle.gcl_core.specs.declared.syntax.BinOp.{BinOp}
-use Rattle.gcl_core.specs.declared.syntax.BinOp.TheVariants.{And, Or}
-use Rattle.gcl_core.specs.meaning.Value.{State, value_of, ◌>>=◌, applied, ExpressionBelow}
+use Rattle.gcl_core.specs.meaning.Value.{State, value_of, ExpressionBelow}
+use Rattle.gcl_core.specs.declared.syntax.BinOp.TheVariants.{Add, Lt, Eq}
 use Rattle.gcl_core.specs.meaning.Syntax.{Expression}
 use Rattle.gcl_core.specs.meaning.Syntax as source
 use Rattle.formula.specs.declared.op.Op.{Op}
-use Rattle.formula.specs.declared.op.Op.TheVariants.{Bin}
 use Rattle.formula.specs.declared.op.Atom.TheVariants.{Num, Var}
 use Rattle.formula.specs.declared.op.Term.{Term}
-use Rattle.formula.specs.declared.op.Term.TheVariants.{One, Two}
+use Rattle.formula.specs.declared.op.Term.TheVariants.{One}
 use Rattle.formula.specs.declared.op.Form.{Form}
-use Rattle.formula.specs.declared.op.Form.TheVariants.{On, Joined, Long}
+use Rattle.formula.specs.declared.op.Form.TheVariants.{Plus, Less, Equal, On, Joined, Long, Chain}
 use Rattle.formula.specs.declared.op.Form.TheVariants as form
-use Rattle.formula.specs.Steps.{settling, steps_between, joining, step_count, steps_at, steps_of, depth}
+use Rattle.formula.specs.Steps.{steps_of, depth}
 use Rattle.formula.specs.ReadBack.{expression_in}
-use Rattle.formula.specs.Forms.{term_steps, term_expression, IsTerm, term_depth, TermReads, term_value, joined_steps, joined_value, on, form_steps, form_depth, TermOf, FormOf}
+use Rattle.formula.specs.ShortTerms.{term_steps, term_expression, IsTerm, term_depth, TermReads, term_value, joined_value, on}
+use Rattle.formula.specs.Forms.{form_steps, form_depth, TermOf, FormOf}
+use Rattle.formula.specs.declared.op.Test.{Test}
+use Rattle.formula.specs.Chains.{chain_value, ChainReads, IsChain}
 use Rattle.formula.proofs.ReadingBack.{stands_for}
+use Rattle.formula.proofs.TermValues.{term_writes, term_deep, term_reads, term_values, joined_writes, joined_values}
 use Rattle.formula.proofs.Slots.{small_back}
-use Rattle.formula.proofs.Written.{Plain, plain_by}
-
--- ---- terms
-
-term_writes : (t : Term) (i : ℕ) → IsTerm t → steps_at (term_expression t) i ≡ term_steps t
-term_writes (One (Num n)) i h = refl
-term_writes (One (Var x)) i h = refl
-term_writes (Two And a b) i h = absurd (cc)
-term_writes (Two Or a b) i h = absurd (cc)
-term_writes (Two _ (Num n) (Num m)) i h = refl
-term_writes (Two _ (Num n) (Var y)) i h = refl
-term_writes (Two _ (Var x) (Num m)) i h = refl
-term_writes (Two _ (Var x) (Var y)) i h = refl
-
-term_deep : (t : Term) → IsTerm t → term_depth t ≡ depth (term_expression t)
-term_deep (One (Num n)) h = refl
-term_deep (One (Var x)) h = refl
-term_deep (Two And a b) h = absurd (cc)
-term_deep (Two Or a b) h = absurd (cc)
-term_deep (Two _ (Num n) (Num m)) h = refl
-term_deep (Two _ (Num n) (Var y)) h = refl
-term_deep (Two _ (Var x) (Num m)) h = refl
-term_deep (Two _ (Var x) (Var y)) h = refl
-
-term_reads : (t : Term) (n : ℕ) → ExpressionBelow (term_expression t) n → TermReads t n
-term_reads (One (Num x)) n r = tt
-term_reads (One (Var x)) n r = r
-term_reads (Two op (Num x) (Num y)) n r = (tt, tt)
-term_reads (Two op (Num x) (Var y)) n r = (tt, r.1)
-term_reads (Two op (Var x) (Num y)) n r = (r.0, tt)
-term_reads (Two op (Var x) (Var y)) n r = r
-
--- both operands are evaluated
-value_of_plain : (op : BinOp) (a b : Expression) (vars : State) → settling op 0 ≡ [] →
-    (value_of a vars >>= λ x. (value_of b vars >>= λ y. applied op x y)) ≡ value_of (source.Bin op a b) vars
-value_of_plain And a b vars h = absurd (cc)
-value_of_plain Or a b vars h = absurd (cc)
-value_of_plain _ a b vars h = refl
-
-term_values : (t : Term) (vars : State) → IsTerm t → term_value t vars ≡ value_of (term_expression t) vars
-term_values (One (Num x)) vars h = refl
-term_values (One (Var x)) vars h = refl
-term_values (Two op (Num x) (Num y)) vars h = value_of_plain op (source.Num x) (source.Num y) vars h
-term_values (Two op (Num x) (Var y)) vars h = value_of_plain op (source.Num x) (source.Var y) vars h
-term_values (Two op (Var x) (Num y)) vars h = value_of_plain op (source.Var x) (source.Num y) vars h
-term_values (Two op (Var x) (Var y)) vars h = value_of_plain op (source.Var x) (source.Var y) vars h
-
--- ---- one operator on two terms
-
-joined_writes : (op : BinOp) (t u : Term) → Plain op → IsTerm t → IsTerm u →
-    joined_steps op t u ≡ steps_of (source.Bin op (term_expression t) (term_expression u))
-joined_writes op t u p i k =
-    let a = term_expression t in
-    let b = term_expression u in
-    let j = 0 + (step_count a + steps_between op) in
-    let end = 0 + (step_count a + steps_between op + step_count b + 1) in
-    ap (λ l. l ++ (term_steps u ++ Bin op ∷ [])) (sym (term_writes t 0 i))
-    ∙ ap (λ l. steps_at a 0 ++ (l ++ Bin op ∷ [])) (sym (term_writes u j k))
-    ∙ ap (λ o. steps_at a 0 ++ (steps_at b j ++ o ∷ [])) (sym p.joining)
-    ∙ ap (λ m. steps_at a 0 ++ (m ++ (steps_at b j ++ joining op ∷ []))) (sym (p.settling end))
-
-joined_values : (op : BinOp) (t u : Term) (vars : State) → settling op 0 ≡ [] → IsTerm t → IsTerm u →
-    joined_value op t u vars ≡ value_of (source.Bin op (term_expression t) (term_expression u)) vars
-joined_values op t u vars h i k =
-    ap (λ v. v >>= λ x. (term_value u vars >>= λ y. applied op x y)) (term_values t vars i)
-    ∙ ap (λ w. value_of (term_expression t) vars >>= λ x. (w >>= λ y. applied op x y)) (term_values u vars k)
-    ∙ value_of_plain op (term_expression t) (term_expression u) vars h
+use Rattle.formula.proofs.Written.{plain_by}
 
 -- ---- forms
 
@@ -93,9 +31,13 @@ joined_values op t u vars h i k =
 abbrev pub term_in : Form → Option Term
 term_in (form.Num n) = Some (One (Num n))
 term_in (form.Var x) = Some (One (Var x))
+term_in (Plus x a) = Some (on Add x a)
+term_in (Less x a) = Some (on Lt x a)
+term_in (Equal x a) = Some (on Eq x a)
 term_in (On op x a) = Some (on op x a)
 term_in (Joined op t u) = None
 term_in (Long steps n) = None
+term_in (Chain steps n tests settled) = None
 
 -- some value is on the stack at some time
 pub deep : (e : Expression) → 0 < depth e
@@ -116,17 +58,25 @@ short_deep t e h = term_deep t h.0 ∙ ap depth (sym h.1)
 form_of_term : (f : Form) (t : Term) (e : Expression) → term_in f ≡ Some t → FormOf f e → TermOf t e
 form_of_term (form.Num n) t e is h = subst (λ u. TermOf u e) (same_Some _ _ is) h.0
 form_of_term (form.Var x) t e is h = subst (λ u. TermOf u e) (same_Some _ _ is) h
+form_of_term (Plus x a) t e is h = subst (λ u. TermOf u e) (same_Some _ _ is) h
+form_of_term (Less x a) t e is h = subst (λ u. TermOf u e) (same_Some _ _ is) h
+form_of_term (Equal x a) t e is h = subst (λ u. TermOf u e) (same_Some _ _ is) h
 form_of_term (On op x a) t e is h = subst (λ u. TermOf u e) (same_Some _ _ is) h
 form_of_term (Joined op t u) v e is h = absurd (cc)
 form_of_term (Long steps n) t e is h = absurd (cc)
+form_of_term (Chain steps n tests settled) t e is h = absurd (cc)
 
 -- a form holds the steps
 pub form_writes : (f : Form) (e : Expression) → FormOf f e → form_steps f ≡ steps_of e
 form_writes (form.Num n) e h = short_writes (One (Num n)) e h.0
 form_writes (form.Var x) e h = short_writes (One (Var x)) e h
+form_writes (Plus x a) e h = short_writes (on Add x a) e h
+form_writes (Less x a) e h = short_writes (on Lt x a) e h
+form_writes (Equal x a) e h = short_writes (on Eq x a) e h
 form_writes (On op x a) e h = short_writes (on op x a) e h
 form_writes (Joined op t u) e h = joined_writes op t u (plain_by op h.0) h.1 h.2 ∙ ap steps_of (sym h.3)
 form_writes (Long steps n) e h = h.0
+form_writes (Chain steps n tests settled) e h = h.0
 
 pub form_reads : (f : Form) (e : Expression) → FormOf f e → expression_in (form_steps f) ≡ e
 form_reads f e h = ap expression_in (form_writes f e h) ∙ stands_for e
@@ -134,6 +84,9 @@ form_reads f e h = ap expression_in (form_writes f e h) ∙ stands_for e
 form_deep : (f : Form) (e : Expression) → FormOf f e → form_depth f ≡ depth e
 form_deep (form.Num n) e h = short_deep (One (Num n)) e h.0
 form_deep (form.Var x) e h = short_deep (One (Var x)) e h
+form_deep (Plus x a) e h = short_deep (on Add x a) e h
+form_deep (Less x a) e h = short_deep (on Lt x a) e h
+form_deep (Equal x a) e h = short_deep (on Eq x a) e h
 form_deep (On op x a) e h = short_deep (on op x a) e h
 form_deep (Joined op t u) e h =
     let p = plain_by op h.0 in
@@ -142,6 +95,7 @@ form_deep (Joined op t u) e h =
     ∙ ap (λ k. max (depth (term_expression t)) (depth (term_expression u) + k)) (sym p.kept)
     ∙ ap depth (sym h.3)
 form_deep (Long steps n) e h = h.1
+form_deep (Chain steps n tests settled) e h = h.1
 
 -- ---- as a formula holds them
 
@@ -181,3 +135,14 @@ module _ (f : Form) (e : Expression) (h : FormOf f e) (s : List Op) (view : form
   joined_value_in op t u vars is =
       let g = joined_form op t u is in
       joined_values op t u vars g.0 g.1 g.2 ∙ ap (λ e. value_of e vars) (sym (joined_is op t u is))
+
+  chain_form : (steps : Vec Op) (n : ℕ) (tests : Vec Test) (settled : Bool) → f ≡ Chain steps n tests settled → IsChain settled tests.items (expression_in s)
+  chain_form steps n tests settled is = subst (λ e. IsChain settled tests.items e) (sym stands) (subst (λ f. FormOf f e) is h).2
+
+  pub chain_reads : (steps : Vec Op) (n : ℕ) (tests : Vec Test) (settled : Bool) (count : ℕ) → f ≡ Chain steps n tests settled →
+      ExpressionBelow (expression_in s) count → ChainReads tests.items count
+  chain_reads steps n tests settled count is r = (chain_form steps n tests settled is).reads count r
+
+  pub chain_value_in : (steps : Vec Op) (n : ℕ) (tests : Vec Test) (settled : Bool) (vars : State) → f ≡ Chain steps n tests settled →
+      chain_value settled tests.items vars ≡ value_of (expression_in s) vars
+  chain_value_in steps n tests settled vars is = (chain_form steps n tests settled is).value vars

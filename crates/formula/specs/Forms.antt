@@ -1,87 +1,42 @@
--- Short forms as steps.
-use Rattle.std.specs.Prelude.{◌≡◌, ℕ, ◌<◌, ℤ, pos, List, [], ◌∷◌, ◌++◌, Ok, IsTrue, slice_index_or, ◌+◌, max}
-use Rattle.gcl_core.specs.declared.syntax.BinOp.{BinOp}
+-- Forms, as steps, and the expressions that they are of.
+use Rattle.std.specs.Prelude.{◌≡◌, ℕ, List, [], IsTrue, ◌+◌, max}
+use Rattle.gcl_core.specs.declared.syntax.BinOp.TheVariants.{Add, Lt, Eq}
 use Rattle.gcl_core.specs.meaning.Syntax.{Expression}
 use Rattle.gcl_core.specs.meaning.Syntax as source
-use Rattle.gcl_core.specs.meaning.Value.{State, Value, ◌>>=◌, applied, fits_64}
+use Rattle.gcl_core.specs.meaning.Value.{fits_64}
 use Rattle.formula.specs.declared.op.Op.{Op}
-use Rattle.formula.specs.declared.op.Op.TheVariants.{Push, Load, Bin}
-use Rattle.formula.specs.declared.op.Atom.{Atom}
 use Rattle.formula.specs.declared.op.Atom.TheVariants.{Num, Var}
 use Rattle.formula.specs.declared.op.Term.{Term}
-use Rattle.formula.specs.declared.op.Term.TheVariants.{One, Two}
+use Rattle.formula.specs.declared.op.Term.TheVariants.{One}
 use Rattle.formula.specs.declared.op.Form.{Form}
-use Rattle.formula.specs.declared.op.Form.TheVariants.{On, Joined, Long}
+use Rattle.formula.specs.declared.op.Form.TheVariants.{Plus, Less, Equal, On, Joined, Long, Chain}
 use Rattle.formula.specs.declared.op.Form.TheVariants as form
+use Rattle.formula.specs.ShortTerms.{term_steps, term_expression, IsTerm, term_depth, joined_steps, on}
 use Rattle.formula.specs.Steps.{steps_of, depth, settling}
-
-abbrev pub atom_step : Atom → Op
-atom_step (Num n) = Push n
-atom_step (Var x) = Load x
-
-abbrev pub atom_expression : Atom → Expression
-atom_expression (Num n) = source.Num n
-atom_expression (Var x) = source.Var x
-
-abbrev pub AtomReads : Atom → ℕ → Type 0
-AtomReads (Num n) count = Unit {0}
-AtomReads (Var x) count = x < count
-
-abbrev pub atom_value : Atom → State → ℤ
-atom_value (Num n) vars = n
-atom_value (Var x) vars = slice_index_or vars x (pos 0)
-
-abbrev pub term_steps : Term → List Op
-term_steps (One a) = atom_step a ∷ []
-term_steps (Two op a b) = atom_step a ∷ (atom_step b ∷ (Bin op ∷ []))
-
-abbrev pub term_expression : Term → Expression
-term_expression (One a) = atom_expression a
-term_expression (Two op a b) = source.Bin op (atom_expression a) (atom_expression b)
-
--- its operator is neither `and` nor `or`
-abbrev pub IsTerm : Term → Type 0
-IsTerm (One a) = Unit {0}
-IsTerm (Two op a b) = settling op 0 ≡ []
-
--- the greatest number of values on the stack while its steps run
-abbrev pub term_depth : Term → ℕ
-term_depth (One a) = 1
-term_depth (Two op a b) = 2
-
-abbrev pub TermReads : Term → ℕ → Type 0
-TermReads (One a) count = AtomReads a count
-TermReads (Two op a b) count = AtomReads a count × AtomReads b count
-
-abbrev pub term_value : Term → State → Value
-term_value (One a) vars = Ok (atom_value a vars)
-term_value (Two op a b) vars = applied op (atom_value a vars) (atom_value b vars)
-
--- one operator on two terms
-abbrev pub joined_steps : BinOp → Term → Term → List Op
-joined_steps op t u = term_steps t ++ (term_steps u ++ Bin op ∷ [])
-
-abbrev pub joined_value : BinOp → Term → Term → State → Value
-joined_value op t u vars = term_value t vars >>= λ x. (term_value u vars >>= λ y. applied op x y)
-
--- one operator on a variable and an atom
-abbrev pub on : BinOp → ℕ → Atom → Term
-on op x a = Two op (Var x) a
+use Rattle.formula.specs.Chains.{IsChain}
 
 abbrev pub form_steps : Form → List Op
 form_steps (form.Num n) = term_steps (One (Num n))
 form_steps (form.Var x) = term_steps (One (Var x))
+form_steps (Plus x a) = term_steps (on Add x a)
+form_steps (Less x a) = term_steps (on Lt x a)
+form_steps (Equal x a) = term_steps (on Eq x a)
 form_steps (On op x a) = term_steps (on op x a)
 form_steps (Joined op t u) = joined_steps op t u
 form_steps (Long steps n) = steps.items
+form_steps (Chain steps n tests settled) = steps.items
 
 -- the greatest number of values on the stack while they run
 abbrev pub form_depth : Form → ℕ
 form_depth (form.Num n) = 1
 form_depth (form.Var x) = 1
+form_depth (Plus x a) = 2
+form_depth (Less x a) = 2
+form_depth (Equal x a) = 2
 form_depth (On op x a) = 2
 form_depth (Joined op t u) = max (term_depth t) (term_depth u + 1)
 form_depth (Long steps n) = n
+form_depth (Chain steps n tests settled) = n
 
 -- a term and the expression that it is
 abbrev pub TermOf : Term → Expression → Type 0
@@ -91,7 +46,11 @@ TermOf t e = IsTerm t × (e ≡ term_expression t)
 abbrev pub FormOf : Form → Expression → Type 0
 FormOf (form.Num n) e = TermOf (One (Num n)) e × IsTrue (fits_64 n)
 FormOf (form.Var x) e = TermOf (One (Var x)) e
+FormOf (Plus x a) e = TermOf (on Add x a) e
+FormOf (Less x a) e = TermOf (on Lt x a) e
+FormOf (Equal x a) e = TermOf (on Eq x a) e
 FormOf (On op x a) e = TermOf (on op x a) e
 FormOf (Joined op t u) e =
     (settling op 0 ≡ []) × IsTerm t × IsTerm u × (e ≡ source.Bin op (term_expression t) (term_expression u))
 FormOf (Long steps n) e = (steps.items ≡ steps_of e) × (n ≡ depth e)
+FormOf (Chain steps n tests settled) e = (steps.items ≡ steps_of e) × (n ≡ depth e) × IsChain settled tests.items e

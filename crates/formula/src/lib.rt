@@ -1,6 +1,7 @@
 //! Expressions as steps over a stack.
 #![tactic(auto)]
 
+mod chaining;
 mod formula;
 mod op;
 mod reading;

@@ -4,7 +4,7 @@ ghost use Rattle.std.specs.Prelude.{◌≡◌, ℤ, ◌+◌, ◌^◌, ◌<◌, �
 ghost use Rattle.gcl_core.specs.meaning.Value.{fits_64, value_of};
 ghost use Rattle.formula.specs.ReadBack.{expression_in};
 ghost use Rattle.formula.specs.inner.OnStack.{move, values, CameTo, Goes, Leaves, StandFor};
-ghost use Rattle.formula.specs.Forms.{atom_value, AtomReads};
+ghost use Rattle.formula.specs.ShortTerms.{atom_value, AtomReads};
 
 use crate::op::{Atom, Op};
 use gcl_core::Fault;

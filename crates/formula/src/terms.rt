@@ -3,7 +3,7 @@
 ghost use Rattle.std.specs.Prelude.{◌≡◌, ◌<◌, length, Some, slice_get, IfOk, IsTrue};
 ghost use Rattle.gcl_core.specs.meaning.Value.{fits_64};
 ghost use Rattle.gcl_core.specs.meaning.Views.{expression_of};
-ghost use Rattle.formula.specs.Forms.{term_steps, term_expression, term_depth, term_value, TermReads, joined_steps, joined_value, on};
+ghost use Rattle.formula.specs.ShortTerms.{term_steps, term_expression, term_depth, term_value, TermReads, joined_steps, joined_value, on};
 ghost use Rattle.formula.specs.inner.OnStack.{Leaves};
 
 use crate::op::{Atom, Op, Term};

@@ -1,4 +1,4 @@
-// The steps of `x < 2 and not y = 1`, and short forms.
+// The steps of `x < 2 and not y = 1`, which is a chain, and other forms.
 
 ghost use Rattle.std.specs.Prelude.{◌≡◌, pos, IfOk};
 ghost use Rattle.gcl_core.specs.declared.syntax.BinOp.TheVariants.{And, Lt, Eq, Sub};
@@ -77,6 +77,42 @@ fn the_values_of_a_condition(rt: HostRuntime) -> Result<(), Fail> {
     assert_eq!(rt; formula.value(&[0, 1], &mut stack), Ok(0));
     assert_eq!(rt; formula.value(&[0, 0], &mut stack), Ok(1));
     assert_eq!(rt; formula.value(&[2, 0], &mut stack), Ok(0));
+    Ok(())
+}
+
+// A chain of `or` has the fault of a test that it comes to, and of no other.
+#[test]
+fn the_values_of_an_or(rt: HostRuntime) -> Result<(), Fail> {
+    let alloc = rt.alloc();
+    let left = Box::new(alloc, compare(alloc, BinOp::Eq, X, 1)?)?;
+    let quotient = Expr::Bin(
+        BinOp::Div,
+        Box::new(alloc, Expr::Num(6))?,
+        Box::new(alloc, Expr::Var(Y))?,
+    );
+    let right = Expr::Bin(
+        BinOp::Gt,
+        Box::new(alloc, quotient)?,
+        Box::new(alloc, Expr::Num(2))?,
+    );
+    let formula = Formula::of(alloc, &Expr::Bin(BinOp::Or, left, Box::new(alloc, right)?))?;
+    let mut stack = Stack::new(alloc, formula.depth())?;
+    assert_eq!(rt; formula.value(&[1, 0], &mut stack), Ok(1));
+    assert_eq!(rt; formula.value(&[0, 2], &mut stack), Ok(1));
+    assert_eq!(rt; formula.value(&[0, 3], &mut stack), Ok(0));
+    assert_eq!(rt; formula.value(&[0, 0], &mut stack), Err(Fault::ZeroDivisor));
+    Ok(())
+}
+
+// The opposite of a chain is a list of steps.
+#[test]
+fn a_long_form(rt: HostRuntime) -> Result<(), Fail> {
+    let alloc = rt.alloc();
+    let formula = Formula::of(alloc, &Expr::Not(Box::new(alloc, condition(alloc)?)?))?;
+    let mut stack = Stack::new(alloc, formula.depth())?;
+    assert_eq!(rt; formula.value(&[0, 1], &mut stack), Ok(1));
+    assert_eq!(rt; formula.value(&[0, 0], &mut stack), Ok(0));
+    assert_eq!(rt; formula.value(&[2, 0], &mut stack), Ok(1));
     Ok(())
 }
 

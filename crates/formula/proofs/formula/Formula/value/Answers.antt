@@ -2,10 +2,13 @@ use Rattle.std.proofs.Common.{◌≤◌, ◌∙◌, Ok, length, ap, sym, subst, 
 use Rattle.gcl_core.specs.meaning.Value.{ExpressionBelow}
 use Rattle.formula.specs.Steps.{depth}
 use Rattle.formula.specs.ReadBack.{expression_in}
+use Rattle.gcl_core.specs.declared.syntax.BinOp.TheVariants.{Add, Lt, Eq}
 use Rattle.formula.specs.declared.op.Atom.TheVariants.{Num, Var}
 use Rattle.formula.specs.declared.op.Term.TheVariants.{One}
-use Rattle.formula.specs.Forms.{on, term_value, TermReads, FormOf}
-use Rattle.formula.proofs.Shapes.{deep, term_in, num_back, short_reads, short_value, joined_reads, joined_value_in, stands}
+use Rattle.formula.specs.ShortTerms.{on, term_value, TermReads}
+use Rattle.formula.specs.Chains.{chain_value, ChainReads}
+use Rattle.formula.specs.Forms.{FormOf}
+use Rattle.formula.proofs.Shapes.{deep, term_in, num_back, short_reads, short_value, joined_reads, joined_value_in, chain_reads, chain_value_in, stands}
 use Rattle.formula.proofs.Slots.{small_back}
 use Rattle.formula.proofs.formula.Formula.value.Goals as goal
 
@@ -63,3 +66,43 @@ returns-in-On-clause-value c =
 pub returns-in-Joined-clause-value : goal.returns-in-Joined-clause-value
 returns-in-Joined-clause-value c =
     c.value_of_joined.ensures.value ∙ joined_value_in c.self.inside.form c.self.invariant.tree c.self.invariant.form c.args.self.now c.self.view_is c.in-Joined.op c.in-Joined.t c.in-Joined.u c.args.vars.now c.in-Joined.is
+
+pub value_of_chain-requires-clause-reads : goal.value_of_chain-requires-clause-reads
+value_of_chain-requires-clause-reads c =
+    subst (λ l. ChainReads l (length c.args.vars.now)) (sym c.deref-in-Chain.ensures.value) (chain_reads c.self.inside.form c.self.invariant.tree c.self.invariant.form c.args.self.now c.self.view_is c.in-Chain.field-0 c.in-Chain.field-1 c.in-Chain.tests c.in-Chain.settled (length c.args.vars.now) c.in-Chain.is c.requires.reads)
+
+pub value_of_chain-requires-clause-room : goal.value_of_chain-requires-clause-room
+value_of_chain-requires-clause-room c =
+    let some = deep (expression_in c.args.self.now) in
+    let room = subst (λ n. depth (expression_in c.args.self.now) ≤ n) (sym c.stack.view_is ∙ ap length (sym c.deref_mut-in-Chain.ensures.value)) c.requires.room in
+    omega (arith, some, room)
+
+pub returns-in-Chain-clause-value : goal.returns-in-Chain-clause-value
+returns-in-Chain-clause-value c =
+    c.value_of_chain.ensures.value
+    ∙ ap (λ l. chain_value c.in-Chain.settled l c.args.vars.now) c.deref-in-Chain.ensures.value
+    ∙ chain_value_in c.self.inside.form c.self.invariant.tree c.self.invariant.form c.args.self.now c.self.view_is c.in-Chain.field-0 c.in-Chain.field-1 c.in-Chain.tests c.in-Chain.settled c.args.vars.now c.in-Chain.is
+
+pub value_of_term-requires-in-Plus : goal.value_of_term-requires-in-Plus
+value_of_term-requires-in-Plus c =
+    subst (λ t. TermReads t (length c.args.vars.now)) (sym c.on-in-Plus.ensures) (short_reads c.self.inside.form c.self.invariant.tree c.self.invariant.form c.args.self.now c.self.view_is (on Add c.in-Plus.x c.in-Plus.a) (length c.args.vars.now) (ap term_in c.in-Plus.is) c.requires.reads)
+
+pub returns-in-Plus-clause-value : goal.returns-in-Plus-clause-value
+returns-in-Plus-clause-value c =
+    c.value_of_term-in-Plus.ensures.value ∙ ap (λ t. term_value t c.args.vars.now) c.on-in-Plus.ensures ∙ short_value c.self.inside.form c.self.invariant.tree c.self.invariant.form c.args.self.now c.self.view_is (on Add c.in-Plus.x c.in-Plus.a) c.args.vars.now (ap term_in c.in-Plus.is)
+
+pub value_of_term-requires-in-Less : goal.value_of_term-requires-in-Less
+value_of_term-requires-in-Less c =
+    subst (λ t. TermReads t (length c.args.vars.now)) (sym c.on-in-Less.ensures) (short_reads c.self.inside.form c.self.invariant.tree c.self.invariant.form c.args.self.now c.self.view_is (on Lt c.in-Less.x c.in-Less.a) (length c.args.vars.now) (ap term_in c.in-Less.is) c.requires.reads)
+
+pub returns-in-Less-clause-value : goal.returns-in-Less-clause-value
+returns-in-Less-clause-value c =
+    c.value_of_term-in-Less.ensures.value ∙ ap (λ t. term_value t c.args.vars.now) c.on-in-Less.ensures ∙ short_value c.self.inside.form c.self.invariant.tree c.self.invariant.form c.args.self.now c.self.view_is (on Lt c.in-Less.x c.in-Less.a) c.args.vars.now (ap term_in c.in-Less.is)
+
+pub value_of_term-requires-in-Equal : goal.value_of_term-requires-in-Equal
+value_of_term-requires-in-Equal c =
+    subst (λ t. TermReads t (length c.args.vars.now)) (sym c.on-in-Equal.ensures) (short_reads c.self.inside.form c.self.invariant.tree c.self.invariant.form c.args.self.now c.self.view_is (on Eq c.in-Equal.x c.in-Equal.a) (length c.args.vars.now) (ap term_in c.in-Equal.is) c.requires.reads)
+
+pub returns-in-Equal-clause-value : goal.returns-in-Equal-clause-value
+returns-in-Equal-clause-value c =
+    c.value_of_term-in-Equal.ensures.value ∙ ap (λ t. term_value t c.args.vars.now) c.on-in-Equal.ensures ∙ short_value c.self.inside.form c.self.invariant.tree c.self.invariant.form c.args.self.now c.self.view_is (on Eq c.in-Equal.x c.in-Equal.a) c.args.vars.now (ap term_in c.in-Equal.is)
