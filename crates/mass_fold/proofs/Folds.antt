@@ -81,10 +81,6 @@ module _ (n : ℕ) (r : Option ℕ) where
   head_few N L done I w = (w.0, w.1)
   head_few N L (st ▸ b) I w = (w.0, w.1)
 
-  pub last_few : (N L : ℕ) (b : Statements) (I : Table) → TablesWithin N L (block_flow n r b I).tables → Wholes N (block_flow n r b I).next × (states (block_flow n r b I).next ≤ L)
-  last_few N L done I w = (w.0, w.1)
-  last_few N L (st ▸ b) I w = last_few N L b (statement_flow n r st I).next (tables_second N L (statement_flow n r st I).tables _ w.2)
-
   pub first_of : (N L : ℕ) (st : Statement) (b : Statements) (I : Table) → Within N L (block_flow n r (st ▸ b) I) → Around N L I (statement_flow n r st I) × Within N L (block_flow n r b (statement_flow n r st I).next)
   first_of N L st b I w =
       let f = statement_flow n r st I in

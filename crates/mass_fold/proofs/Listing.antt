@@ -19,7 +19,7 @@ module _ (order : Outcome → Outcome → Ordering) (tells : Tells order) where
   is_behind : (x y : Outcome) → order x y ≡ Less → is_before x y ≡ true
   is_behind x y e = subst (λ o. MatchOrdering o (is_before x y ≡ true) (x ≡ y) (is_before y x ≡ true)) e (tells x y)
 
-  outcomes_ascend : (xs : List Outcome) → IsStrictlySortedBy order xs → AllPairs (λ x y. is_before x y ≡ true) xs
+  pub outcomes_ascend : (xs : List Outcome) → IsStrictlySortedBy order xs → AllPairs (λ x y. is_before x y ≡ true) xs
   outcomes_ascend [] h = λ i j d l k. absurd (omega arith)
   outcomes_ascend (x ∷ xs) h =
       AllPairs-cons (λ x y. is_before x y ≡ true) x xs (λ k d l. is_behind x (slice_index_or xs k d) (All-after_first order x xs h k d l)) (outcomes_ascend xs (sorted_tail order x xs h))

@@ -19,7 +19,7 @@ abbrev pub Tells : (Outcome → Outcome → Ordering) → Type 0
 Tells order = (x y : Outcome) → MatchOrdering (order x y) (is_before x y ≡ true) (x ≡ y) (is_before y x ≡ true)
 
 module _ (order : Outcome → Outcome → Ordering) (tells : Tells order) where
-  equal_is : (x y : Outcome) → order x y ≡ Equal → x ≡ y
+  pub equal_is : (x y : Outcome) → order x y ≡ Equal → x ≡ y
   equal_is x y e = subst (λ o. MatchOrdering o (is_before x y ≡ true) (x ≡ y) (is_before y x ≡ true)) e (tells x y)
 
   pub add_gives : IsTotalOrder order → (x : Outcome) (f v : Fraction) (es : Rows) → IsStrictlySortedBy order (keys_of es) → 0 < f.0 → SumAt order es x f v → AddGives es (insert_entry order es x v) x f

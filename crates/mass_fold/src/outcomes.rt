@@ -16,7 +16,7 @@ use gcl_core::{Expr, Fault, Limit, Outcome, eval, outcomes_are_ordered};
 use std::collections::BTreeMap;
 
 /// What a state of the body ends the run in: the value of the program's result, or its fault.
-fn outcome(e: &Expr, s: &State) -> Outcome
+pub fn outcome(e: &Expr, s: &State) -> Outcome
     requires { ExpressionBelow (expression_of e.now) (length s.now) }
     ensures { result ≡ outcome_of (value_of (expression_of e.now) s.now) }
 {

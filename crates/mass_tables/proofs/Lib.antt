@@ -9,6 +9,7 @@ pub mod Kept
 pub mod Positive
 pub mod Paths
 pub mod AtWidth
+pub mod Masses
 pub mod NoneReached
 pub mod ArmEnds
 pub mod EqualFractions

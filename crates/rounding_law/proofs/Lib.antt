@@ -1,0 +1,12 @@
+pub mod States
+pub mod Merging
+pub mod Held
+pub mod Parts
+pub mod Drawn
+pub mod FewStates
+pub mod Blocks
+pub mod Rounds
+pub mod Powers
+pub mod Downs
+pub mod Losses
+pub mod Spent
