@@ -25,7 +25,7 @@ use Rattle.mass_tables.proofs.Kept.{kept_all}
 use Rattle.mass_tables.proofs.Linear.{sum_amount}
 use Rattle.mass_tables.proofs.Positive.{p_all}
 use Rattle.mass_tables.proofs.Wholes.{whole_from}
-use Rattle.mass_fold.proofs.Folds.{last_few}
+use Rattle.mass_tables.proofs.Masses.{last_few}
 use Rattle.posterior_bounds.proofs.LowestTerms.{lowest_same}
 use Rattle.mass_fold.specs.Rows.{Rows, AreMasses}
 use Rattle.mass_fold.proofs.OutcomeRows.{lowest_is}
@@ -212,24 +212,24 @@ module _ (p : SourceProgram) (ok : IsChecked p) (free : BlockFree p.body) where
 
     -- ---- the sum of the rows
     abbrev N : ℕ
-    N = scale p ok 1 1 (le_refl 1)
+    N = scale p ok 1 1 (le_refl 1) None
 
     abbrev low_sum : (End → ℕ) → ℕ
-    low_sum = (growth p ok 1 1 (le_refl 1)).low
+    low_sum = (growth p ok 1 1 (le_refl 1) None).low
 
     failed_share : fails.1 * low_sum (chi is_failed) ≡ fails.0 * N
-    failed_share = counts_sum N is_failed _ _ ((growth p ok 1 1 (le_refl 1)).low_counts (chi is_failed))
+    failed_share = counts_sum N is_failed _ _ ((growth p ok 1 1 (le_refl 1) None).low_counts (chi is_failed))
 
     failed_less : low_sum (chi is_failed) < N
-    failed_less = above_one N (low_sum (chi is_failed)) fails (scale_pos p ok 1 1 (le_refl 1)) failed_share below
+    failed_less = above_one N (low_sum (chi is_failed)) fails (scale_pos p ok 1 1 (le_refl 1) None) failed_share below
 
     abbrev sums : Sums p 1 N
-    sums = record { sum = low_sum; counts = (growth p ok 1 1 (le_refl 1)).low_counts; some = scale_pos p ok 1 1 (le_refl 1); passed = N - low_sum (chi is_failed); rest = let z = failed_less in omega arith; passes = below }
+    sums = record { sum = low_sum; counts = (growth p ok 1 1 (le_refl 1) None).low_counts; some = scale_pos p ok 1 1 (le_refl 1) None; passed = N - low_sum (chi is_failed); rest = let z = failed_less in omega arith; passes = below }
 
     rows_are_one : (rows : Rows) → AreMasses (mass_of p 1 None None) rows → (all_of rows).1 ≡ (all_of rows).0
     rows_are_one rows are =
         let w = costs.whole p ok 1 0 in
-        rows_are_all p 1 N sums (whole_at w.scale N _ (low_sum (λ e. 1)) w.positive (scale_pos p ok 1 1 (le_refl 1)) w.holds ((growth p ok 1 1 (le_refl 1)).low_counts (λ e. 1))) rows are (let z = failed_less in omega arith)
+        rows_are_all p 1 N sums (whole_at w.scale N _ (low_sum (λ e. 1)) w.positive (scale_pos p ok 1 1 (le_refl 1) None) w.holds ((growth p ok 1 1 (le_refl 1) None).low_counts (λ e. 1))) rows are (let z = failed_less in omega arith)
 
     pub free_exact : (rows : Rows) (endless : Fraction) → AreMasses (mass_of p 1 None None) rows → InLowest endless → endless.0 ≡ 0 → IsExact p rows endless
     free_exact rows endless are low none = record {

@@ -21,7 +21,7 @@ pub record FailsAlways (p : SourceProgram) : Type 0 where
 abbrev pub HasNoLoop : SourceProgram → Type 0
 HasNoLoop p = any_loops p.body ≡ false
 
--- Without a loop, at one turn as at any: the common denominator of the round is 2^128 or more, or some point is reached with too
+-- Without a loop, at a limit of one turn: the common denominator of the round is 2^128 or more, or some point is reached with too
 -- many states. With a loop nothing is said of these two: a fraction may be too wide that the finder of visits met on its way.
 abbrev pub WhyRefused : SourceProgram → ExactError → Type 0
 WhyRefused p AllFailed = FailsAlways p

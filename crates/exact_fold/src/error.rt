@@ -43,8 +43,8 @@ impl<T: Drop> From<AllocFailed<T>> for SettleError {
 /// Why there are no exact masses.
 #[derive(Clone, Copy, PartialEq, Eq, Debug)]
 pub enum ExactError {
-    /// A fraction is too wide for two numbers of 128 bits: of a loop's visits, of one turn, or of a mass. Visits that are wider are
-    /// not found, or what is found of them does not pass its check.
+    /// A fraction is too wide for two numbers of 128 bits: of a loop's visits, of one turn, or of a mass. Visits that are wider
+    /// are not found, or what is found of them does not pass its check.
     TooWide,
     /// More than 65,536 states at one point, or on the guard of one loop.
     TooManyStates,

@@ -24,8 +24,8 @@ pub fn exact_masses_lie_within_bounds()
 {}
 
 /// It does nothing: its clause says of a checked program, and of whatever answers on bits as its run does, that the strings on
-/// which the run ends in a value or a fault never weigh more than its row, and none where there is no row. For each k they weigh no
-/// less but for 1 / k, from some limits on, at every length that suffices.
+/// which the run ends in a value or a fault never weigh more than its row, and none where there is no row. For each k they weigh
+/// no less but for 1 / k, from some limits on, at every length that suffices.
 pub fn strings_tend_to_exact_masses()
     ensures { (p : SourceProgram) (rows : Rows) (endless : Fraction) → IsChecked p → IsExact p rows endless → (k : ℕ) →
         1 ≤ k → StringsTend p rows k }

@@ -150,10 +150,10 @@ fn at_once(alloc: Global, p: &Checked) -> Result<ExactMasses, ExactError>
 
 /// The mass of each outcome of a program in the limit of turns, and that with which it runs for ever.
 ///
-/// A program without a loop is refused as `mass` refuses it: as too wide only where its common denominator is above 2^128 − 1, and
-/// for its states only where some point is reached with more than 65,536. Of a program with a loop no clause says that it answers:
-/// a call that always refused such a program as too wide would keep this contract. What is tried is a table of programs, in the
-/// tests. `AllFailed` comes only where in the limit every round fails.
+/// A program without a loop is refused as `mass` refuses it at a limit of one turn: as too wide only where its common denominator
+/// is 2^128 or more, and for its states only where some point is reached with more than [`mass_fold::MOST_STATES`]. Of a program
+/// with a loop no clause says that it answers: a call that always refused such a program as too wide would keep this contract.
+/// What is tried is a table of programs, in the tests. `AllFailed` comes only where in the limit every round fails.
 pub fn exact(alloc: Global, p: &Checked) -> Result<ExactMasses, ExactError>
     ensures masses { IfOk result (λ e. IsExact (source_of p.now) e.rows e.endless) }
     ensures refused { IfErr result (WhyRefused (source_of p.now)) }

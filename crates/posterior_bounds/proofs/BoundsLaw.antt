@@ -1,5 +1,5 @@
 -- The law of the bounds, from what a round gives at both limits of turns.
-use Rattle.std.proofs.Common.{◌≡◌, ◌⊎◌, inl, inr, ℕ, zero, suc, ◌+◌, ◌*◌, ◌≤◌, ◌<◌, ◌-◌, Bool, true, false, refl, sym, ap, arith, true≢false}
+use Rattle.std.proofs.Common.{◌≡◌, ◌⊎◌, inl, inr, ℕ, zero, suc, ◌+◌, ◌*◌, ◌≤◌, ◌<◌, ◌-◌, Bool, true, false, None, refl, sym, ap, arith, true≢false}
 use Rattle.std.proofs.lemmas.Bool.{cases_lt}
 use Rattle.std.proofs.Math.Nat.{mul-le-mul_left, mul-le-mul_right, le_of_mul-le-mul_left, le_of_mul-le-mul_right}
 use Rattle.gcl_core.specs.declared.answers.Limit.TheVariants.{Turns}
@@ -50,13 +50,13 @@ had_nothing m0 m1 (suc g0) g1 u0 u1 f1 d some z le = absurd (omega arith)
 -- ---- the two limits of turns
 module _ (p : SourceProgram) (ok : IsChecked p) (n n' : ℕ) (more : n ≤ n') (passing : IsBelowOne (fails p n')) where
   abbrev N : ℕ
-  N = scale p ok n n' more
+  N = scale p ok n n' more None
 
   abbrev low : (End → ℕ) → ℕ
-  low = (growth p ok n n' more).low
+  low = (growth p ok n n' more None).low
 
   abbrev high : (End → ℕ) → ℕ
-  high = (growth p ok n n' more).high
+  high = (growth p ok n n' more None).high
 
   abbrev passed : ℕ
   passed = N - low (chi is_failed)
@@ -65,17 +65,17 @@ module _ (p : SourceProgram) (ok : IsChecked p) (n n' : ℕ) (more : n ≤ n') (
   passed' = N - high (chi is_failed)
 
   rest : passed + low (chi is_failed) ≡ N
-  rest = omega (arith, (gains p ok n n' more (λ x. false) refl).all)
+  rest = omega (arith, (gains p ok n n' more None (λ x. false) refl).all)
 
   rest' : passed' + high (chi is_failed) ≡ N
-  rest' = omega (arith, (gains p ok n n' more (λ x. false) refl).all')
+  rest' = omega (arith, (gains p ok n n' more None (λ x. false) refl).all')
 
   shrinks : passed' ≤ passed
-  shrinks = omega (arith, rest, rest', (gains p ok n n' more (λ x. false) refl).failed_more)
+  shrinks = omega (arith, rest, rest', (gains p ok n n' more None (λ x. false) refl).failed_more)
 
   some_passed' : 0 < passed'
   some_passed' =
-      fails_in_part N (high (chi is_failed)) passed' (fails p n').0 (fails p n').1 (counts_sum N is_failed _ _ ((growth p ok n n' more).high_counts (chi is_failed))) passing (scale_pos p ok n n' more)
+      fails_in_part N (high (chi is_failed)) passed' (fails p n').0 (fails p n').1 (counts_sum N is_failed _ _ ((growth p ok n n' more None).high_counts (chi is_failed))) passing (scale_pos p ok n n' more None)
       (omega (arith, rest'))
 
   some_passed : 0 < passed
@@ -83,14 +83,14 @@ module _ (p : SourceProgram) (ok : IsChecked p) (n n' : ℕ) (more : n ≤ n') (
 
   passes : IsBelowOne (fails p n)
   passes =
-      share_below_one N (low (chi is_failed)) (fails p n).0 (fails p n).1 (counts_sum N is_failed _ _ ((growth p ok n n' more).low_counts (chi is_failed))) (omega (arith, rest, some_passed))
-      (sum_pos N is_failed (λ e. 1) _ _ (scale_pos p ok n n' more) ((growth p ok n n' more).low_counts (λ e. 1)))
+      share_below_one N (low (chi is_failed)) (fails p n).0 (fails p n).1 (counts_sum N is_failed _ _ ((growth p ok n n' more None).low_counts (chi is_failed))) (omega (arith, rest, some_passed))
+      (sum_pos N is_failed (λ e. 1) _ _ (scale_pos p ok n n' more None) ((growth p ok n n' more None).low_counts (λ e. 1)))
 
   abbrev before : Sums p n N
-  before = record { sum = low; counts = (growth p ok n n' more).low_counts; some = scale_pos p ok n n' more; passed = passed; rest = rest; passes = passes }
+  before = record { sum = low; counts = (growth p ok n n' more None).low_counts; some = scale_pos p ok n n' more None; passed = passed; rest = rest; passes = passes }
 
   abbrev after : Sums p n' N
-  after = record { sum = high; counts = (growth p ok n n' more).high_counts; some = scale_pos p ok n n' more; passed = passed'; rest = rest'; passes = passing }
+  after = record { sum = high; counts = (growth p ok n n' more None).high_counts; some = scale_pos p ok n n' more None; passed = passed'; rest = rest'; passes = passing }
 
   -- ---- what is meant, without the limit of turns
   module _ (meant : Outcome → Bool) (spared : meant (outcome.Limit Turns) ≡ false) where
@@ -110,7 +110,7 @@ module _ (p : SourceProgram) (ok : IsChecked p) (n n' : ℕ) (more : n ≤ n') (
     more_failed = high (chi is_failed) - low (chi is_failed)
 
     gained : Gains N v (low (chi is_failed)) u v' (high (chi is_failed)) u'
-    gained = gains p ok n n' more meant spared
+    gained = gains p ok n n' more None meant spared
 
     wholes : passed ≡ passed' + more_failed
     wholes = omega (arith, rest, rest', gained.failed_more)
@@ -163,7 +163,7 @@ bounds_hold p n n' ok more passing =
       outcomes = λ x e. bounded p ok n n' more passing (same_outcome x) (spares x e);
       events = bounded p ok n n' more passing;
       others_fall = others_fall p ok n n' more passing (λ x. false) refl;
-      others_before = lower_pos p n (scale p ok n n' more) (before p ok n n' more passing) turns;
-      others_after = lower_pos p n' (scale p ok n n' more) (after p ok n n' more passing) turns;
+      others_before = lower_pos p n (scale p ok n n' more None) (before p ok n n' more passing) turns;
+      others_after = lower_pos p n' (scale p ok n n' more None) (after p ok n n' more passing) turns;
       passes = passes p ok n n' more passing;
     }

@@ -1,5 +1,5 @@
 -- Where the bound of all others goes to 0, runs under great limits weigh alike.
-use Rattle.std.proofs.Common.{◌≡◌, ℕ, zero, suc, ◌+◌, ◌*◌, ◌-◌, ◌≤◌, ◌<◌, false, refl, arith}
+use Rattle.std.proofs.Common.{◌≡◌, ℕ, zero, suc, ◌+◌, ◌*◌, ◌-◌, ◌≤◌, ◌<◌, false, None, refl, arith}
 use Rattle.std.proofs.lemmas.Nat.{pow_pos}
 use Rattle.std.proofs.Math.Nat.{mul-le-mul_left, mul-le-mul_right, le_of_mul-le-mul_left}
 use Rattle.gcl_core.specs.declared.answers.Limit.TheVariants.{Turns}
@@ -30,13 +30,13 @@ half_left u M q0 q1 some e h = le_of_mul-le-mul_left {k = q1} (let x = mul-le-mu
 
 still_passes : (p : SourceProgram) (n n' : ℕ) → IsChecked p → n ≤ n' → IsBelowOne (fails p n) → AtMost (upper_of_others p n) (1, 2) → IsBelowOne (fails p n')
 still_passes p n n' ok more passes small =
-    let N = scale p ok n n' more in
-    let g = growth p ok n n' more in
-    let some = scale_pos p ok n n' more in
+    let N = scale p ok n n' more None in
+    let g = growth p ok n n' more None in
+    let some = scale_pos p ok n n' more None in
     let turns = same_outcome (outcome.Limit Turns) in
     let F = g.low (chi is_failed) in
     let u = g.low (chi (ends_in p.result turns)) in
-    let gained = gains p ok n n' more (λ x. false) refl in
+    let gained = gains p ok n n' more None (λ x. false) refl in
     let rest : N - F + F ≡ N = omega (arith, gained.all) in
     let before : Sums p n N = record { sum = g.low; counts = g.low_counts; some = some; passed = N - F; rest = rest; passes = passes } in
     let q = upper_of_others p n in

@@ -1,5 +1,6 @@
 -- What a round gives at n turns and at more, in whole numbers at one scale.
-use Rattle.std.proofs.Common.{◌≡◌, ℕ, ◌+◌, ◌≤◌, ◌<◌, ◌-◌, Bool, true, false, cond, None, length, refl, arith, le_refl}
+use Rattle.std.proofs.Common.{◌≡◌, ℕ, ◌+◌, ◌^◌, ◌≤◌, ◌<◌, ◌-◌, Bool, true, false, cond, Option, Some, None, length, refl, subst, arith, le_refl}
+use Rattle.std.proofs.lemmas.Nat.{pow_pos}
 use Rattle.gcl_core.specs.declared.answers.Limit.TheVariants.{Turns, Attempts, Rounds}
 use Rattle.gcl_core.specs.declared.answers.Outcome.{Outcome}
 use Rattle.gcl_core.specs.declared.answers.Outcome.TheVariants as outcome
@@ -9,11 +10,16 @@ use Rattle.gcl_core.specs.weighing.Mass.{ends_in, is_failed}
 use Rattle.gcl_core.specs.meaning.Outcomes.{same_outcome, zeros, outcome_of}
 use Rattle.gcl_core.specs.meaning.Syntax.{Expression, SourceProgram}
 use Rattle.gcl_core.specs.meaning.Value.{value_of}
+use Rattle.gcl_core.specs.weighing.LongestReading.{longest}
 use Rattle.gcl_core.specs.weighing.WeightedEnds.{weighted_ends}
 use Rattle.gcl_core.proofs.Accepted.{checked_weights}
 use Rattle.gcl_core.proofs.FittingValues.{zeros_fit}
 use Rattle.gcl_core.proofs.TreeWeights.{chi}
+use Rattle.weighing_law.proofs.BlockMatching.{block_matches}
 use Rattle.weighing_law.proofs.Costs.{whole}
+use Rattle.weighing_law.proofs.EveryLength.{worth-all}
+use Rattle.weighing_law.proofs.WeightedLists.{Counts}
+use Rattle.weighing_law.proofs.WholeWeights.{Whole}
 use Rattle.weighing_law.proofs.PlayWeights.{AtSomeScale}
 use Rattle.posterior_bounds.proofs.EntrySums.{counts_join, whole_at}
 use Rattle.posterior_bounds.proofs.MoreTurns.{RanOut, Grows, grows_block}
@@ -54,7 +60,7 @@ module _ (result : Expression) (meant : Outcome → Bool) where
     apart (fault f) = outcome_apart (outcome.Fault f)
     apart (limit l) = outcome_apart (outcome.Limit l)
 
-    spared_meant : (e : End) → RanOut e → meant_end e ≡ 0
+    pub spared_meant : (e : End) → RanOut e → meant_end e ≡ 0
     spared_meant (on s) b = absurd b
     spared_meant failed b = absurd b
     spared_meant (fault f) b = absurd b
@@ -70,7 +76,7 @@ module _ (result : Expression) (meant : Outcome → Bool) where
   spared_others (limit Attempts) b = absurd b
   spared_others (limit Rounds) b = absurd b
 
-spared_failed : (e : End) → RanOut e → chi is_failed e ≡ 0
+pub spared_failed : (e : End) → RanOut e → chi is_failed e ≡ 0
 spared_failed (on s) b = refl
 spared_failed failed b = absurd b
 spared_failed (fault f) b = refl
@@ -85,9 +91,21 @@ pub record Gains (N meant failed turns meant' failed' turns' : ℕ) : Type 0 whe
   pub all' : meant' + failed' + turns' ≤ N
 
 -- ---- a round
-module _ (p : SourceProgram) (ok : IsChecked p) (n n' : ℕ) (more : n ≤ n') where
-  pub grows : AtSomeScale (λ N. Grows N (weighted_ends n None p.body (zeros (length p.names))) (weighted_ends n' None p.body (zeros (length p.names))))
-  grows = grows_block n n' more p.body (checked_weights p ok) ok.numbers.body (zeros (length p.names)) (zeros_fit (length p.names))
+-- all ends together weigh 1
+whole_round : (p : SourceProgram) → IsChecked p → (n : ℕ) (r : Option ℕ) → AtSomeScale (λ N. Whole N (weighted_ends n r p.body (zeros (length p.names))))
+whole_round p ok n None = whole p ok n 0
+whole_round p ok n (Some r) =
+    let m = block_matches n r p.body (checked_weights p ok) ok.numbers.body (zeros (length p.names)) (zeros_fit (length p.names)) in
+    let d = longest n r p.body in
+    record {
+      scale = 2 ^ d;
+      positive = pow_pos d;
+      holds = subst (Counts (2 ^ d) (λ a. 1) (weighted_ends n (Some r) p.body (zeros (length p.names)))) (worth-all m.tree d m.within) (m.counts (λ a. 1));
+    }
+
+module _ (p : SourceProgram) (ok : IsChecked p) (n n' : ℕ) (more : n ≤ n') (r : Option ℕ) where
+  pub grows : AtSomeScale (λ N. Grows N (weighted_ends n r p.body (zeros (length p.names))) (weighted_ends n' r p.body (zeros (length p.names))))
+  grows = grows_block n n' more r p.body (checked_weights p ok) ok.numbers.body (zeros (length p.names)) (zeros_fit (length p.names))
 
   abbrev pub scale : ℕ
   scale = grows.scale
@@ -95,19 +113,19 @@ module _ (p : SourceProgram) (ok : IsChecked p) (n n' : ℕ) (more : n ≤ n') w
   pub scale_pos : 0 < scale
   scale_pos = grows.positive
 
-  abbrev pub growth : Grows scale (weighted_ends n None p.body (zeros (length p.names))) (weighted_ends n' None p.body (zeros (length p.names)))
+  abbrev pub growth : Grows scale (weighted_ends n r p.body (zeros (length p.names))) (weighted_ends n' r p.body (zeros (length p.names)))
   growth = grows.holds
 
   low_all : growth.low (λ e. 1) ≡ scale
-  low_all = let w = whole p ok n 0 in whole_at w.scale scale _ (growth.low (λ e. 1)) w.positive scale_pos w.holds (growth.low_counts (λ e. 1))
+  low_all = let w = whole_round p ok n r in whole_at w.scale scale _ (growth.low (λ e. 1)) w.positive scale_pos w.holds (growth.low_counts (λ e. 1))
 
-  high_all : growth.high (λ e. 1) ≡ scale
-  high_all = let w = whole p ok n' 0 in whole_at w.scale scale _ (growth.high (λ e. 1)) w.positive scale_pos w.holds (growth.high_counts (λ e. 1))
+  pub high_all : growth.high (λ e. 1) ≡ scale
+  high_all = let w = whole_round p ok n' r in whole_at w.scale scale _ (growth.high (λ e. 1)) w.positive scale_pos w.holds (growth.high_counts (λ e. 1))
 
   low_join : (G H J : End → ℕ) → ((e : End) → G e + H e ≡ J e) → growth.low G + growth.low H ≡ growth.low J
   low_join G H J e = counts_join scale G H J _ _ _ _ scale_pos e (growth.low_counts G) (growth.low_counts H) (growth.low_counts J)
 
-  high_join : (G H J : End → ℕ) → ((e : End) → G e + H e ≡ J e) → growth.high G + growth.high H ≡ growth.high J
+  pub high_join : (G H J : End → ℕ) → ((e : End) → G e + H e ≡ J e) → growth.high G + growth.high H ≡ growth.high J
   high_join G H J e = counts_join scale G H J _ _ _ _ scale_pos e (growth.high_counts G) (growth.high_counts H) (growth.high_counts J)
 
   grown : (G : End → ℕ) → ((e : End) → RanOut e → G e ≡ 0) → growth.low G ≤ growth.high G

@@ -38,19 +38,19 @@ impl BoundRows {
         &self.rows[i]
     }
 
-    // Rows as they stand in a vector.
-    pub(crate) fn of(rows: Vec<(Outcome, Frac, Frac)>) -> BoundRows
+    /// Rows as they stand in a vector.
+    pub fn of(rows: Vec<(Outcome, Frac, Frac)>) -> BoundRows
         ensures { result ≡ rows.items }
     {
         BoundRows { rows }
     }
 }
 
-/// Bounds of a program's masses that hold for every greater limit of turns.
+/// Bounds of a program's masses.
 #[derive(Drop)]
 pub struct Bounds {
-    /// The values and faults that have a mass, each with its two bounds.
+    /// Outcomes, each with its two bounds.
     pub rows: BoundRows,
-    /// What every other value and fault has at most.
+    /// What every other has at most.
     pub other: Frac,
 }

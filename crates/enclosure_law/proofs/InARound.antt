@@ -1,0 +1,29 @@
+-- The units of a round are below its masses.
+use Rattle.std.proofs.Common.{ℕ, ◌≤◌, Bool, true, Option, arith, le_refl}
+use Rattle.std.proofs.Math.Nat.{mul-le-mul_left, mul-le-mul_right, le_of_mul-le-mul_right}
+use Rattle.fixed_point.specs.declared.TheConstants.{ALL}
+use Rattle.gcl_core.specs.declared.answers.Outcome.{Outcome}
+use Rattle.gcl_core.specs.meaning.Keeping.{IsChecked}
+use Rattle.gcl_core.specs.meaning.Syntax.{SourceProgram}
+use Rattle.gcl_core.specs.weighing.Mass.{ends_in, is_failed, round_mass, failed_mass}
+use Rattle.gcl_core.proofs.Accepted.{checked_weights}
+use Rattle.rounding_law.specs.Down.{down}
+use Rattle.rounding_law.specs.Rounds.{StandsBelow}
+use Rattle.rounding_law.proofs.Downs.{rounds_down}
+use Rattle.rounding_law.proofs.Rounds.{ends_below}
+use Rattle.enclosure_law.specs.Enclosures.{fails_in, units_of}
+use Rattle.enclosure_law.proofs.OneRound.{parted}
+
+pub units_below : (p : SourceProgram) → IsChecked p → (n : ℕ) (r : Option ℕ) (meant : Outcome → Bool) → StandsBelow (units_of p n r meant) (round_mass p n r meant)
+units_below p ok n r meant = ends_below down rounds_down p n r (checked_weights p ok) (ends_in p.result meant)
+
+pub fails_below : (p : SourceProgram) → IsChecked p → (n : ℕ) (r : Option ℕ) → StandsBelow (fails_in p n r) (failed_mass p n r)
+fails_below p ok n r = ends_below down rounds_down p n r (checked_weights p ok) is_failed
+
+-- and no more than all
+pub fails_most : (p : SourceProgram) → IsChecked p → (n : ℕ) (r : Option ℕ) → fails_in p n r ≤ ALL
+fails_most p ok n r =
+    let a = parted p ok n n (le_refl n) r (λ x. true) in
+    let f = failed_mass p n r in
+    let less : f.0 ≤ f.1 = le_of_mul-le-mul_right {k = a.scale} (let x = a.failing_share in let y = mul-le-mul_left f.1 (let z = a.all in let w : a.failing ≤ a.scale = omega arith in w) in omega arith) a.positive in
+    le_of_mul-le-mul_right {k = f.1} (let x = fails_below p ok n r in let y = mul-le-mul_right ALL less in omega arith) a.failing_fraction

@@ -1,0 +1,11 @@
+pub mod SomeRoundsBelow
+pub mod AddingUp
+pub mod OneRound
+pub mod Least
+pub mod Units
+pub mod KeptInRounds
+pub mod Given
+pub mod RowsHold
+pub mod Widths
+pub mod InARound
+pub mod RoundsApart

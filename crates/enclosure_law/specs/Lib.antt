@@ -1,0 +1,4 @@
+pub mod SomeRounds
+pub mod Between
+pub mod Enclosures
+pub mod Holding

@@ -1,0 +1,51 @@
+//! Bounds between which a program's masses lie, from one round that was rounded down.
+#![tactic(auto)]
+
+ghost use Rattle.std.specs.Prelude.{◌≡◌, ◌*◌, ◌≤◌, ◌<◌, ℕ, Bool, true, false, Option, None};
+ghost use Rattle.fixed_point.specs.declared.TheConstants.{ALL};
+ghost use Rattle.gcl_core.specs.declared.answers.Outcome.{Outcome};
+ghost use Rattle.gcl_core.specs.meaning.Keeping.{IsChecked};
+ghost use Rattle.gcl_core.specs.meaning.Syntax.{SourceProgram};
+ghost use Rattle.gcl_core.specs.weighing.Fractions.{Fraction, times, power, power_sum, IsBelowOne};
+ghost use Rattle.gcl_core.specs.weighing.Mass.{failed_mass};
+ghost use Rattle.posterior_bounds.specs.Rows.{Rows};
+ghost use Rattle.rounding_law.specs.Down.{down};
+ghost use Rattle.rounding_law.specs.Rounding.{LosesFew};
+ghost use Rattle.rounding_law.specs.Roundings.{round_roundings};
+ghost use Rattle.rounding_law.specs.Rounds.{StandsBelow};
+ghost use Rattle.enclosure_law.specs.SomeRounds.{InRounds, in_rounds};
+ghost use Rattle.enclosure_law.specs.Enclosures.{units_of, lost_units, upper_of_others, AreEnclosures};
+ghost use Rattle.enclosure_law.specs.Holding.{IsFor, MayEnd, IsBetween, Enclose, most_apart, AreClose};
+
+/// It does nothing: its clauses say that what some rounds give in units, by the digits of their number, stays below what they give:
+/// what fails in each of them, and what some outcomes have.
+pub fn some_rounds_stay_below()
+    ensures fails { (p : Fraction) → 1 ≤ p.1 → (one : InRounds) → StandsBelow one.0 p → (R : ℕ) → StandsBelow (in_rounds one R).0 (power p R) }
+    ensures gives { (m p : Fraction) → 1 ≤ m.1 → 1 ≤ p.1 → (one : InRounds) → StandsBelow one.0 p → StandsBelow one.1 m →
+        (R : ℕ) → StandsBelow (in_rounds one R).1 (times m (power_sum p R)) }
+{}
+
+/// It does nothing: its clauses say that the masses of a program lie between the bounds that one round gives, rounded down, for every
+/// checked program, all limits, and for all turns every greater limit of turns at which a round fails with probability below 1, where
+/// there is no limit of rounds. Whatever outcomes are meant lie between, and so do those of rows; outcomes without a row have
+/// together at most the bound of the others. Where the round has a unit that does not fail, it fails with probability below 1.
+pub fn masses_lie_between()
+    ensures events { (p : SourceProgram) (n n' : ℕ) (r R : Option ℕ) (all_turns : Bool) → IsChecked p → IsFor all_turns n n' → MayEnd p n' r R →
+        (meant : Outcome → Bool) → IsBetween p n n' r R all_turns meant }
+    ensures rows { (p : SourceProgram) (n n' : ℕ) (r R : Option ℕ) (all_turns : Bool) → IsChecked p → IsFor all_turns n n' → MayEnd p n' r R →
+        (rows : Rows) (other : Fraction) → AreEnclosures p n r R all_turns rows → other ≡ upper_of_others p n r R all_turns →
+        Enclose p n' r R rows other }
+    ensures passes { (p : SourceProgram) (n : ℕ) (r : Option ℕ) → IsChecked p → 0 < units_of p n r (λ x. true) →
+        IsBelowOne (failed_mass p n r) }
+{}
+
+/// It does nothing: its clauses say how far apart the bounds are: no further than the bound of the others, but for a unit, and with a
+/// limit of rounds one for each round. What no outcome has is, without a limit of rounds, no more than what the roundings of the round
+/// lose; for all turns what ran out of turns comes to it.
+pub fn bounds_are_as_wide_as_what_is_lost()
+    ensures rows { (p : SourceProgram) (n : ℕ) (r R : Option ℕ) (all_turns : Bool) → IsChecked p → MayEnd p n r R →
+        (rows : Rows) (other : Fraction) → AreEnclosures p n r R all_turns rows → other ≡ upper_of_others p n r R all_turns →
+        AreClose (most_apart R) rows other }
+    ensures lost { (p : SourceProgram) (n k : ℕ) (r : Option ℕ) → IsChecked p → LosesFew k ALL r down →
+        lost_units p n r None false ≤ k * round_roundings down p n r }
+{}
