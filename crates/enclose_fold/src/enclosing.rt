@@ -1,0 +1,110 @@
+// Bounds of the masses of a program.
+
+ghost use Rattle.std.specs.Prelude.{◌≡◌, ◌≤◌, ℕ, IfOk, IfErr, IfSome, IfNone};
+ghost use Rattle.gcl_core.specs.declared.rules.TheConstants.{MOST_LIMIT};
+ghost use Rattle.gcl_core.specs.meaning.Views.{source_of};
+ghost use Rattle.gcl_core.specs.weighing.Fractions.{IsBelowOne};
+ghost use Rattle.gcl_core.specs.weighing.Mass.{failed_mass};
+ghost use Rattle.mass_fold.specs.Refused.{IsLimit};
+ghost use Rattle.mass_tables.specs.Tables.{peak_of};
+ghost use Rattle.enclosure_law.specs.Enclosures.{AreEnclosures, upper_of_others};
+ghost use Rattle.enclosure_law.specs.Holding.{IsFor, MayEnd, Enclose, AreClose, most_apart};
+ghost use Rattle.enclose_fold.specs.Refused.{EncloseRefused};
+ghost use Rattle.enclose_fold.specs.inner.Outcomes.{RoundGives};
+ghost use Rattle.enclose_fold.specs.inner.Refusals.{Refuses};
+
+use crate::body::fold_body;
+use crate::bounding::Round;
+use crate::outcomes::{all_units, outcome_units, passing};
+use crate::rows::bound_rows;
+use enclosure_law::{bounds_are_as_wide_as_what_is_lost, masses_lie_between};
+use gcl_core::{Checked, Outcome, outcomes_are_ordered};
+use mass_fold::{MassError, is_ordered};
+use posterior_bounds::Bounds;
+use rounding_law::{products_are_rounded_down, units_are_lost_by_rounding};
+use std::alloc::Global;
+use std::collections::BTreeMap;
+
+// What one round gives: the units of each outcome that counts, of a failed observation, and of all that does not fail.
+#[derive(Drop)]
+struct Given {
+    units: BTreeMap<Outcome, u128>,
+    failed: u128,
+    passing: u128,
+}
+
+// One round of a program.
+fn one_round(
+    alloc: Global,
+    p: &Checked,
+    turns: u64,
+    attempts: Option<u64>,
+    all_turns: bool,
+) -> Result<Given, MassError>
+    ensures ok { IfOk result (λ g. RoundGives (source_of p.now) turns attempts all_turns g.units.entries g.failed g.passing) }
+    ensures cause { IfErr result (λ e. Refuses e (peak_of (source_of p.now) turns attempts)) }
+{
+    p.is_kept();
+    products_are_rounded_down();
+    units_are_lost_by_rounding();
+    outcomes_are_ordered();
+    let program = p.program();
+    let (table, ended) = fold_body(alloc, p, turns, attempts)?;
+    let passing = passing(&table, &ended);
+    let units = outcome_units(alloc, &program.result, all_turns, &table, &ended)?;
+    is_ordered(&units);
+    Ok(Given {
+        units,
+        failed: ended.failed,
+        passing,
+    })
+}
+
+/// Two bounds of the mass of each outcome, and one for all outcomes without a row together, from one round whose products are
+/// rounded down to units of 2^-120. Each bound is a multiple of 2^-120.
+///
+/// `turns` is the limit of turns for each entry of a loop, at most 10^9. `attempts` is that of attempts for each draw, and `rounds`
+/// that of rounds, each from 1 to 10^9; where there is none, a draw or a run takes as many as it needs. With `all_turns` the bounds
+/// hold for every greater limit of turns too: what ran out of turns has no row, and counts as lost.
+///
+/// What is lost in a round is at most a unit for each product, and at most six with a limit of attempts. Without a limit of rounds
+/// it is divided by what does not fail, so the bounds of a program that nearly always fails are wide.
+///
+/// `TooManyStates` comes only where some point of the program is reached with more than 65,536 states. `AllFailed` comes only where
+/// rounds have no limit and no unit of a round passes. `OutOfMemory` comes where memory runs out, and `TooWide` never.
+pub fn enclose(
+    alloc: Global,
+    p: &Checked,
+    turns: u64,
+    attempts: Option<u64>,
+    rounds: Option<u64>,
+    all_turns: bool,
+) -> Result<Bounds, MassError>
+    requires turns { turns ≤ MOST_LIMIT }
+    requires attempts { IfSome attempts IsLimit }
+    requires rounds { IfSome rounds IsLimit }
+    ensures rows { IfOk result (λ b. AreEnclosures (source_of p.now) turns attempts rounds all_turns b.rows) }
+    ensures other { IfOk result (λ b. b.other ≡ upper_of_others (source_of p.now) turns attempts rounds all_turns) }
+    ensures passes { IfOk result (λ b. IfNone rounds (IsBelowOne (failed_mass (source_of p.now) turns attempts))) }
+    ensures enclose { IfOk result
+        (λ b. (n : ℕ) → IsFor all_turns turns n → MayEnd (source_of p.now) n attempts rounds → Enclose (source_of p.now) n attempts rounds b.rows b.other) }
+    ensures close { IfOk result (λ b. AreClose (most_apart rounds) b.rows b.other) }
+    ensures refused { IfErr result (λ e. EncloseRefused e (source_of p.now) turns attempts rounds) }
+{
+    p.is_kept();
+    masses_lie_between();
+    bounds_are_as_wide_as_what_is_lost();
+    let given = one_round(alloc, p, turns, attempts, all_turns)?;
+    if rounds.is_none() && given.passing == 0 {
+        return Err(MassError::AllFailed);
+    }
+    let round = Round {
+        rounds,
+        failed: given.failed,
+        all: all_units(&given.units),
+    };
+    Ok(Bounds {
+        rows: bound_rows(alloc, round, given.units)?,
+        other: round.upper_of_rest(),
+    })
+}
