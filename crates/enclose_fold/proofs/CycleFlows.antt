@@ -103,9 +103,6 @@ module _ (n : ℕ) (r : Option ℕ) where
     pub few : (L : ℕ) → Few L (block_units down n r b J).tables → Few L (block_units down n r rest es).tables
     pub within : total es + total (units_of F) ≤ total J + total (units_of E)
 
-  pub goes_start : (b : Statements) (J : Units State) (E : Ended) → Goes b J E b J E
-  goes_start b J E = record { next = refl; ended = λ G. refl; few = λ L h. h; within = omega arith }
-
   module _ (b : Statements) (J : Units State) (E : Ended) (st : Statement) (rest : Statements) (es : Units State) (F : Ended) (m : IsMerged es) (h : Goes b J E (st ▸ rest) es F) where
     few_from : (L : ℕ) → Few L (block_units down n r b J).tables → Few L (from_table st rest es).tables
     few_from L k = subst (λ f. Few L f.tables) (opened st rest es m) (h.few L k)

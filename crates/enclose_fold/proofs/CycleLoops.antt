@@ -23,12 +23,9 @@ use Rattle.enclose_fold.specs.inner.Ended.{units_of, EndsWith}
 use Rattle.enclose_fold.specs.inner.Folding.{Gives, FlowRefused, StepRefused}
 use Rattle.enclose_fold.specs.inner.Refusals.{RefusedAt}
 use Rattle.enclose_fold.proofs.CycleFlows.{Few, few_left, few_right, nothing, block_merged, block_spends, next_once}
+use Rattle.enclose_fold.proofs.CycleSteps.{held_ended}
 use Rattle.enclose_fold.proofs.Drawing.{both_hold}
 use Rattle.enclose_fold.proofs.Putting.{is_merged, no_memory, refused_more, wider}
-
-held_ends : (G : End → ℕ) (x : End) (J : Units State) → held G (end_units x J) ≡ total J * G x
-held_ends G x [] = omega arith
-held_ends G x (e ∷ J) = let i = held_ends G x J in omega arith
 
 module _ (n : ℕ) (r : Option ℕ) (v : State → Value) (b : Statements) where
   abbrev pub body : Units State → UnitFlow
@@ -166,7 +163,7 @@ module _ (n : ℕ) (r : Option ℕ) (v : State → Value) (b : Statements) where
             let d = g G in
             let l = s G in
             let y = held_append G (fault_units v now) (end_units (limit Turns) A) in
-            let x = held_ends G (limit Turns) A in
+            let x = held_ended G (limit Turns) A in
             let z = ap (λ t. t * G (limit Turns)) (e ∙ first_holds (λ s. 1)) in
             omega arith;
       }

@@ -46,13 +46,6 @@ guard_room v es first second E F p q h =
     let d = guard_total v es in
     omega arith
 
--- the second block of two, and what is merged of both
-pub second_room : (first second left S f f1 : ℕ) → first + second + f ≤ S → left + f1 ≤ first + f → second + f1 ≤ S
-second_room first second left S f f1 h k = omega arith
-
-pub merge_room : (first second left right S f f1 f2 : ℕ) → first + second + f ≤ S → left + f1 ≤ first + f → right + f2 ≤ second + f1 → left + right ≤ S
-merge_room first second left right S f f1 f2 h k l = omega arith
-
 module _ (n : ℕ) (r : Option ℕ) where
   -- ---- along the view of a statement, and along the statements that are left
   pub gives_as : (st st' : Statement) (es fs : Units State) (E F : Ended) → st ≡ st' → Gives (statement_units down n r st' es) E fs F → Gives (statement_units down n r st es) E fs F

@@ -118,9 +118,6 @@ module _ (es : Units State) (s : State) (w : ℕ) (some : 0 < w) where
   pub put_old : (v : ℕ) → IsMerged es → lookup (is_at (order s)) es ≡ Some v → length (put es s w) ≡ length es
   put_old v m h = ap length (put_some es s w some) ∙ insert_old s (units_at es s + w) v es m.sorted h
 
-pub at_none : (es : Units State) (s : State) → lookup (is_at (order s)) es ≡ None → units_at es s ≡ 0
-at_none es s h = ap (λ o. unwrap_or o 0) h
-
 pub at_some : (es : Units State) (s : State) (v : ℕ) → lookup (is_at (order s)) es ≡ Some v → units_at es s ≡ v
 at_some es s v h = ap (λ o. unwrap_or o 0) h
 
