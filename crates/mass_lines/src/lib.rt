@@ -6,4 +6,4 @@ mod rows;
 mod telling;
 
 pub use narrow::is_narrow;
-pub use telling::{bits_text, bounds_text, exact_text, masses_text};
+pub use telling::{bits_text, bounds_text, enclosed_text, exact_text, masses_text};

@@ -2,6 +2,7 @@
 
 ghost use Rattle.std.specs.Prelude.{◌≤◌, None, Some, IfOk, IfErr, IfSome};
 ghost use Rattle.cost_fold.specs.Refused.{CostRefused};
+ghost use Rattle.enclose_fold.specs.Refused.{EncloseRefused};
 ghost use Rattle.exact_fold.specs.Refused.{WhyRefused};
 ghost use Rattle.gcl_core.specs.declared.rules.TheConstants.{MOST_LIMIT};
 ghost use Rattle.gcl_core.specs.meaning.LimitRange.{InRange};
@@ -9,11 +10,13 @@ ghost use Rattle.gcl_core.specs.meaning.Views.{source_of};
 ghost use Rattle.mass_fold.specs.Refused.{IsLimit, MassRefused};
 ghost use Rattle.mass_lines.specs.BitLines.{IsBitLine};
 ghost use Rattle.mass_lines.specs.BoundLines.{AreBoundLines};
+ghost use Rattle.mass_lines.specs.EnclosedLines.{AreEnclosedLines};
 ghost use Rattle.mass_lines.specs.ExactLines.{AreExactLines};
 ghost use Rattle.mass_lines.specs.MassLines.{AreMassLines};
 
 use crate::rows::{bit_line, bound_lines, exact_lines, mass_rows_text};
 use cost_fold::{CostError, cost};
+use enclose_fold::enclose;
 use exact_fold::{ExactError, exact};
 use gcl_core::{Checked, Limits};
 use gcl_print::Text;
@@ -46,6 +49,26 @@ pub fn bounds_text(alloc: Global, program: &Checked, turns: u64) -> Result<Text,
     ensures refused { IfErr result (λ e. MassRefused e (source_of program.now) turns None None) }
 {
     let found = bounds(alloc, program, turns)?;
+    Ok(bound_lines(alloc, &found)?)
+}
+
+/// The lines of the fractions between which a program's masses lie, outcomes ascending, and of what all others have at most; with
+/// `all_turns`, at every greater limit of turns.
+pub fn enclosed_text(
+    alloc: Global,
+    program: &Checked,
+    turns: u64,
+    attempts: Option<u64>,
+    rounds: Option<u64>,
+    all_turns: bool,
+) -> Result<Text, MassError>
+    requires turns { turns ≤ MOST_LIMIT }
+    requires attempts { IfSome attempts IsLimit }
+    requires rounds { IfSome rounds IsLimit }
+    ensures lines { IfOk result (AreEnclosedLines (source_of program.now) turns attempts rounds all_turns) }
+    ensures refused { IfErr result (λ e. EncloseRefused e (source_of program.now) turns attempts rounds) }
+{
+    let found = enclose(alloc, program, turns, attempts, rounds, all_turns)?;
     Ok(bound_lines(alloc, &found)?)
 }
 
