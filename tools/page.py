@@ -1,4 +1,4 @@
-"""A page of HTML for a program, of what `zar` says of it: one file without a script, for light and dark screens and for phones."""
+"""A page of HTML for a program, of what `zar` says of it: without a script, for light and dark screens and for phones."""
 import fractions
 import hashlib
 import html
@@ -21,8 +21,7 @@ PAGE = """<!DOCTYPE html>
 <meta charset="utf-8">
 <meta name="viewport" content="width=device-width, initial-scale=1">
 <title>{title}</title>
-<style>
-{style}</style>
+{style}
 </head>
 <body>
 <h1>{title}</h1>
@@ -228,15 +227,16 @@ def part(title, make, zar, asked):
         return figure(title, pre(str(why)), [])
 
 
-def whole(title, body):
-    """A page with a title, of parts."""
-    return PAGE.format(title=html.escape(title), style=STYLE.read_text(encoding="utf-8"), body=body)
+def whole(title, body, is_alone=True):
+    """A page with a title, of parts. It is one file where it is alone; else its style is STYLE, beside it."""
+    style = f"<style>\n{STYLE.read_text(encoding='utf-8')}</style>" if is_alone else f'<link rel="stylesheet" href="{STYLE.name}">'
+    return PAGE.format(title=html.escape(title), style=style, body=body)
 
 
-def page(zar, asked):
-    """The page of a program. One whose text is refused is Silent."""
+def page(zar, asked, is_alone=True):
+    """The page of a program, as `whole` makes it. One whose text is refused is Silent."""
     zar.said("check")
     version = subprocess.run([zar.zar, "--version"], capture_output=True, text=True, check=True).stdout.strip()
     parts = program(zar, asked) + "".join(part(title, make, zar, asked) for title, make in PARTS.items())
     foot = f"Made by tools/report with {version}. The program is the text with the SHA-256 {hashlib.sha256(zar.text).hexdigest()}."
-    return whole(zar.name, parts + tag("footer", tag("p", foot)) + "\n")
+    return whole(zar.name, parts + tag("footer", tag("p", foot)) + "\n", is_alone)
