@@ -1,4 +1,5 @@
 pub mod Weights
+pub mod Numbers
 pub mod Listed
 pub mod Columns
 pub mod WeightedRoll

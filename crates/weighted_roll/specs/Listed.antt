@@ -1,17 +1,12 @@
 -- The weights that a word of a call lists: numbers with a comma, the code 44, between two. This project's own rule.
-use Rattle.std.specs.Prelude.{ℕ, Bool, ◌&&◌, ◌==◌, List, [], ◌∷◌, ◌++◌, length, Option, Some, None, nat_le, if◌then◌else◌}
-use Rattle.std.specs.List.{list_all}
-use Rattle.std.specs.Str.Parse.{digits_value}
-use Rattle.gcl_core.specs.text.Pieces.{is_digit}
-use Rattle.weighted_roll.specs.declared.rules.TheConstants.{GREATEST_SUM, MOST_DIGITS, MOST_LISTED}
+use Rattle.std.specs.Prelude.{ℕ, ◌&&◌, ◌==◌, List, [], ◌∷◌, ◌++◌, length, Option, Some, None, nat_le, if◌then◌else◌}
+use Rattle.weighted_roll.specs.declared.rules.TheConstants.{GREATEST_SUM, MOST_LISTED}
+use Rattle.weighted_roll.specs.Numbers.{number_in}
 use Rattle.weighted_roll.specs.Weights.{are_weights}
 
--- a weight is 1 to `MOST_DIGITS` digits, leading zeros allowed, with a value of at most the greatest sum
+-- a weight is a number of at most the greatest sum
 abbrev pub weight_in : List ℕ → Option ℕ
-weight_in part =
-    if nat_le 1 (length part) && nat_le (length part) MOST_DIGITS && list_all is_digit part
-    && nat_le (digits_value 10 part) GREATEST_SUM
-    then Some (digits_value 10 part) else None
+weight_in part = number_in 0 GREATEST_SUM part
 
 -- a weight before further ones, where all are weights
 abbrev pub with_weight : Option ℕ → Option (List ℕ) → Option (List ℕ)

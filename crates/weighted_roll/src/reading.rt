@@ -1,52 +1,21 @@
 //! Weights as a word of a call lists them.
-ghost use Rattle.std.specs.Prelude.{◌≡◌, ◌≤◌, ◌<◌, ◌+◌, ◌*◌, ◌^◌, [], true, length, option_map, is_some, max, None, ◌&&◌, nat_le, nat_lt, IfOk, IfSome, MatchOption};
-ghost use Rattle.std.specs.List.{list_all};
-ghost use Rattle.std.specs.Str.Parse.{digits_value};
-ghost use Rattle.gcl_core.specs.text.Pieces.{is_digit};
+ghost use Rattle.std.specs.Prelude.{◌≡◌, ◌≤◌, ◌<◌, ◌+◌, ◌*◌, ◌^◌, [], option_map, is_some, max, None, ◌&&◌, nat_le, nat_lt, IfOk, IfSome, MatchOption};
 ghost use Rattle.weighted_roll.specs.declared.rules.TheConstants as rule;
 ghost use Rattle.weighted_roll.specs.Listed.{weight_in, parts_from, weights_in};
 ghost use Rattle.weighted_roll.specs.Weights.{AreWeights};
 ghost use Rattle.weighted_roll.specs.inner.Sums.{HasSums};
 
-use crate::rules::{GREATEST_SUM, MOST_DIGITS, MOST_LISTED};
+use crate::numbers::number_in;
+use crate::rules::{GREATEST_SUM, MOST_LISTED};
 use crate::weights::are_weights;
 use std::alloc::{AllocError, Global};
 
-// The value of at most `MOST_DIGITS` digits.
-fn value_of(digits: &[u8]) -> u128
-    requires few { length digits.now ≤ rule.MOST_DIGITS }
-    requires digits { list_all is_digit digits.now ≡ true }
-    ensures { result ≡ digits_value 10 digits.now }
-{
-    let mut value = 0;
-    for digit in digits {
-        value = value * 10 + u128::from(*digit - b'0');
-    }
-    value
-}
-
-fn are_digits(bytes: &[u8]) -> bool
-    ensures { result ≡ list_all is_digit bytes.now }
-{
-    bytes.iter().all(|byte| b'0' <= *byte && *byte <= b'9')
-}
-
 // The weight that a part of a word is, if it is one.
-#[tactic(auto, using(std::proofs::lemmas::Bool::Decides::nat_tests))]
 fn weight_in(part: &str) -> Option<u64>
     ensures weight { result ≡ weight_in part.now }
     ensures small { IfSome result (λ a. a ≤ rule.GREATEST_SUM) }
 {
-    let digits = part.as_bytes();
-    if digits.is_empty() || digits.len() > MOST_DIGITS || !are_digits(digits) {
-        return None;
-    }
-    let value = value_of(digits);
-    if value <= u128::from(GREATEST_SUM) {
-        Some(value as u64)
-    } else {
-        None
-    }
+    number_in(0, GREATEST_SUM, part)
 }
 
 // The weights of the parts between the commas, if each is one.
@@ -134,7 +103,7 @@ pub fn lists_weights(word: &str) -> bool
     }
 }
 
-/// The weights that a word lists: at most [`MOST_LISTED`] numbers, each of 1 to [`MOST_DIGITS`] digits, with a comma between two,
+/// The weights that a word lists: at most [`MOST_LISTED`] numbers, as [`number_in`] reads them, with a comma between two,
 /// which are weights that a roll may have. `None` comes exactly where the word is no such list. It takes memory for the list, and
 /// errs only where that runs out.
 pub fn weights_in(alloc: Global, word: &str) -> Result<Option<Vec<u64>>, AllocError>

@@ -3,7 +3,7 @@
 use crate::excerpt::shown;
 use crate::nearest::Nearest;
 use std::alloc::{AllocError, Global};
-use zar_cli::{Form, HELP, Row, Setting, VERBS, VERSION_WORD, Verb};
+use zar_cli::{Form, HELP, Row, Setting, VERBS, VERSION_WORD, Verb, stands_alone};
 
 /// The row of the command that the first word is.
 pub fn row_of(words: &[String]) -> Option<Row> {
@@ -26,10 +26,21 @@ fn setting_of(takes: &[Setting], word: &str) -> Option<Setting> {
     None
 }
 
+// The word at this place is that of an option, by those before it, and no value.
+fn is_option(words: &[String], at: usize) -> bool {
+    let mut is_value = false;
+    for (i, word) in words.iter().enumerate().skip(2) {
+        if i < at {
+            is_value = !is_value && !stands_alone(word.as_str());
+        }
+    }
+    !is_value
+}
+
 // The option stands among the words before this place.
 fn is_given(words: &[String], at: usize, option: &str) -> bool {
     for (i, word) in words.iter().enumerate().skip(2) {
-        if i < at && i % 2 == 0 && word.as_str() == option {
+        if i < at && is_option(words, i) && word.as_str() == option {
             return true;
         }
     }
@@ -68,6 +79,7 @@ fn form_said(alloc: Global, form: Form) -> Result<String, AllocError> {
             alloc,
             "a value, or a way to end as tally prints it, as 'limit turns'",
         ),
+        Form::Alone => String::from_str(alloc, "no value"),
     }
 }
 
@@ -189,8 +201,14 @@ fn of_end(alloc: Global, row: &Row, words: &[String]) -> Result<String, AllocErr
 fn of_row(alloc: Global, row: &Row, words: &[String], at: usize) -> Result<String, AllocError> {
     match (at, words.get(at)) {
         (0 | 1, _) => of_first(alloc, row.1),
-        (_, None) if at % 2 == 0 => of_end(alloc, row, words),
-        (_, Some(word)) if at % 2 == 0 => of_option(alloc, row.2, words, at, word.as_str()),
+        (_, None) if is_option(words, at) => of_end(alloc, row, words),
+        (_, Some(word)) if is_option(words, at) => of_option(
+            alloc,
+            row.2,
+            words,
+            at,
+            word.as_str(),
+        ),
         (_, value) => match words.get(at.saturating_sub(1)) {
             Some(option) => of_value(alloc, row, option.as_str(), value.is_some()),
             None => String::from_str(alloc, "a word is missing here"),

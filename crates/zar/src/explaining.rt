@@ -21,9 +21,37 @@ fn refusal_in(line: &str) -> Option<(u8, Option<usize>)> {
     Some((code.parse::<u8>().ok()?, place))
 }
 
+// Adds the words of a piece of a page, and the number behind them.
+fn push_piece(
+    alloc: Global,
+    text: &mut String,
+    words: &str,
+    number: Option<u64>,
+) -> Result<(), AllocError> {
+    text.push_str(words)?;
+    match number {
+        Some(n) => text.push_str(format!(in alloc; "{n}")?.as_str()),
+        None => Ok(()),
+    }
+}
+
+// What help says of a code.
+fn help_text(alloc: Global, code: u8) -> Result<String, AllocError> {
+    let mut text = String::new(alloc);
+    if let Some((words, parts)) = REFUSALS.get(usize::from(code)) {
+        text.push_str(words)?;
+        for part in *parts {
+            for (words, number) in *part {
+                push_piece(alloc, &mut text, words, *number)?;
+            }
+        }
+    }
+    Ok(text)
+}
+
 // The sentence of a code, and what may help.
 fn page_front(alloc: Global, code: u8) -> Result<String, AllocError> {
-    let page = REFUSALS.get(usize::from(code)).copied().unwrap_or("");
+    let page = help_text(alloc, code)?;
     let mut said = String::new(alloc);
     for (i, line) in page.lines().enumerate() {
         if i == 0 || line.starts_with("mend: ") {

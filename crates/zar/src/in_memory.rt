@@ -53,7 +53,7 @@ fn call<R: Threads + Sync>(
 #[test]
 fn says_in_memory(rt: HostRuntime) -> Result<(), Fail> {
     let two_thirds: &[u8] = b"choice 2/3 { x := 1; } or { x := 2; } return x;";
-    let cases: [(&[u8], &[&str], &[u8]); 12] = [
+    let cases: [(&[u8], &[&str], &[u8]); 13] = [
         (
             two_thirds,
             &["mass", "p.gcl"],
@@ -68,6 +68,19 @@ fn says_in_memory(rt: HostRuntime) -> Result<(), Fail> {
             b"choice 1/3 { x := 1; } or { skip; } while x = 0 { skip; } return x;",
             &["exact", "p.gcl"],
             b"value 1 mass 1/3\nendless mass 2/3\n",
+        ),
+        (
+            b"x ~ uniform(4); observe x > 0; while x = 1 { x ~ uniform(2); } return x % 2;",
+            &[
+                "enclose",
+                "p.gcl",
+                "--rounds",
+                "1",
+                "--turns",
+                "1",
+                "--all-turns",
+            ],
+            b"value 0 from 3/8 to 1/2\nvalue 1 from 1/4 to 3/8\nlimit rounds from 1/4 to 3/8\nother from 0/1 to 1/8\n",
         ),
         (
             two_thirds,

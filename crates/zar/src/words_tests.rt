@@ -136,7 +136,7 @@ fn reads_the_options_of_sample(rt: HostRuntime) -> Result<(), Fail> {
 
 #[test]
 fn names_the_first_wrong_word_of_counts(rt: HostRuntime) -> Result<(), Fail> {
-    let cases: [(&[&str], u32); 18] = [
+    let cases: [(&[&str], u32); 24] = [
         (&["cost", "p", "--depth", "1"], 2),
         (&["cost", "p", "--attempts"], 3),
         (&["cost", "p", "--rounds", "1", "--turns", "-2"], 5),
@@ -147,6 +147,23 @@ fn names_the_first_wrong_word_of_counts(rt: HostRuntime) -> Result<(), Fail> {
         (&["mass", "p", "--bits", "b"], 2),
         (&["posterior", "p", "--attempts", "1"], 2),
         (&["exact", "p", "--turns", "1"], 2),
+        (&["enclose", "p", "--all-turns", "1"], 3),
+        (&["enclose", "p", "--all-turns", "--all-turns"], 3),
+        (&["enclose", "p", "--all-turns", "--turns"], 4),
+        (&["enclose", "p", "--turns", "--all-turns"], 3),
+        (
+            &[
+                "enclose",
+                "p",
+                "--turns",
+                "1",
+                "--all-turns",
+                "--turns",
+                "2",
+            ],
+            5,
+        ),
+        (&["mass", "p", "--all-turns"], 2),
         (&["posterior", "p", "--turns", "1000000001"], 3),
         (&["audit", "p"], 2),
         (&["audit", "p", "--depth", "21"], 3),
@@ -180,6 +197,54 @@ fn names_the_first_wrong_word_of_counts(rt: HostRuntime) -> Result<(), Fail> {
             "in row {row}"
         );
         row = row.wrapping_add(1);
+    }
+    Ok(())
+}
+
+#[test]
+fn reads_an_option_that_stands_alone(rt: HostRuntime) -> Result<(), Fail> {
+    let cases: [(&[&str], u64, Option<u64>, bool); 4] = [
+        (&["enclose", "p"], 30, None, false),
+        (&["enclose", "p", "--all-turns"], 30, None, true),
+        (
+            &[
+                "enclose",
+                "p",
+                "--all-turns",
+                "--turns",
+                "3",
+                "--rounds",
+                "2",
+            ],
+            3,
+            Some(2),
+            true,
+        ),
+        (
+            &[
+                "enclose",
+                "p",
+                "--turns",
+                "3",
+                "--rounds",
+                "2",
+                "--all-turns",
+            ],
+            3,
+            Some(2),
+            true,
+        ),
+    ];
+    for (words, turns, rounds, all_turns) in cases {
+        match read(rt.alloc(), words)? {
+            Ok(Command::Checked(_, Work::Enclose(n, attempts, most, all))) => {
+                assert_eq!(rt; n, turns);
+                assert_eq!(rt; attempts, None);
+                assert_eq!(rt; most, rounds);
+                assert_eq!(rt; all, all_turns);
+            }
+            _ => panic!(rt; "no enclose"),
+        }
     }
     Ok(())
 }

@@ -13,12 +13,14 @@ use Rattle.zar_cli.specs.declared.command.Command.{Command}
 use Rattle.zar_cli.specs.declared.command.Command.TheVariants.{Checked, Show, Gen, Fast, Roll, Help}
 use Rattle.zar_cli.specs.declared.command.Source.TheVariants.{File, Stream}
 use Rattle.zar_cli.specs.declared.command.Work.{Work}
-use Rattle.zar_cli.specs.declared.command.Work.TheVariants.{Sample, Mass, Cost, Posterior, Exact, Audit, Tally, Runs, Hunt, Check, Code}
+use Rattle.zar_cli.specs.declared.command.Work.TheVariants.{Sample, Mass, Cost, Posterior, Exact, Enclose, Audit, Tally, Runs, Hunt, Check, Code}
 use Rattle.zar_cli.specs.declared.said.Said.{Said}
 use Rattle.zar_cli.specs.declared.said.Said.TheVariants.{Answered, Rolled}
 use Rattle.zar_cli.specs.Costs as costs
 use Rattle.zar_cli.specs.Costs.{SaysCost}
 use Rattle.zar_cli.specs.Counts.{ShowsText}
+use Rattle.zar_cli.specs.Enclosures as enclosures
+use Rattle.zar_cli.specs.Enclosures.{SaysEnclosure}
 use Rattle.zar_cli.specs.ExactMasses as exact
 use Rattle.zar_cli.specs.ExactMasses.{SaysExact}
 use Rattle.zar_cli.specs.Forms.{CallWord}
@@ -85,6 +87,11 @@ exact_codes p _ (exact.too_wide h) = omega arith
 exact_codes p _ (exact.too_many_states h) = omega arith
 exact_codes p _ (exact.all_failed h) = omega arith
 
+enclosure_codes : (p : SourceProgram) (turns : ℕ) (attempts rounds : Option ℕ) (all_turns : Bool) (e : Refusal)
+    → SaysEnclosure p turns attempts rounds all_turns (Err e) → IsRefusal e
+enclosure_codes p turns attempts rounds all_turns _ (enclosures.too_many_states h) = omega arith
+enclosure_codes p turns attempts rounds all_turns _ (enclosures.all_failed h) = omega arith
+
 -- ---- commands
 
 module _ (e : Refusal) where
@@ -130,6 +137,7 @@ module _ (e : Refusal) where
   work_codes file p (Cost limits) is = costs_codes p limits e is
   work_codes file p (Posterior turns) is = bounds_codes p turns e is
   work_codes file p Exact is = exact_codes p e is
+  work_codes file p (Enclose turns attempts rounds all_turns) is = enclosure_codes p turns attempts rounds all_turns e is
   work_codes file p (Audit depth limits) is = of_shown _ is
   work_codes file p (Tally range limits) is = of_shown _ is
   work_codes file p (Runs range limits) is = of_said _ is

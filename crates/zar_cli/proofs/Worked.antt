@@ -12,6 +12,7 @@ use Rattle.zar_io.specs.Trace.{World, Agrees, failures}
 use Rattle.zar_io.specs.declared.trace.Event.{Event}
 use Rattle.zar_cli.specs.declared.command.Command.{Command}
 use Rattle.zar_cli.specs.declared.command.Command.TheVariants.{Checked}
+use Rattle.zar_cli.specs.declared.command.Source.{Source}
 use Rattle.zar_cli.specs.declared.command.Source.TheVariants.{File}
 use Rattle.zar_cli.specs.declared.command.Work.{Work}
 use Rattle.zar_cli.specs.declared.command.Work.TheVariants.{Sample}
@@ -51,6 +52,9 @@ pub works_alone : (work other : Work) (p : SourceProgram) (now : List Event) (ou
     → Works work p now now output
 works_alone work other p now output same h names = subst (λ w. Works w p now now output) (sym same) (alone other p now names output h.gives)
 
+pub works_as : (work other : Work) (p : SourceProgram) (before now : List Event) (output : Output) → work ≡ other → Works other p before now output → Works work p before now output
+works_as work other p before now output same h = subst (λ w. Works w p before now output) (sym same) h
+
 -- a run on the bits of a file
 module _ (bits : CallWord) (limits : Limits) (p : SourceProgram) (before now : List Event) where
   pub sample_refused : (e : Refusal) → OfOutside e → IsStage (bits ∷ []) before now (Some e) → ((file : World) → Agrees file now → GivesOnBits (run_on p limits) (file bits) (Err e))
@@ -70,9 +74,10 @@ module _ (bits : CallWord) (limits : Limits) (p : SourceProgram) (before now : L
   }
 
 -- what the run answered is said
-pub sample_said : (work : Work) (name bits : CallWord) (limits : Limits) (p : SourceProgram) (before now : List Event) (answer : Answer) → work ≡ Sample (File bits) limits → name ≡ bits
-    → IsStage (name ∷ []) before now None → ((file : World) → Agrees file now → GivesOnBits (run_on p limits) (file name) (Ok answer)) → Works work p before now (Ok (Answered answer))
-sample_said work name bits limits p before now answer is same stage answers = subst (λ w. Works w p before now (Ok (Answered answer))) (sym is)
+pub sample_said : (source : Source) (name bits : CallWord) (limits : Limits) (p : SourceProgram) (before now : List Event) (answer : Answer) → source ≡ File bits → name ≡ bits
+    → IsStage (name ∷ []) before now None → ((file : World) → Agrees file now → GivesOnBits (run_on p limits) (file name) (Ok answer))
+    → Works (Sample source limits) p before now (Ok (Answered answer))
+sample_said source name bits limits p before now answer is same stage answers = subst (λ s. Works (Sample s limits) p before now (Ok (Answered answer))) (sym is)
     (sample_answered bits limits p before now answer (subst (λ n. IsStage (n ∷ []) before now None) same stage)
     (λ file agrees. subst (λ n. GivesOnBits (run_on p limits) (file n) (Ok answer)) same (answers file agrees)))
 

@@ -1,16 +1,13 @@
 -- The forms of the words of a call: the name of a file, a number, and a key of a tally.
-use Rattle.std.specs.Prelude.{ℕ, ◌-◌, ◌^◌, nat_le, Bool, true, false, ◌&&◌, ◌==◌, ℤ, pos, neg_ℤ, List, [], ◌∷◌, length, take, drop, map, Option, Some, None, option_map, if◌then◌else◌}
-use Rattle.std.specs.List.{list_all}
+use Rattle.std.specs.Prelude.{ℕ, ◌-◌, ◌^◌, Bool, true, false, ◌==◌, ℤ, pos, neg_ℤ, List, [], ◌∷◌, length, take, drop, map, Option, None, option_map, if◌then◌else◌}
 use Rattle.std.specs.Option.{option_or}
 use Rattle.std.specs.Str.{bytes_eq}
-use Rattle.std.specs.Str.Parse.{digits_value}
 use Rattle.gcl_core.specs.text.Names.{value_named}
-use Rattle.gcl_core.specs.text.Pieces.{is_digit}
 use Rattle.gcl_core.specs.declared.answers.Outcome.TheVariants as outcome
 use Rattle.gcl_core.specs.declared.answers.TallyKey.{TallyKey}
 use Rattle.gcl_core.specs.declared.answers.TallyKey.TheVariants as key
+use Rattle.weighted_roll.specs.Numbers.{number_in}
 use Rattle.zar_cli.specs.declared.keys.TheConstants.{WANTS, BEFORE_VALUES}
-use Rattle.zar_cli.specs.declared.settings.TheConstants.{MOST_DIGITS}
 
 abbrev pub CallWord : Type 0
 CallWord = List ℕ
@@ -19,13 +16,6 @@ CallWord = List ℕ
 abbrev pub is_name : CallWord → Bool
 is_name [] = false
 is_name (b ∷ bs) = true
-
--- a number is 1 to `MOST_DIGITS` digits, leading zeros allowed, with a value in its range
-abbrev pub number_in : ℕ → ℕ → CallWord → Option ℕ
-number_in least most word =
-    if nat_le 1 (length word) && nat_le (length word) MOST_DIGITS && list_all is_digit word && nat_le least (digits_value 10 word)
-    && nat_le (digits_value 10 word) most
-    then Some (digits_value 10 word) else None
 
 -- a value is a number with an optional minus sign, the code 45, before it, and has 64 bits
 abbrev pub value_in : CallWord → Option ℤ

@@ -1,7 +1,7 @@
 -- What `help` and `--version` print: pages of words and numbers, which are constants of the code.
 use Rattle.std.specs.Prelude.{ℕ, List, [], ◌++◌, map, flat_map, Option, Some, None, unwrap_or, slice_get, decimal}
 use Rattle.zar_cli.specs.declared.explained.TheConstants.{REFUSALS}
-use Rattle.zar_cli.specs.declared.help.TheConstants.{VERSION, COMMANDS, SAMPLE, MASS, COST, POSTERIOR, EXACT, AUDIT, TALLY, RUNS, HUNT, CHECK, SHOW, CODE, GEN, FAST, ROLL}
+use Rattle.zar_cli.specs.declared.help.TheConstants.{VERSION, COMMANDS, SAMPLE, MASS, COST, POSTERIOR, EXACT, ENCLOSE, AUDIT, TALLY, RUNS, HUNT, CHECK, SHOW, CODE, GEN, FAST, ROLL}
 use Rattle.zar_cli.specs.declared.help.Topic.{Topic}
 use Rattle.zar_cli.specs.declared.help.Topic.TheVariants.{Everything, One, Refused, Version}
 use Rattle.zar_cli.specs.declared.settings.Verb.TheVariants as verb
@@ -20,7 +20,7 @@ page_text (words, parts) = words.now ++ flat_map (λ part. flat_map (λ piece. p
 
 -- what the refusal of a code means; a number that is no code has no words
 unfoldable pub refusal_page : ℕ → List ℕ
-refusal_page code = unwrap_or (slice_get (map (λ w. w.now) REFUSALS) code) []
+refusal_page code = unwrap_or (slice_get (map page_text REFUSALS) code) []
 
 abbrev pub page_of : Topic → Page
 page_of Everything = COMMANDS
@@ -29,6 +29,7 @@ page_of (One verb.Mass) = MASS
 page_of (One verb.Cost) = COST
 page_of (One verb.Posterior) = POSTERIOR
 page_of (One verb.Exact) = EXACT
+page_of (One verb.Enclose) = ENCLOSE
 page_of (One verb.Audit) = AUDIT
 page_of (One verb.Tally) = TALLY
 page_of (One verb.Runs) = RUNS

@@ -1,4 +1,4 @@
--- The options among the words of a call: pairs of an option and its value, in any order, each option once.
+-- The options among the words of a call: each with its value behind it, or alone, in any order, and each once.
 use Rattle.std.specs.Prelude.{ℕ, ◌+◌, ◌-◌, nat_le, Bool, false, ◌&&◌, ◌||◌, List, [], ◌∷◌, ◌++◌, Option, Some, None, is_some, unwrap_or, if◌then◌else◌}
 use Rattle.std.specs.Option.{option_or, option_and_then}
 use Rattle.std.specs.Str.{bytes_eq}
@@ -13,10 +13,11 @@ use Rattle.zar_cli.specs.declared.command.Source.{Source}
 use Rattle.zar_cli.specs.declared.command.Source.TheVariants as source
 use Rattle.zar_cli.specs.declared.settings.Form.{Form}
 use Rattle.zar_cli.specs.declared.settings.Form.TheVariants as form
-use Rattle.zar_cli.specs.declared.settings.TheConstants.{BITS, SEED, STREAM, BUDGET, FROM, TO, WORKERS, TURNS, ATTEMPTS, ROUNDS, WANT, USUAL_LIMIT, USUAL_BUDGET, USUAL_WORKERS}
-use Rattle.zar_cli.specs.Forms.{CallWord, is_name, number_in, key_named}
+use Rattle.zar_cli.specs.declared.settings.TheConstants.{BITS, SEED, STREAM, BUDGET, FROM, TO, WORKERS, TURNS, ATTEMPTS, ROUNDS, WANT, ALL_TURNS, USUAL_LIMIT, USUAL_BUDGET, USUAL_WORKERS}
+use Rattle.weighted_roll.specs.Numbers.{number_in}
+use Rattle.zar_cli.specs.Forms.{CallWord, is_name, key_named}
 
--- an option: its word, and the form of its value
+-- an option: its word, and the form of the value behind it
 abbrev pub Setting : Type 0
 Setting = CallWord × Form
 
@@ -30,17 +31,26 @@ fits form.Name word = is_name word
 fits (form.Number least most) word = is_some (number_in least most word)
 fits form.Wanted word = is_some (key_named word)
 fits form.Weights word = is_some (weights_in word)
+fits form.Alone word = false
+
+-- no value is behind this option
+abbrev pub stands_alone : CallWord → Bool
+stands_alone name = bytes_eq ALL_TURNS.0.now name
 
 -- bits of a file and bits of a stream exclude each other
 abbrev pub excludes : CallWord → CallWord → Bool
 excludes a b = bytes_eq BITS.0.now a && (bytes_eq SEED.0.now b || bytes_eq STREAM.0.now b || bytes_eq BUDGET.0.now b)
 
+-- one option rules out the other, which may be the same
+abbrev pub bars : CallWord → CallWord → Bool
+bars other name = bytes_eq other name || excludes other name || excludes name other
+
 -- the option was given before, or one that was excludes it
 abbrev pub is_barred : CallWord → List CallWord → Bool
 is_barred name [] = false
-is_barred name (other ∷ []) = false
+is_barred name (other ∷ []) = bars other name
 is_barred name (other ∷ value ∷ before) =
-    bytes_eq other name || excludes other name || excludes name other || is_barred name before
+    bars other name || (if stands_alone other then is_barred name (value ∷ before) else is_barred name before)
 
 -- the form of the value behind an option, if it is one of these and not barred
 abbrev pub form_behind : List Setting → List CallWord → CallWord → Option Form
@@ -51,12 +61,22 @@ abbrev pub wrong_in_pair : Option Form → ℕ → CallWord → Option ℕ
 wrong_in_pair None i value = Some i
 wrong_in_pair (Some form) i value = if fits form value then None else Some (i + 1)
 
--- the first wrong word of those from place i on, behind the pairs before them
+-- the same of an option that stands alone, and of one behind which nothing is left
+abbrev pub wrong_alone : Option Form → ℕ → Option ℕ
+wrong_alone form i = if is_some form then None else Some i
+
+abbrev pub wrong_at_end : Option Form → ℕ → Option ℕ
+wrong_at_end form i = Some (if is_some form then i + 1 else i)
+
+-- the first wrong word of those from place i on, behind the options before them
 abbrev pub wrong_option : List Setting → ℕ → List CallWord → List CallWord → Option ℕ
 wrong_option takes i before [] = None
-wrong_option takes i before (name ∷ []) = Some (if is_some (form_behind takes before name) then i + 1 else i)
+wrong_option takes i before (name ∷ []) =
+    if stands_alone name then wrong_alone (form_behind takes before name) i else wrong_at_end (form_behind takes before name) i
 wrong_option takes i before (name ∷ value ∷ rest) =
-    option_or (wrong_in_pair (form_behind takes before name) i value)
+    if stands_alone name
+    then option_or (wrong_alone (form_behind takes before name) i) (wrong_option takes (i + 1) (before ++ name ∷ []) (value ∷ rest))
+    else option_or (wrong_in_pair (form_behind takes before name) i value)
     (wrong_option takes (i + 2) (before ++ name ∷ value ∷ []) rest)
 
 -- ---- what the options give, where none is wrong
@@ -68,10 +88,12 @@ Options = List CallWord
 abbrev pub no_options : Options
 no_options = []
 
+-- the word behind an option that is given; it is empty where no word is behind it
 abbrev pub value_of : CallWord → Options → Option CallWord
 value_of word [] = None
-value_of word (name ∷ []) = None
-value_of word (name ∷ value ∷ o) = if bytes_eq word name then Some value else value_of word o
+value_of word (name ∷ []) = if bytes_eq word name then Some [] else None
+value_of word (name ∷ value ∷ o) =
+    if bytes_eq word name then Some value else (if stands_alone name then value_of word (value ∷ o) else value_of word o)
 
 abbrev pub is_given : Setting → Options → Bool
 is_given s o = is_some (value_of s.0 o)
@@ -81,6 +103,7 @@ number_of form.Name word = None
 number_of (form.Number least most) word = number_in least most word
 number_of form.Wanted word = None
 number_of form.Weights word = None
+number_of form.Alone word = None
 
 abbrev pub number_given : Setting → Options → Option ℕ
 number_given s o = option_and_then (number_of s.1) (value_of s.0 o)

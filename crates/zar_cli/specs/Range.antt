@@ -12,7 +12,7 @@ use Rattle.zar_cli.specs.declared.command.Command.TheVariants.{Checked, Show, Ge
 use Rattle.zar_cli.specs.declared.command.Source.{Source}
 use Rattle.zar_cli.specs.declared.command.Source.TheVariants.{File, Stream}
 use Rattle.zar_cli.specs.declared.command.Work.{Work}
-use Rattle.zar_cli.specs.declared.command.Work.TheVariants.{Sample, Mass, Cost, Posterior, Exact, Audit, Tally, Runs, Hunt, Check, Code}
+use Rattle.zar_cli.specs.declared.command.Work.TheVariants.{Sample, Mass, Cost, Posterior, Exact, Enclose, Audit, Tally, Runs, Hunt, Check, Code}
 use Rattle.zar_io.specs.declared.stream_bits.TheConstants.{MOST_BUDGET}
 use Rattle.audit_walk.specs.declared.auditing.TheConstants.{MOST_DEPTH}
 
@@ -26,6 +26,8 @@ WorkHasRange (Mass turns attempts rounds) = (turns ≤ MOST_LIMIT) × IfSome att
 WorkHasRange (Cost limits) = InRange limits
 WorkHasRange (Posterior turns) = turns ≤ MOST_LIMIT
 WorkHasRange Exact = Unit {0}
+WorkHasRange (Enclose turns attempts rounds all_turns) =
+    (turns ≤ MOST_LIMIT) × IfSome attempts IsLimit × IfSome rounds IsLimit
 WorkHasRange (Audit depth limits) = (depth ≤ MOST_DEPTH) × InRange limits
 WorkHasRange (Tally range limits) = InRange limits × IsRange range × IsWorkers range.workers
 WorkHasRange (Runs range limits) = InRange limits × IsRange range × IsWorkers range.workers

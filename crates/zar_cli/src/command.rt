@@ -96,6 +96,9 @@ pub enum Work {
     Posterior(u64),
     /// The mass of each outcome with no limit, and what never ends.
     Exact,
+    /// Two fractions between which the mass of each outcome lies, with limits of turns, attempts and rounds; whether they
+    /// hold for every greater limit of turns.
+    Enclose(u64, Option<u64>, Option<u64>, bool),
     /// The audit of its runs by all bit strings of one length.
     Audit(u32, Limits),
     /// The tally of its runs over the streams of a range.

@@ -7,7 +7,7 @@ ghost use Rattle.zar_cli.specs.Words.{code_named, topic_named};
 use crate::explained::REFUSALS;
 use crate::settings::{
     LEAST_GENERATED, USUAL_BUDGET, USUAL_COST_ATTEMPTS, USUAL_COST_ROUNDS, USUAL_FLIPS,
-    USUAL_LIMIT, USUAL_MASS_TURNS, USUAL_WEIGHED_FLIPS, USUAL_WORKERS, Verb, number_in, row_named,
+    USUAL_LIMIT, USUAL_MASS_TURNS, USUAL_WEIGHED_FLIPS, USUAL_WORKERS, Verb, row_named,
 };
 use audit_walk::MOST_DEPTH;
 use dice_roll::{LEAST_LABELS, MOST_FLIPS, MOST_LABELS};
@@ -16,7 +16,7 @@ use gcl_core::refusals::BAD_WORDS;
 use generated_program::GREATEST_NUMBER;
 use report_text::VERSION_LINE;
 use stream_runs::MOST_WORKERS;
-use weighted_roll::{GREATEST_SUM, MOST_LISTED};
+use weighted_roll::{GREATEST_SUM, MOST_LISTED, number_in};
 use zar_io::MOST_BUDGET;
 
 /// What help is asked for.
@@ -71,6 +71,11 @@ const NO_LIMIT: Piece = (" (no limit)\n", None);
 const USUAL: Piece = (" (", Some(USUAL_LIMIT));
 
 const END: Piece = (")\n", None);
+
+const ALL_TURNS: Piece = (
+    "--all-turns   bounds for every greater limit of turns\n",
+    None,
+);
 
 // The limits of a run.
 const LIMITS: Part = &[TURNS, USUAL, END, ATTEMPTS, USUAL, END, ROUNDS, USUAL, END];
@@ -150,6 +155,8 @@ zar posterior FILE
     print each value and fault with bounds that hold for every greater limit of turns
 zar exact FILE
     print each outcome with its exact mass where nothing is limited, and what never ends
+zar enclose FILE
+    print two fractions between which the mass of each outcome lies, rounded to 120 bits
 zar audit FILE --depth N
     print how all strings of N bits end
 zar tally FILE --seed N --from N --to N
@@ -228,6 +235,17 @@ pub const EXACT: Page = (
     print each outcome with its exact mass where nothing is limited, and what never ends
 ",
     &[],
+);
+
+pub const ENCLOSE: Page = (
+    "zar enclose FILE
+    print two fractions between which the mass of each outcome lies, rounded to 120 bits
+
+",
+    &[
+        MASS_TURNS,
+        &[ATTEMPTS, NO_LIMIT, ROUNDS, NO_LIMIT, ALL_TURNS],
+    ],
 );
 
 pub const AUDIT: Page = (
@@ -326,19 +344,27 @@ zar roll W,W,.. --seed N
     &[WEIGHTS, ONE_RUN, FLIPS],
 );
 
-// The text at a place of a table, which has none behind its end.
-fn text_at(table: &[&'static str], at: usize) -> &'static str
-    ensures { result.now ≡ unwrap_or (slice_get (map (λ w. w.now) table.now) at) [] }
+// The page at a place of a table, which has none behind its end.
+fn page_at(table: &[Page], at: usize) -> Page
+    ensures { result.0.now ++ flat_map (λ part. flat_map (λ piece. piece_text piece.0.now piece.1) part.now) result.1.now
+        ≡ unwrap_or (slice_get (map (λ page.
+        page.0.now ++ flat_map (λ part. flat_map (λ piece. piece_text piece.0.now piece.1) part.now) page.1.now)
+        table.now) at) [] }
 {
-    if at < table.len() { table[at] } else { "" }
+    if at < table.len() {
+        table[at]
+    } else {
+        ("", &[])
+    }
 }
 
 // What the refusal of a code means. A number that is no code has no words.
 #[tactic(auto, unfolding(crate::specs::Help::refusal_page))]
-fn refusal_page(code: u8) -> &'static str
-    ensures { result.now ≡ refusal_page code }
+fn refusal_page(code: u8) -> Page
+    ensures { result.0.now ++ flat_map (λ part. flat_map (λ piece. piece_text piece.0.now piece.1) part.now) result.1.now
+        ≡ refusal_page code }
 {
-    text_at(&REFUSALS, usize::from(code))
+    page_at(&REFUSALS, usize::from(code))
 }
 
 // The number of the code that a word is: E, and the number.
@@ -373,6 +399,7 @@ pub fn page_of(topic: Topic) -> Page
         Topic::One(Verb::Cost) => COST,
         Topic::One(Verb::Posterior) => POSTERIOR,
         Topic::One(Verb::Exact) => EXACT,
+        Topic::One(Verb::Enclose) => ENCLOSE,
         Topic::One(Verb::Audit) => AUDIT,
         Topic::One(Verb::Tally) => TALLY,
         Topic::One(Verb::Runs) => RUNS,
@@ -383,7 +410,7 @@ pub fn page_of(topic: Topic) -> Page
         Topic::One(Verb::Gen) => GEN,
         Topic::One(Verb::Fast) => FAST,
         Topic::One(Verb::Roll) => ROLL,
-        Topic::Refused(code) => (refusal_page(code), &[]),
+        Topic::Refused(code) => refusal_page(code),
         Topic::Version => VERSION,
     }
 }

@@ -4,8 +4,8 @@ ghost use Rattle.std.specs.Prelude.{◌≡◌};
 ghost use Rattle.zar_cli.specs.Forms.{value_in, printed_value_in, want_named, key_named};
 
 use crate::lookup::value_named;
-use crate::settings::number_in;
 use gcl_core::{Fault, Limit, Outcome, TallyKey};
+use weighted_roll::number_in;
 
 /// Each way to end that has words: one, and those with which it is printed. Code and definitions read this table.
 pub const WANTS: [(&str, TallyKey); 16] = [

@@ -10,14 +10,16 @@ ghost use Rattle.stream_runs.specs.Ranges.{IsWorkers};
 ghost use Rattle.zar_cli.specs.inner.OptionsView.{options_of, IsIn};
 
 use crate::keys::key_named;
+use crate::pairs::stands_alone;
 use crate::settings::{
     ATTEMPTS, BITS, BUDGET, FROM, Form, ROUNDS, SEED, Setting, TO, TURNS, USUAL_BUDGET,
-    USUAL_LIMIT, USUAL_WORKERS, WANT, WORKERS, number_in,
+    USUAL_LIMIT, USUAL_WORKERS, WANT, WORKERS,
 };
 use gcl_core::{Limits, TallyKey};
 use stream_runs::{MOST_STREAMS, SeedRange};
+use weighted_roll::number_in;
 
-/// The options of a command: words in pairs, of an option and its value.
+/// The options of a command: the word of each, and its value behind it, unless it stands alone.
 #[derive(Clone, Copy)]
 pub struct Options<'a> {
     pub words: &'a [String],
@@ -32,7 +34,7 @@ pub fn usual_limits() -> Limits
 }
 
 impl<'a> Options<'a> {
-    /// The word behind an option, where it is given.
+    /// The word behind an option, where it is given; empty where no word is behind it.
     pub fn value_of(self, word: &str) -> Option<&'a str>
         ensures { option_map (λ word. word.now) result ≡ value_of word.now (options_of self.entry) }
     {
@@ -41,9 +43,16 @@ impl<'a> Options<'a> {
             if word == name.as_str() {
                 return Some(value.as_str());
             }
-            words = rest;
+            words = if stands_alone(name.as_str()) {
+                &words[1..]
+            } else {
+                rest
+            };
         }
-        None
+        match words {
+            [name] if word == name.as_str() => Some(""),
+            _ => None,
+        }
     }
 
     /// The option is given.
@@ -74,7 +83,7 @@ impl<'a> Options<'a> {
         let word = self.value_of(setting.0)?;
         match setting.1 {
             Form::Number(least, most) => number_in(least, most, word),
-            Form::Name | Form::Wanted | Form::Weights => None,
+            Form::Name | Form::Wanted | Form::Weights | Form::Alone => None,
         }
     }
 

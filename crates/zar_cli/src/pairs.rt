@@ -1,10 +1,10 @@
-// The pairs of an option and its value.
+// The options and their values.
 
 ghost use Rattle.std.specs.Prelude.{◌≡◌, ◌+◌, ◌^◌, ◌<◌, [], length, map, string_bytes};
-ghost use Rattle.zar_cli.specs.OptionWords.{excludes, is_barred, form_behind, wrong_option};
+ghost use Rattle.zar_cli.specs.OptionWords.{excludes, stands_alone, bars, is_barred, form_behind, wrong_option};
 
 use crate::lookup::value_named;
-use crate::settings::{BITS, BUDGET, Form, SEED, STREAM, Setting};
+use crate::settings::{ALL_TURNS, BITS, BUDGET, Form, SEED, STREAM, Setting};
 
 // Bits of a file and bits of a stream exclude each other.
 fn excludes(name: &str, other: &str) -> bool
@@ -13,18 +13,38 @@ fn excludes(name: &str, other: &str) -> bool
     BITS.0 == name && (SEED.0 == other || STREAM.0 == other || BUDGET.0 == other)
 }
 
+/// No value is behind this option.
+pub fn stands_alone(name: &str) -> bool
+    ensures { result ≡ stands_alone name.now }
+{
+    ALL_TURNS.0 == name
+}
+
+// One option rules out the other, which may be the same.
+fn bars(other: &str, name: &str) -> bool
+    ensures { result ≡ bars other.now name.now }
+{
+    other == name || excludes(other, name) || excludes(name, other)
+}
+
 // The option was given before, or one that was excludes it.
 fn is_barred(name: &str, mut before: &[String]) -> bool
     ensures { result ≡ is_barred name.now (map string_bytes before.entry.now) }
 {
     while let [other, _, rest @ ..] = before {
-        let other = other.as_str();
-        if other == name || excludes(other, name) || excludes(name, other) {
+        if bars(other.as_str(), name) {
             return true;
         }
-        before = rest;
+        before = if stands_alone(other.as_str()) {
+            &before[1..]
+        } else {
+            rest
+        };
     }
-    false
+    match before {
+        [other] => bars(other.as_str(), name),
+        _ => false,
+    }
 }
 
 // The form of the value behind an option, if it is one of these and not barred.
@@ -45,8 +65,10 @@ pub fn wrong_option(takes: &[Setting], words: &[String]) -> Option<u32>
 {
     let mut at = 0;
     while at < words.len() {
-        match form_behind(takes, &words[..at], words[at].as_str()) {
+        let name = words[at].as_str();
+        match form_behind(takes, &words[..at], name) {
             None => return Some(2 + at as u32),
+            Some(_) if stands_alone(name) => at += 1,
             Some(form) => {
                 if at + 1 == words.len() {
                     return Some(3 + at as u32);
@@ -54,9 +76,9 @@ pub fn wrong_option(takes: &[Setting], words: &[String]) -> Option<u32>
                 if form.number(words[at + 1].as_str()).is_none() {
                     return Some(3 + at as u32);
                 }
+                at += 2;
             }
         }
-        at += 2;
     }
     None
 }

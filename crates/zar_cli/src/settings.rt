@@ -1,11 +1,6 @@
 // The commands by their words, the options that each takes, and the forms of the words behind them.
 
-ghost use Rattle.std.specs.Prelude.{◌≡◌, ◌≤◌, true, length, is_some, map, option_map, IfSome};
-ghost use Rattle.std.specs.List.{list_all};
-ghost use Rattle.std.specs.Str.Parse.{digits_value};
-ghost use Rattle.gcl_core.specs.text.Pieces.{is_digit};
-ghost use Rattle.zar_cli.specs.declared.settings.TheConstants.{MOST_DIGITS};
-ghost use Rattle.zar_cli.specs.Forms.{number_in};
+ghost use Rattle.std.specs.Prelude.{◌≡◌, is_some, map, option_map, IfSome};
 ghost use Rattle.zar_cli.specs.OptionWords.{fits};
 ghost use Rattle.gcl_core.specs.text.Names.{value_named};
 ghost use Rattle.zar_cli.specs.Words.{Row, row_named};
@@ -18,7 +13,7 @@ use dice_roll::{LEAST_LABELS, MOST_FLIPS, MOST_LABELS};
 use gcl_core::MOST_LIMIT;
 use generated_program::GREATEST_NUMBER;
 use stream_runs::MOST_WORKERS;
-use weighted_roll::lists_weights;
+use weighted_roll::{lists_weights, number_in};
 use zar_io::MOST_BUDGET;
 
 /// The word of a command.
@@ -29,6 +24,7 @@ pub enum Verb {
     Cost,
     Posterior,
     Exact,
+    Enclose,
     Audit,
     Tally,
     Runs,
@@ -52,9 +48,11 @@ pub enum Form {
     Wanted,
     /// Weights that a roll may have, with a comma between two.
     Weights,
+    /// None: the option stands alone.
+    Alone,
 }
 
-/// An option: its word, and the form of its value.
+/// An option: its word, and the form of the value behind it.
 pub type Setting = (&'static str, Form);
 
 // The options, with the ranges of their values.
@@ -84,10 +82,14 @@ pub const ROUNDS: Setting = ("--rounds", Form::Number(1, MOST_LIMIT));
 
 pub const WANT: Setting = ("--want", Form::Wanted);
 
+pub const ALL_TURNS: Setting = ("--all-turns", Form::Alone);
+
 // The options of commands.
 const SAMPLE: &[Setting] = &[BITS, SEED, STREAM, BUDGET, TURNS, ATTEMPTS, ROUNDS];
 
 const LIMITS: &[Setting] = &[TURNS, ATTEMPTS, ROUNDS];
+
+const ENCLOSE: &[Setting] = &[TURNS, ATTEMPTS, ROUNDS, ALL_TURNS];
 
 const AUDIT: &[Setting] = &[DEPTH, TURNS, ATTEMPTS, ROUNDS];
 
@@ -108,12 +110,13 @@ const LABELS: Form = Form::Number(LEAST_LABELS, MOST_LABELS);
 pub type Row = (Verb, Form, &'static [Setting], &'static [Setting]);
 
 /// Each command by its word. Code and definitions read this table.
-pub const VERBS: [(&str, Row); 15] = [
+pub const VERBS: [(&str, Row); 16] = [
     ("sample", (Verb::Sample, Form::Name, SAMPLE, &[])),
     ("mass", (Verb::Mass, Form::Name, LIMITS, &[])),
     ("cost", (Verb::Cost, Form::Name, LIMITS, &[])),
     ("posterior", (Verb::Posterior, Form::Name, &[TURNS], &[])),
     ("exact", (Verb::Exact, Form::Name, &[], &[])),
+    ("enclose", (Verb::Enclose, Form::Name, ENCLOSE, &[])),
     ("audit", (Verb::Audit, Form::Name, AUDIT, &[DEPTH])),
     ("tally", (Verb::Tally, Form::Name, TALLY, &[SEED, FROM, TO])),
     ("runs", (Verb::Runs, Form::Name, TALLY, &[SEED, FROM, TO])),
@@ -135,8 +138,6 @@ pub const HELP: [&str; 3] = ["help", "--help", "-h"];
 /// The word that asks for the version.
 pub const VERSION_WORD: &str = "--version";
 
-/// The most digits of a number.
-pub const MOST_DIGITS: usize = 20;
 /// The limit of turns, of attempts and of rounds where none is given.
 pub const USUAL_LIMIT: u64 = 1000;
 /// The limit of turns under which masses, expected bits and bounds are worked out where none is given.
@@ -200,44 +201,7 @@ impl Form {
                 None => None,
             },
             Form::Weights if lists_weights(word) => Some(0),
-            Form::Weights => None,
+            Form::Weights | Form::Alone => None,
         }
-    }
-}
-
-// The value of at most `MOST_DIGITS` digits.
-fn value_of(digits: &[u8]) -> u128
-    requires few { length digits.now ≤ MOST_DIGITS }
-    requires digits { list_all is_digit digits.now ≡ true }
-    ensures { result ≡ digits_value 10 digits.now }
-{
-    let mut value = 0;
-    for digit in digits {
-        value = value * 10 + u128::from(*digit - b'0');
-    }
-    value
-}
-
-fn are_digits(bytes: &[u8]) -> bool
-    ensures { result ≡ list_all is_digit bytes.now }
-{
-    bytes.iter().all(|byte| b'0' <= *byte && *byte <= b'9')
-}
-
-// The value of 1 to `MOST_DIGITS` digits, if it is in range.
-#[tactic(auto, using(std::proofs::lemmas::Bool::Decides::nat_tests))]
-pub fn number_in(least: u64, most: u64, word: &str) -> Option<u64>
-    ensures number { result ≡ number_in least most word.now }
-    ensures range { IfSome result (λ n. (least ≤ n) × (n ≤ most)) }
-{
-    let digits = word.as_bytes();
-    if digits.is_empty() || digits.len() > MOST_DIGITS || !are_digits(digits) {
-        return None;
-    }
-    let value = value_of(digits);
-    if u128::from(least) <= value && value <= u128::from(most) {
-        Some(value as u64)
-    } else {
-        None
     }
 }

@@ -9,14 +9,15 @@ ghost use Rattle.stream_runs.specs.Ranges.{IsRange, IsWorkers};
 ghost use Rattle.zar_cli.specs.Range.{WorkHasRange};
 ghost use Rattle.zar_cli.specs.inner.Works.{Works, WorksAlone};
 
-use crate::command::{Source, Work};
+use crate::command::Work;
 use crate::counting::{audit_of, tally_of};
 use crate::drawn::Drawn;
+use crate::enclosing::enclosed_of;
 use crate::exactly::exact_masses_of;
 use crate::hunting::found_of;
 use crate::posterior::bounds_of;
 use crate::said::Said;
-use crate::sampling::{run_on_file, run_on_stream};
+use crate::sampling::run_of;
 use crate::weighing::{bits_of, masses_of};
 use gcl_core::{Checked, Limits, count_statements};
 use gcl_print::Text;
@@ -72,19 +73,16 @@ pub fn work_on<R: Threads + Sync, F: Files, G: Gate>(
         (F.answered files.old) (F.answered files.new) result }
 {
     match work {
-        Work::Sample(Source::File(bits), limits) => {
-            let answer = run_on_file(alloc, files, &program, limits, bits.text())?;
-            Ok(Said::Answered(answer))
-        }
-        Work::Sample(Source::Stream(seed, stream, budget), limits) => {
-            run_on_stream(alloc, &program, limits, *seed, *stream, *budget)
-        }
+        Work::Sample(source, limits) => run_of(alloc, files, &program, limits, source),
         Work::Mass(turns, attempts, rounds) => {
             masses_of(alloc, &program, *turns, *attempts, *rounds)
         }
         Work::Cost(limits) => bits_of(alloc, &program, limits),
         Work::Posterior(turns) => bounds_of(alloc, &program, *turns),
         Work::Exact => exact_masses_of(alloc, &program),
+        Work::Enclose(turns, attempts, rounds, all_turns) => {
+            enclosed_of(alloc, &program, *turns, *attempts, *rounds, *all_turns)
+        }
         Work::Audit(depth, limits) => audit_of(rt, alloc, &program, *depth, limits),
         Work::Tally(range, limits) => tally_of(rt, alloc, &program, range, limits, gate),
         Work::Runs(range, limits) => Ok(runs_of(program, range, limits)),

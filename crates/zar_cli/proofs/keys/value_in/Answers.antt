@@ -1,7 +1,8 @@
 use Rattle.std.proofs.Common.{◌≡◌, ◌≢◌, ◌∙◌, ◌^◌, ◌-◌, pos, neg_ℤ, [], ◌∷◌, None, option_map, refl, sym, ap, arith, if◌then◌else◌}
 use Rattle.std.proofs.lemmas.Bool.{ne_eqb}
 use Rattle.std.proofs.lemmas.Str.Pattern.{strip_prefix_char}
-use Rattle.zar_cli.specs.Forms.{CallWord, number_in, value_in}
+use Rattle.weighted_roll.specs.Numbers.{number_in}
+use Rattle.zar_cli.specs.Forms.{CallWord, value_in}
 use Rattle.zar_cli.proofs.keys.value_in.Goals as goal
 
 without_sign : (word : CallWord) → ((rest : CallWord) → word ≢ 45 ∷ rest) → value_in word ≡ option_map pos (number_in 0 (2 ^ 63 - 1) word)

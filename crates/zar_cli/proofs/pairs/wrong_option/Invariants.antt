@@ -1,6 +1,6 @@
 use Rattle.std.proofs.Common.{◌≡◌, ◌≤◌, ◌-◌, [], length, map, string_bytes}
 use Rattle.zar_cli.specs.OptionWords.{wrong_option}
-use Rattle.zar_cli.proofs.OnePair.{wrong_at}
+use Rattle.zar_cli.proofs.OneOption.{wrong_at}
 use Rattle.zar_cli.proofs.pairs.wrong_option.Given as goal
 
 abbrev pub invariant-loop-at : goal.invariant-loop-at

@@ -1,13 +1,9 @@
-use Rattle.std.proofs.Common.{rules, refl}
-use Rattle.zar_cli.specs.declared.command.Source.TheVariants.{Stream}
-use Rattle.zar_cli.specs.declared.command.Work.TheVariants.{Sample}
-use Rattle.zar_cli.proofs.Worked.{works_alone, sample_said}
+use Rattle.std.proofs.Common.{rules}
+use Rattle.zar_cli.proofs.Worked.{works_alone, works_as}
 use Rattle.zar_cli.proofs.working.work_on.Goals as goal
 
-pub returns-in-Sample-Stream-default : goal.returns-in-Sample-Stream-default
-returns-in-Sample-Stream-default g c =
-    let a = c.in-Sample-Stream-default in
-    works_alone c.args.work.now (Sample (Stream a.seed a.stream a.budget) a.limits) _ _ _ (search rules) c.run_on_stream.ensures refl
+pub returns-in-Sample : goal.returns-in-Sample
+returns-in-Sample g c = search (rules, works_as)
 
 pub returns-in-Mass : goal.returns-in-Mass
 returns-in-Mass g c = search (rules, works_alone)
@@ -20,6 +16,9 @@ returns-in-Posterior g c = search (rules, works_alone)
 
 pub returns-in-Exact : goal.returns-in-Exact
 returns-in-Exact g c = search (rules, works_alone)
+
+pub returns-in-Enclose : goal.returns-in-Enclose
+returns-in-Enclose g c = search (rules, works_alone)
 
 pub returns-in-Audit : goal.returns-in-Audit
 returns-in-Audit g c = search (rules, works_alone)
@@ -36,11 +35,5 @@ returns-in-Hunt g c = search (rules, works_alone)
 pub returns-in-Check : goal.returns-in-Check
 returns-in-Check g c = search (rules, works_alone)
 
-pub returns : goal.returns
-returns g c = search (rules, works_alone)
-
-pub returns-in-Sample-File-default : goal.returns-in-Sample-File-default
-returns-in-Sample-File-default g c =
-    let a = c.in-Sample-File-default in
-    let answered = c.in_ok-answer-in-Sample-File-default in
-    sample_said c.args.work.now _ a.bits a.limits _ _ _ answered.answer (search rules) c.text.ensures answered.ensures.stage answered.ensures.answer
+pub returns-in-Code : goal.returns-in-Code
+returns-in-Code g c = search (rules, works_alone)
