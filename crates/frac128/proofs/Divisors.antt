@@ -11,7 +11,7 @@ use Rattle.std.specs.Prelude.{◌&&◌, if◌then◌else◌, [], ◌∷◌}
 use Rattle.std.specs.List.{sum}
 use Rattle.std.proofs.lemmas.Bool.{false≢true, eqb-true, eq-eqb}
 use Rattle.std.proofs.Math.Arith.{le_of_le-suc-ne}
-use Rattle.gcl_core.specs.meaning.Divisor.{divides, greatest_divisor, common_divisor}
+use Rattle.gcl_core.specs.meaning.Divisor.{divides, greatest_divisor}
 use Rattle.gcl_core.proofs.LowestParts.{sum_cons}
 use Rattle.frac128.specs.Divisor.{gcd, lcm}
 use Rattle.frac128.specs.Fraction.{lowest, InLowest, Fraction, IsEqual}

@@ -5,9 +5,11 @@ ghost use Rattle.std.specs.Prelude.{◌≡◌, ◌≤◌, ◌*◌, IfSome};
 ghost use Rattle.frac128.specs.Divisor.{gcd};
 ghost use Rattle.frac128.specs.Fraction.{InLowest, IsEqual, lowest, common_of, if_fits, sum_of, difference_of, product_of, quotient_of, order_of};
 
+mod divisor;
 #[cfg(test)]
 mod tests;
 
+use crate::divisor::gcd;
 use std::cmp::Ordering;
 use std::marker::Model;
 
@@ -32,20 +34,6 @@ impl Model for Frac {
     ghost invariant = { λ f. InLowest (f.num, f.den) };
 
     ghost inverse = { λ p. record { num = p.0; den = p.1 } };
-}
-
-fn gcd(a: u128, b: u128) -> u128
-    ensures value { result ≡ gcd a b }
-    ensures positive { 1 ≤ b → 1 ≤ result }
-{
-    let mut divisor = a;
-    let mut rest = b;
-    while rest != 0 {
-        let next = divisor % rest;
-        divisor = rest;
-        rest = next;
-    }
-    divisor
 }
 
 /// The least common multiple of the denominators, and both numerators over it.
