@@ -1,6 +1,5 @@
 -- How a table stays one: the length of its states, each once, and how many there are.
 use Rattle.std.proofs.Common.{◌≡◌, ◌<◌, ◌≤◌, ◌+◌, ℕ, List, Option, Some, Result, Ok, Err, OnOk, OnErr, All, length, sym, ap, ◌∙◌, subst, arith}
-use Rattle.std.specs.BTreeMap.{insert_entry}
 use Rattle.std.specs.Iterator.{Yields}
 use Rattle.std.specs.Map.{keys_of}
 use Rattle.std.specs.Map.Iter.{TakesFirst}
@@ -21,24 +20,18 @@ sized_at m es sized shows xs start now next r x =
     All-turn shows (λ e. length e.0 ≡ m) es xs start now next r x
     (λ k d l. subst (λ s. length s ≡ m) (get_or-map (λ e. e.0) es k d d.0 l) (sized k d.0 (subst (λ n. k < n) (sym (length-keys_of es)) l)))
 
--- ---- after an entry was inserted, or could not be
+-- ---- after units of a state were put, or could not be
 
-module _ (es fs : Units State) (s : State) (v : ℕ) where
-  pub sized_after : {A E : Type 0} (r : Result A E) (m : ℕ) → OnOk r (fs ≡ insert_entry order es s v) → OnErr r (fs ≡ es) → All (λ s. length s ≡ m) (keys_of es) → length s ≡ m → All (λ s. length s ≡ m) (keys_of fs)
-  sized_after (Ok _) m put kept h l = subst (λ es. All (λ s. length s ≡ m) (keys_of es)) (sym put) (All-keys-insert_entry order s v (λ s. length s ≡ m) es h l)
-  sized_after (Err _) m put kept h l = subst (λ es. All (λ s. length s ≡ m) (keys_of es)) (sym kept) h
+module _ (es fs : Units State) (s : State) (w : ℕ) where
+  pub sized_after : {A E : Type 0} (r : Result A E) (m : ℕ) → OnOk r (fs ≡ put es s w) → OnErr r (fs ≡ es) → 0 < w → All (λ s. length s ≡ m) (keys_of es) → length s ≡ m → All (λ s. length s ≡ m) (keys_of fs)
+  sized_after (Ok _) m put kept some h l =
+      subst (λ es. All (λ s. length s ≡ m) (keys_of es)) (sym (put ∙ put_some es s w some)) (All-keys-insert_entry order s (units_at es s + w) (λ s. length s ≡ m) es h l)
+  sized_after (Err _) m put kept some h l = subst (λ es. All (λ s. length s ≡ m) (keys_of es)) (sym kept) h
 
-  module _ (w : ℕ) (some : 0 < w) (sum : v ≡ units_at es s + w) where
-    is_put : fs ≡ insert_entry order es s v → fs ≡ put es s w
-    is_put p = p ∙ ap (insert_entry order es s) sum ∙ sym (put_some es s w some)
+  pub once_after : {A E : Type 0} (r : Result A E) → OnOk r (fs ≡ put es s w) → OnErr r (fs ≡ es) → IsMerged es → IsMerged fs
+  once_after (Ok _) put kept m = subst IsMerged (sym put) (put_merged es s w m)
+  once_after (Err _) put kept m = subst IsMerged (sym kept) m
 
-    pub once_after : {A E : Type 0} (r : Result A E) → OnOk r (fs ≡ insert_entry order es s v) → OnErr r (fs ≡ es) → IsMerged es → IsMerged fs
-    once_after (Ok _) put kept m = subst IsMerged (sym (is_put put)) (put_merged es s w m)
-    once_after (Err _) put kept m = subst IsMerged (sym kept) m
-
-    pub few_after : {A E : Type 0} (r : Result A E) → OnOk r (fs ≡ insert_entry order es s v) → OnErr r (fs ≡ es) → length es ≤ MOST_STATES → length (put es s w) ≤ MOST_STATES → length fs ≤ MOST_STATES
-    few_after (Ok _) put kept l k = let e = ap length (is_put put) in omega (arith, k)
-    few_after (Err _) put kept l k = let e = ap length kept in omega (arith, l)
-
-    pub put_after : fs ≡ insert_entry order es s v → fs ≡ put es s w
-    put_after p = is_put p
+  pub few_after : {A E : Type 0} (r : Result A E) → OnOk r (fs ≡ put es s w) → OnErr r (fs ≡ es) → length es ≤ MOST_STATES → OnOk r (length (put es s w) ≤ MOST_STATES) → length fs ≤ MOST_STATES
+  few_after (Ok _) put kept l k = let e = ap length put in omega (arith, k)
+  few_after (Err _) put kept l k = let e = ap length kept in omega (arith, l)

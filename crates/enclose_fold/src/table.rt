@@ -1,13 +1,13 @@
 // A table of states, each once, with its units.
 
-ghost use Rattle.std.specs.Prelude.{◌≡◌, ◌≤◌, ◌<◌, ◌+◌, [], ◌∷◌, length, All, OnOk, IfOk, IfErr};
+ghost use Rattle.std.specs.Prelude.{◌≡◌, ◌≤◌, ◌<◌, ◌+◌, [], ◌∷◌, length, All, OnOk, OnErr, IfOk, IfErr};
 ghost use Rattle.std.specs.BTreeMap.{keys};
 ghost use Rattle.std.proofs.Props.{props};
 ghost use Rattle.fixed_point.specs.declared.TheConstants.{ALL};
 ghost use Rattle.gcl_core.specs.meaning.Outcomes.{zeros};
 ghost use Rattle.mass_fold.specs.declared.error.MassError.TheVariants.{OutOfMemory};
 ghost use Rattle.mass_fold.specs.declared.table.TheConstants.{MOST_STATES};
-ghost use Rattle.rounding_law.specs.Merged.{IsMerged, put, units_at};
+ghost use Rattle.rounding_law.specs.Merged.{IsMerged, put};
 ghost use Rattle.rounding_law.specs.Units.{total};
 ghost use Rattle.enclose_fold.specs.inner.Refusals.{Refuses};
 
@@ -15,6 +15,7 @@ use fixed_point::ALL;
 use mass_fold::{MOST_STATES, MassError, State};
 use std::alloc::Global;
 use std::collections::BTreeMap;
+use std::collections::btree_map::Entry;
 
 /// At most as many states of `vars` variables as a table of `mass_fold` has, each once, with its units, which are above 0.
 #[derive(Drop)]
@@ -28,22 +29,30 @@ pub struct Table {
     ghost few: { length states.entries ≤ MOST_STATES },
 }
 
-// What the state holds once w units are added.
-fn sum_at(table: &BTreeMap<State, u128>, s: &State, w: u128) -> Result<u128, MassError>
+// Adds units of a state, which is looked for once where there is room for one more.
+fn put(states: &mut BTreeMap<State, u128>, s: State, w: u128) -> Result<(), MassError>
     requires some { 1 ≤ w }
-    requires within { total table.now.entries + w ≤ ALL }
-    requires once { IsMerged table.now.entries }
-    requires few { length table.now.entries ≤ MOST_STATES }
-    ensures ok { IfOk result (λ v. v ≡ units_at table.now.entries s.now + w) }
-    ensures room { IfOk result (λ v. length (put table.now.entries s.now w) ≤ MOST_STATES) }
-    ensures cause { IfErr result (λ e. Refuses e (length (put table.now.entries s.now w))) }
+    requires within { total states.old.entries + w ≤ ALL }
+    requires once { IsMerged states.old.entries }
+    requires few { length states.old.entries ≤ MOST_STATES }
+    ensures ok { OnOk result (states.new.entries ≡ put states.old.entries s w) }
+    ensures room { OnOk result (length (put states.old.entries s w) ≤ MOST_STATES) }
+    ensures same { OnErr result (states.new.entries ≡ states.old.entries) }
+    ensures cause { IfErr result (λ e. Refuses e (length (put states.old.entries s w))) }
 {
-    let count = table.len();
-    match table.get(s) {
-        Some(units) => Ok(*units + w),
-        None if count >= MOST_STATES => Err(MassError::TooManyStates),
-        None => Ok(w),
+    if states.len() >= MOST_STATES && states.get(&s).is_none() {
+        return Err(MassError::TooManyStates);
     }
+    match states.entry(s)? {
+        Entry::Occupied(mut at) => {
+            let sum = *at.get() + w;
+            at.insert(sum);
+        }
+        Entry::Vacant(at) => {
+            at.insert(w);
+        }
+    }
+    Ok(())
 }
 
 impl Table {
@@ -81,8 +90,6 @@ impl Table {
         if w == 0 {
             return Ok(());
         }
-        let sum = sum_at(&self.states, &s, w)?;
-        self.states.insert(s, sum)?;
-        Ok(())
+        put(&mut self.states, s, w)
     }
 }

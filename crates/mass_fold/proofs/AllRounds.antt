@@ -3,7 +3,7 @@ use Rattle.std.proofs.Common.{◌≡◌, ℕ, zero, suc, ◌+◌, ◌-◌, ◌*�
 use Rattle.std.proofs.Math.Nat.{pow-suc, lt_of_mul-lt-mul_left, mul-lt-mul_of_pos_right, le_of_mul-le-mul_right, mul-le-mul_left}
 use Rattle.gcl_core.specs.declared.answers.Limit.TheVariants.{Rounds}
 use Rattle.gcl_core.specs.declared.answers.Outcome.TheVariants as outcome
-use Rattle.gcl_core.specs.weighing.Fractions.{Fraction, zero_share, plus, times, power, power_sum, IsOne, IsBelowOne}
+use Rattle.gcl_core.specs.weighing.Fractions.{Fraction, zero_share, plus, times, power, power_sum, IsBelowOne}
 use Rattle.gcl_core.specs.weighing.Mass.{round_mass, failed_mass, mass_of_those}
 use Rattle.gcl_core.specs.meaning.Syntax.{SourceProgram}
 use Rattle.frac128.specs.Fraction.{InLowest, IsEqual, lowest}

@@ -1,5 +1,5 @@
 -- The states of a table: their order, and how many there are.
-use Rattle.std.proofs.Common.{◌≡◌, ℕ, ◌*◌, ◌≤◌, ◌<◌, Bool, true, false, cond, ◌||◌, Some, None, List, [], ◌∷◌, map, length, refl, sym, ap, ◌∙◌, subst, arith}
+use Rattle.std.proofs.Common.{◌≡◌, ℕ, ◌*◌, ◌≤◌, ◌<◌, Bool, true, false, cond, ◌||◌, Some, None, Result, Ok, Err, OnOk, List, [], ◌∷◌, map, length, refl, sym, ap, ◌∙◌, subst, arith}
 use Rattle.std.specs.declared.cmp.Ordering.TheVariants.{Equal}
 use Rattle.std.specs.Ordering.{int_eq, int_cmp, is_eq, eq_by_cmp}
 use Rattle.std.specs.Cmp.{IsTotalOrder, IsEquivalence, int_eq_equiv, int_cmp_total, signed_Decides}
@@ -17,8 +17,8 @@ use Rattle.gcl_core.specs.weighing.Fractions.{Fraction}
 use Rattle.mass_tables.specs.Tables.{Table, states}
 use Rattle.mass_tables.specs.Scale.{whole, Whole, amount}
 use Rattle.mass_fold.specs.Amounts.{held, AreHeld}
-use Rattle.mass_fold.specs.inner.Amounts.{Entries, PartOf, order, found}
-use Rattle.mass_fold.proofs.Insertion.{whole_pos}
+use Rattle.mass_fold.specs.inner.Amounts.{Entries, PartOf, IsPut, PutGives, order, found}
+use Rattle.mass_fold.proofs.Insertion.{whole_pos, put_gives}
 use Rattle.mass_fold.specs.declared.table.TheConstants.{MOST_STATES}
 
 abbrev pub same : State → State → Bool
@@ -99,3 +99,8 @@ put_many s f es N I h e full pos k p w within =
     above : (q : State) (b : Bool) → same q s ≡ b → (b || is_member same (keys_of es) q) ≡ true → 0 < amount N (at q) I
     above q true r m = let z = within (at q) in let y = whole_pos N f pos p w in let x = ap (λ b. whole N f * cond b 1 0) r in omega arith
     above q false r m = let z = within (at q) in let y = held_at N q es pos k m in omega arith
+
+-- a table in which the weight of a state was put holds it
+pub each_put : {A E : Type 0} (r : Result A E) (es fs : Entries) (s : State) (f : Fraction) → OnOk r (IsPut es fs s f) → OnOk r (PutGives es fs s f)
+each_put (Ok x) es fs s f put = subst (λ fs. PutGives es fs s f) (sym put.1.2) (put_gives order order_total equal_is s f put.1.0 es put.0 put.1.1)
+each_put (Err e) es fs s f put = tt

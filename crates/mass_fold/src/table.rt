@@ -1,17 +1,18 @@
 // A table of states, each once, with its weight.
 
-ghost use Rattle.std.specs.Prelude.{◌≡◌, [], ◌∷◌, length, All, OnOk, IfOk, IfErr};
+ghost use Rattle.std.specs.Prelude.{◌≡◌, [], ◌∷◌, length, All, OnOk, OnErr, IfOk, IfErr};
 ghost use Rattle.std.specs.BTreeMap.{keys};
 ghost use Rattle.std.proofs.Props.{props};
 ghost use Rattle.gcl_core.specs.meaning.Outcomes.{zeros};
 ghost use Rattle.mass_fold.specs.declared.error.MassError.TheVariants.{OutOfMemory};
-ghost use Rattle.mass_fold.specs.inner.Amounts.{PutGives, PutBlames, SumAt, order};
+ghost use Rattle.mass_fold.specs.inner.Amounts.{PutGives, PutBlames, IsPut};
 
 use crate::error::MassError;
 use crate::state::State;
 use frac128::Frac;
 use std::alloc::Global;
 use std::collections::BTreeMap;
+use std::collections::btree_map::Entry;
 
 /// The most states that a table has. With 256 variables of 8 bytes each, the states of one table take at most 128 MiB.
 pub const MOST_STATES: usize = 65_536;
@@ -26,20 +27,32 @@ pub struct Table {
     ghost sized: { All (λ s. length s ≡ vars) (keys states) } by { Prim.hlevel props },
 }
 
-// What the state weighs once f is added.
-fn sum_at(table: &BTreeMap<State, Frac>, s: &State, f: &Frac) -> Result<Frac, MassError>
-    ensures ok { IfOk result (λ v. SumAt order table.now.entries s.now f.now v) }
-    ensures cause { IfErr result (λ e. PutBlames e table.now.entries s.now f.now) }
+// Adds the weight of a state, which is looked for once where there is room for one more.
+fn put(states: &mut BTreeMap<State, Frac>, s: State, f: Frac) -> Result<(), MassError>
+    ensures ok { OnOk result (IsPut states.old.entries states.new.entries s f) }
+    ensures same { OnErr result (states.new.entries ≡ states.old.entries) }
+    ensures cause { IfErr result (λ e. PutBlames e states.old.entries s f) }
 {
-    let count = table.len();
     f.is_lowest();
-    match table.get(s) {
-        Some(g) => {
-            g.is_lowest();
-            g.add(f).ok_or(MassError::TooWide)
+    if states.len() >= MOST_STATES && states.get(&s).is_none() {
+        return Err(MassError::TooManyStates);
+    }
+    match states.entry(s)? {
+        Entry::Occupied(mut at) => {
+            let old = at.get();
+            old.is_lowest();
+            match old.add(&f) {
+                None => Err(MassError::TooWide),
+                Some(sum) => {
+                    at.insert(sum);
+                    Ok(())
+                }
+            }
         }
-        None if count >= MOST_STATES => Err(MassError::TooManyStates),
-        None => Ok(*f),
+        Entry::Vacant(at) => {
+            at.insert(f);
+            Ok(())
+        }
     }
 }
 
@@ -75,8 +88,6 @@ impl Table {
         ensures vars { self.new.vars ≡ self.old.vars }
         ensures cause { IfErr result (λ e. PutBlames e self.old.states.entries s f) }
     {
-        let sum = sum_at(&self.states, &s, &f)?;
-        self.states.insert(s, sum)?;
-        Ok(())
+        put(&mut self.states, s, f)
     }
 }

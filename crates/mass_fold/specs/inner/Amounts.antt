@@ -3,8 +3,9 @@ use Rattle.std.specs.Prelude.{◌≡◌, ℕ, ◌+◌, ◌*◌, ◌≤◌, ◌<�
 use Rattle.std.specs.declared.cmp.Ordering.{Ordering}
 use Rattle.std.specs.Ordering.{int_cmp}
 use Rattle.std.specs.Cmp.Lexicographic.{slice_cmp}
-use Rattle.std.specs.BTreeMap.{is_at}
-use Rattle.std.specs.Map.{lookup}
+use Rattle.std.specs.BTreeMap.{insert_entry, is_at}
+use Rattle.std.specs.List.Sorted.{IsStrictlySortedBy}
+use Rattle.std.specs.Map.{keys_of, lookup}
 use Rattle.frac128.specs.Fraction.{sum_of, Overfills}
 use Rattle.gcl_core.specs.meaning.Value.{State}
 use Rattle.gcl_core.specs.weighing.Fractions.{Fraction}
@@ -35,6 +36,10 @@ found order k es = lookup (is_at (order k)) es
 -- what a key weighs once f is added
 abbrev pub SumAt : {K : Type 0} → (K → K → Ordering) → List (K × Fraction) → K → Fraction → Fraction → Type 0
 SumAt order es k f v = MatchOption (found order k es) (v ≡ f) (λ g. sum_of g f ≡ Some v)
+
+-- fs is es, whose keys are in order, once the weight f of a state was added
+abbrev pub IsPut : Entries → Entries → State → Fraction → Type 0
+IsPut es fs s f = IsStrictlySortedBy order (keys_of es) × ((v : Fraction) × SumAt order es s f v × (fs ≡ insert_entry order es s v))
 
 -- after the weight f of a key was added
 abbrev pub PutGives : {K : Type 0} → List (K × Fraction) → List (K × Fraction) → K → Fraction → Type 0
