@@ -9,7 +9,7 @@ use std::alloc::AllocError;
 use std::marker::Model;
 
 // The values from 0 up to but not including this one are small.
-const SMALL_VALUES: usize = 64;
+const SMALL_VALUES: usize = 1024;
 
 // How many runs ended with each small value.
 #[derive(Drop)]

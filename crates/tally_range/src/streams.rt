@@ -37,6 +37,7 @@ fn count_key(small: &mut SmallCounts, table: &mut Tally, key: TallyKey) -> Resul
 pub(crate) fn count_streams<'s>(
     state: &mut State<'s>,
     home: &State<'s>,
+    small: &mut SmallCounts,
     table: &mut Tally,
     range: &SeedRange,
     first: u64,
@@ -45,26 +46,28 @@ pub(crate) fn count_streams<'s>(
     requires home { IsHome home.now state.old }
     requires range { IsRange range.now }
     requires order { first ≤ end }
-    requires fits { (key : TallyKey) → count_in table.old key + (end - first) < 2 ^ 64 }
+    requires fits { (key : TallyKey) → count_in table.old key + count_in small.old key + (end - first) < 2 ^ 64 }
     ensures counted { IfOk result (λ _. (run : List Bool → Answer) → IsRestOf (set_back state.old) run → (key : TallyKey) →
-        count_in table.new key ≡ count_in table.old key + count_over run range.now.seed range.now.budget first end key) }
-    ensures few { IfOk result (λ _. (key : TallyKey) → count_in table.new key ≤ count_in table.old key + (end - first)) }
+        count_in table.new key + count_in small.new key
+        ≡ count_in table.old key + count_in small.old key + count_over run range.now.seed range.now.budget first end key) }
+    ensures few { IfOk result (λ _. (key : TallyKey) →
+        count_in table.new key + count_in small.new key ≤ count_in table.old key + count_in small.old key + (end - first)) }
     ensures same_start { set_back state.new ≡ set_back state.old }
 {
-    let mut small = SmallCounts::new();
     let mut at = first;
     while at < end {
         let key = run_on_stream(state, home, range.seed, at, range.budget);
-        count_key(&mut small, table, key)?;
+        count_key(small, table, key)?;
         at += 1;
     }
-    small.add_to(table)
+    Ok(())
 }
 
 // Runs on the streams of a block, and counts the keys of the runs. An error comes only where memory runs out.
 pub(crate) fn count_block<'s>(
     state: &mut State<'s>,
     home: &State<'s>,
+    small: &mut SmallCounts,
     table: &mut Tally,
     range: &SeedRange,
     block: u64,
@@ -72,12 +75,22 @@ pub(crate) fn count_block<'s>(
     requires home { IsHome home.now state.old }
     requires range { IsRange range.now }
     requires block { block < blocks_over range.now.from range.now.to }
-    requires fits { (key : TallyKey) → count_in table.old key + STREAMS_OF_A_BLOCK < 2 ^ 64 }
+    requires fits { (key : TallyKey) → count_in table.old key + count_in small.old key + STREAMS_OF_A_BLOCK < 2 ^ 64 }
     ensures counted { IfOk result (λ _. (run : List Bool → Answer) → IsRestOf (set_back state.old) run → (key : TallyKey) →
-        count_in table.new key ≡ count_in table.old key + count_block run range.now key block) }
-    ensures few { IfOk result (λ _. (key : TallyKey) → count_in table.new key ≤ count_in table.old key + STREAMS_OF_A_BLOCK) }
+        count_in table.new key + count_in small.new key
+        ≡ count_in table.old key + count_in small.old key + count_block run range.now key block) }
+    ensures few { IfOk result (λ _. (key : TallyKey) →
+        count_in table.new key + count_in small.new key ≤ count_in table.old key + count_in small.old key + STREAMS_OF_A_BLOCK) }
     ensures same_start { set_back state.new ≡ set_back state.old }
 {
     let first = range.first_stream(block);
-    count_streams(state, home, table, range, first, range.end_of_block(first))
+    count_streams(
+        state,
+        home,
+        small,
+        table,
+        range,
+        first,
+        range.end_of_block(first),
+    )
 }

@@ -10,6 +10,7 @@ ghost use Rattle.tally_range.specs.Shares.{IsReady, IsCounted, pass_of};
 ghost use Rattle.tally_range.specs.inner.Worked.{IsWorked};
 
 use crate::share::{Entry, Share};
+use crate::small_counts::SmallCounts;
 use crate::streams::count_block;
 use claim_board::Board;
 use gcl_core::Limits;
@@ -39,11 +40,19 @@ pub fn work<G: Gate>(
 {
     let home = s.start(share.alloc, l)?;
     let mut state = home.fork(share.alloc)?;
+    let mut small = SmallCounts::new();
     while let Some(block) = board.claim(&mut share.pass) {
         gate.entered(block);
-        count_block(&mut state, &home, &mut share.table, range, block)?;
+        count_block(
+            &mut state,
+            &home,
+            &mut small,
+            &mut share.table,
+            range,
+            block,
+        )?;
     }
-    Ok(())
+    small.add_to(&mut share.table)
 }
 
 fn work_entry<G: Gate>(board: &Board, job: &Job<'_, G>, entry: &mut Entry)

@@ -10,8 +10,8 @@ loop-at-init c = (
   omega arith,
   c.requires.order,
   refl,
-  λ run is key. let none = c.new-small.ensures key in let z = count_none run c.args.range.now.seed c.args.range.now.budget c.args.first key in omega arith,
-  λ key. let none = c.new-small.ensures key in omega arith,
+  λ run is key. let z = count_none run c.args.range.now.seed c.args.range.now.budget c.args.first key in omega arith,
+  λ key. omega arith,
 )
 
 pub run_on_stream-key-requires-clause-home : goal.run_on_stream-key-requires-clause-home

@@ -11,8 +11,8 @@ abbrev pub invariant-loop-at : goal.invariant-loop-at
 invariant-loop-at l = (l.first ≤ l.at) × (l.at ≤ l.end)
     × (set_back l.state ≡ set_back l.initial.state)
     × ((run : List Bool → Answer) → IsRestOf (set_back l.initial.state) run → (key : TallyKey) →
-    count_in l.table key + count_in l.small key ≡ count_in l.initial.table key + count_over run l.range.seed l.range.budget l.first l.at key)
-    × ((key : TallyKey) → count_in l.table key + count_in l.small key ≤ count_in l.initial.table key + (l.at - l.first))
+    count_in l.table key + count_in l.small key ≡ count_in l.initial.table key + count_in l.initial.small key + count_over run l.range.seed l.range.budget l.first l.at key)
+    × ((key : TallyKey) → count_in l.table key + count_in l.small key ≤ count_in l.initial.table key + count_in l.initial.small key + (l.at - l.first))
 
 abbrev pub decreases-loop-at : goal.decreases-loop-at
 decreases-loop-at l = l.end - l.at

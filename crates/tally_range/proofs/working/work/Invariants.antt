@@ -1,4 +1,4 @@
-use Rattle.std.proofs.Common.{◌≡◌, ◌-◌, ◌*◌, ◌≤◌, Bool, List, false}
+use Rattle.std.proofs.Common.{◌≡◌, ◌+◌, ◌-◌, ◌*◌, ◌≤◌, Bool, List, false}
 use Rattle.gcl_core.specs.declared.answers.Answer.{Answer}
 use Rattle.gcl_core.specs.declared.answers.TallyKey.{TallyKey}
 use Rattle.passes.specs.Total.{total}
@@ -16,8 +16,8 @@ abbrev pub invariant-loop-block : goal.invariant-loop-block
 invariant-loop-block g l = IsPassOf l.board (pass_of l.share) × IsSamePass (pass_of l.initial.share) (pass_of l.share) × (had_none (pass_of l.share) ≡ false)
     × (top (dealt_to (pass_of l.share)) ≤ blocks_of l.board)
     × (set_back l.state ≡ run_begun l.s l.l)
-    × ((run : List Bool → Answer) → IsRunOf l.s l.l run → (key : TallyKey) → count_in (table_of l.share) key ≡ total (count_block run l.range key) (dealt_to (pass_of l.share)))
-    × ((key : TallyKey) → count_in (table_of l.share) key ≤ STREAMS_OF_A_BLOCK * top (dealt_to (pass_of l.share)))
+    × ((run : List Bool → Answer) → IsRunOf l.s l.l run → (key : TallyKey) → count_in (table_of l.share) key + count_in l.small key ≡ total (count_block run l.range key) (dealt_to (pass_of l.share)))
+    × ((key : TallyKey) → count_in (table_of l.share) key + count_in l.small key ≤ STREAMS_OF_A_BLOCK * top (dealt_to (pass_of l.share)))
 
 -- each block is above those before it
 abbrev pub decreases-loop-block : goal.decreases-loop-block
