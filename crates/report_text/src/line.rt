@@ -1,6 +1,6 @@
 // A line in a fixed buffer.
 
-ghost use Rattle.std.specs.Prelude.{◌≡◌, ◌+◌, ◌≤◌, ◌++◌, [], length};
+ghost use Rattle.std.specs.Prelude.{◌≡◌, ◌+◌, ◌≤◌, ◌++◌, [], ◌∷◌, length};
 ghost use Rattle.report_text.specs.Lines.{fraction_text};
 ghost use Rattle.report_text.specs.declared.line.TheConstants as rule;
 
@@ -47,6 +47,17 @@ impl Line {
     {
         let mut line = Line::new();
         line.push(text);
+        line
+    }
+
+    // A line of this text, and a fraction behind it.
+    pub(crate) fn of_fraction(front: &[u8], f: &Frac) -> Line
+        requires { length front.now + 82 ≤ rule.LINE_BYTES }
+        ensures { result ≡ front.now ++ fraction_text f.now ++ 10 ∷ [] }
+    {
+        let mut line = Line::of(front);
+        line.push_fraction(f);
+        line.push(b"\n");
         line
     }
 

@@ -36,20 +36,12 @@ pub fn roll_line(roll: &Roll) -> Line
 pub fn each_line(weight: &Frac) -> Line
     ensures { result ≡ each_text weight.now }
 {
-    let mut line = Line::new();
-    line.push(b"each mass ");
-    line.push_fraction(weight);
-    line.push(b"\n");
-    line
+    Line::of_fraction(b"each mass ", weight)
 }
 
 /// The line of the weight that a roll leaves to the limit of flips, a fraction in lowest terms. It takes no memory.
 pub fn flips_line(weight: &Frac) -> Line
     ensures { result ≡ flips_text weight.now }
 {
-    let mut line = Line::new();
-    line.push(b"limit flips mass ");
-    line.push_fraction(weight);
-    line.push(b"\n");
-    line
+    Line::of_fraction(b"limit flips mass ", weight)
 }

@@ -36,33 +36,21 @@ pub fn bound_line(outcome: &Outcome, low: &Frac, high: &Frac) -> Line
 pub fn other_line(high: &Frac) -> Line
     ensures { result ≡ other_text high.now }
 {
-    let mut line = Line::new();
-    line.push(b"other from 0/1 to ");
-    line.push_fraction(high);
-    line.push(b"\n");
-    line
+    Line::of_fraction(b"other from 0/1 to ", high)
 }
 
 /// The line of the share of the bit strings on which a run needs more, a fraction in lowest terms. It takes no memory.
 pub fn undecided_line(share: &Frac) -> Line
     ensures { result ≡ undecided_text share.now }
 {
-    let mut line = Line::new();
-    line.push(b"undecided mass ");
-    line.push_fraction(share);
-    line.push(b"\n");
-    line
+    Line::of_fraction(b"undecided mass ", share)
 }
 
 /// The line of the mass with which a program runs for ever, a fraction in lowest terms. It takes no memory.
 pub fn endless_line(mass: &Frac) -> Line
     ensures { result ≡ endless_text mass.now }
 {
-    let mut line = Line::new();
-    line.push(b"endless mass ");
-    line.push_fraction(mass);
-    line.push(b"\n");
-    line
+    Line::of_fraction(b"endless mass ", mass)
 }
 
 /// The line of an expected number of bits, a fraction in lowest terms. It takes no memory.
