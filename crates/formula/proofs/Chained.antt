@@ -6,10 +6,11 @@ use Rattle.gcl_core.specs.meaning.Syntax.{Expression}
 use Rattle.gcl_core.specs.meaning.Syntax as source
 use Rattle.gcl_core.specs.meaning.Value.{State, Value, ◌>>=◌, truth_number, is_zero, value_of, applied, ExpressionBelow}
 use Rattle.gcl_core.specs.declared.syntax.BinOp.TheVariants.{And, Or}
+use Rattle.formula.specs.declared.op.Condition.{Condition}
+use Rattle.formula.specs.declared.op.Condition.TheVariants.{Joined, Remainder}
 use Rattle.formula.specs.declared.op.Test.{Test}
-use Rattle.formula.specs.ShortTerms.{joined_value}
-use Rattle.formula.specs.Chains.{link, settles_at, settled_by, chain_value, ChainReads, TestOf, truth_value, AreTestsOf, IsLinked, IsChain}
-use Rattle.formula.proofs.TermValues.{term_reads, joined_values}
+use Rattle.formula.specs.Chains.{link, settles_at, settled_by, condition_value, ConditionReads, ConditionOf, chain_value, ChainReads, TestOf, truth_value, AreTestsOf, IsLinked, IsChain}
+use Rattle.formula.proofs.TermValues.{joined_below, joined_values}
 
 -- ---- values
 
@@ -43,16 +44,22 @@ last_opposite false (negsuc n) = refl
 
 -- ---- one test
 
+condition_reads : (c : Condition) (e : Expression) (count : ℕ) → ConditionOf c e → ExpressionBelow e count → ConditionReads c count
+condition_reads (Joined op t u) e count h r = joined_below op t u e count h r
+condition_reads (Remainder x k n) e count h r = ((subst (λ e. ExpressionBelow e count) h.1 r).0.0, h.0)
+
+condition_is : (c : Condition) (e : Expression) (vars : State) → ConditionOf c e → condition_value c vars ≡ value_of e vars
+condition_is (Joined op t u) e vars h = joined_values op t u e vars h
+condition_is (Remainder x k n) e vars h = ap (λ e. value_of e vars) (sym h.1)
+
 module _ (settles : Bool) (t : Test) (e : Expression) (h : TestOf settles t e) where
   test_reads : (count : ℕ) → ExpressionBelow e count → ChainReads (t ∷ []) count
-  test_reads count r =
-      let both = subst (λ e. ExpressionBelow e count) h.expression r in
-      (term_reads t.left count both.0, term_reads t.right count both.1, tt)
+  test_reads count r = (condition_reads t.condition e count h.condition r, tt)
 
   test_value : (settled : Bool) (vars : State) → chain_value settled (t ∷ []) vars ≡ (value_of e vars >>= last settled settles)
   test_value settled vars =
-      ap (λ truth. joined_value t.op t.left t.right vars >>= last settled truth) h.settles_at
-      ∙ ap (λ v. v >>= last settled settles) (joined_values t.op t.left t.right vars h.plain h.left h.right ∙ ap (λ e. value_of e vars) (sym h.expression))
+      ap (λ truth. condition_value t.condition vars >>= last settled truth) h.settles_at
+      ∙ ap (λ v. v >>= last settled settles) (condition_is t.condition e vars h.condition)
 
 pub one_test : (settled : Bool) (t : Test) (e : Expression) → TestOf settled t e → AreTestsOf settled (t ∷ []) e
 one_test settled t e h = record {
@@ -92,15 +99,15 @@ append_value : (settled : Bool) (xs ys : List Test) (vars : State) →
 append_value settled [] ys vars = sym (behind_first settled (chain_value settled ys vars))
 append_value settled (t ∷ xs) ys vars =
     let next = chain_value settled ys vars in
-    bind_same (joined_value t.op t.left t.right vars)
+    bind_same (condition_value t.condition vars)
     (λ v. if settles_at t.settles v then Ok (truth_number settled) else chain_value settled (xs ++ ys) vars)
     (λ v. (if settles_at t.settles v then Ok (truth_number settled) else chain_value settled xs vars) >>= behind settled next)
     (λ v. behind_test settled next (chain_value settled xs vars) (chain_value settled (xs ++ ys) vars) (settles_at t.settles v) (append_value settled xs ys vars))
-    ∙ bind_bind (joined_value t.op t.left t.right vars) (λ v. if settles_at t.settles v then Ok (truth_number settled) else chain_value settled xs vars) (behind settled next)
+    ∙ bind_bind (condition_value t.condition vars) (λ v. if settles_at t.settles v then Ok (truth_number settled) else chain_value settled xs vars) (behind settled next)
 
 append_reads : (xs ys : List Test) (count : ℕ) → ChainReads xs count → ChainReads ys count → ChainReads (xs ++ ys) count
 append_reads [] ys count h i = i
-append_reads (t ∷ xs) ys count h i = (h.0, h.1, append_reads xs ys count h.2 i)
+append_reads (t ∷ xs) ys count h i = (h.0, append_reads xs ys count h.1 i)
 
 -- what `and` and `or` give on two values
 abbrev linked : Bool → Value → Value → Value
@@ -222,18 +229,18 @@ module _ (settled : Bool) (t : Test) (rest : List Test) (vars : State) where
     here : chain_value settled (t ∷ rest) vars ≡ all
     here = ap (λ l. chain_value settled l vars) (sym at) ∙ same
 
-    pub first_settles : (b : Bool) → Ok b ≡ settled_by t.settles (joined_value t.op t.left t.right vars) → b ≡ true → Ok (truth_number settled) ≡ all
+    pub first_settles : (b : Bool) → Ok b ≡ settled_by t.settles (condition_value t.condition vars) → b ≡ true → Ok (truth_number settled) ≡ all
     first_settles b h is =
         ap (λ b. if b then Ok (truth_number settled) else chain_value settled rest vars) (sym is)
-        ∙ sym (tried (joined_value t.op t.left t.right vars) (chain_value settled rest vars) t.settles b h) ∙ here
+        ∙ sym (tried (condition_value t.condition vars) (chain_value settled rest vars) t.settles b h) ∙ here
 
-    pub first_passes : (b : Bool) → Ok b ≡ settled_by t.settles (joined_value t.op t.left t.right vars) → b ≡ false → chain_value settled rest vars ≡ all
+    pub first_passes : (b : Bool) → Ok b ≡ settled_by t.settles (condition_value t.condition vars) → b ≡ false → chain_value settled rest vars ≡ all
     first_passes b h is =
         ap (λ b. if b then Ok (truth_number settled) else chain_value settled rest vars) (sym is)
-        ∙ sym (tried (joined_value t.op t.left t.right vars) (chain_value settled rest vars) t.settles b h) ∙ here
+        ∙ sym (tried (condition_value t.condition vars) (chain_value settled rest vars) t.settles b h) ∙ here
 
-    pub first_fails : (fault : Fault) → Err fault ≡ settled_by t.settles (joined_value t.op t.left t.right vars) → Err fault ≡ all
-    first_fails fault h = failed (joined_value t.op t.left t.right vars) (chain_value settled rest vars) t.settles fault h ∙ here
+    pub first_fails : (fault : Fault) → Err fault ≡ settled_by t.settles (condition_value t.condition vars) → Err fault ≡ all
+    first_fails fault h = failed (condition_value t.condition vars) (chain_value settled rest vars) t.settles fault h ∙ here
 
 pub rest_reads : (tests : List Test) (t : Test) (rest : List Test) (count : ℕ) → tests ≡ t ∷ rest → ChainReads tests count → ChainReads rest count
-rest_reads tests t rest count at h = (subst (λ l. ChainReads l count) at h).2
+rest_reads tests t rest count at h = (subst (λ l. ChainReads l count) at h).1

@@ -16,12 +16,12 @@ use Rattle.formula.specs.declared.op.Form.TheVariants.{Plus, Less, Equal, On, Jo
 use Rattle.formula.specs.declared.op.Form.TheVariants as form
 use Rattle.formula.specs.Steps.{steps_of, depth}
 use Rattle.formula.specs.ReadBack.{expression_in}
-use Rattle.formula.specs.ShortTerms.{term_steps, term_expression, IsTerm, term_depth, TermReads, term_value, joined_value, on}
+use Rattle.formula.specs.ShortTerms.{term_steps, term_expression, IsTerm, term_depth, TermReads, term_value, joined_value, JoinedOf, on}
 use Rattle.formula.specs.Forms.{form_steps, form_depth, TermOf, FormOf}
 use Rattle.formula.specs.declared.op.Test.{Test}
 use Rattle.formula.specs.Chains.{chain_value, ChainReads, IsChain}
 use Rattle.formula.proofs.ReadingBack.{stands_for}
-use Rattle.formula.proofs.TermValues.{term_writes, term_deep, term_reads, term_values, joined_writes, joined_values}
+use Rattle.formula.proofs.TermValues.{term_writes, term_deep, term_reads, term_values, joined_writes, joined_below, joined_values}
 use Rattle.formula.proofs.Slots.{small_back}
 use Rattle.formula.proofs.Written.{plain_by}
 
@@ -122,19 +122,17 @@ module _ (f : Form) (e : Expression) (h : FormOf f e) (s : List Op) (view : form
   pub short_value : (t : Term) (vars : State) → term_in f ≡ Some t → term_value t vars ≡ value_of (expression_in s) vars
   short_value t vars is = term_values t vars (short_is t is).0 ∙ ap (λ e. value_of e vars) (short_is t is).1
 
-  joined_form : (op : BinOp) (t u : Term) → f ≡ Joined op t u → FormOf (Joined op t u) e
+  joined_form : (op : BinOp) (t u : Term) → f ≡ Joined op t u → JoinedOf op t u e
   joined_form op t u is = subst (λ f. FormOf f e) is h
 
   pub joined_is : (op : BinOp) (t u : Term) → f ≡ Joined op t u → expression_in s ≡ source.Bin op (term_expression t) (term_expression u)
   joined_is op t u is = stands ∙ (joined_form op t u is).3
 
   pub joined_reads : (op : BinOp) (t u : Term) (n : ℕ) → f ≡ Joined op t u → ExpressionBelow (expression_in s) n → TermReads t n × TermReads u n
-  joined_reads op t u n is r = let both = subst (λ e. ExpressionBelow e n) (joined_is op t u is) r in (term_reads t n both.0, term_reads u n both.1)
+  joined_reads op t u n is r = joined_below op t u e n (joined_form op t u is) (subst (λ e. ExpressionBelow e n) stands r)
 
   pub joined_value_in : (op : BinOp) (t u : Term) (vars : State) → f ≡ Joined op t u → joined_value op t u vars ≡ value_of (expression_in s) vars
-  joined_value_in op t u vars is =
-      let g = joined_form op t u is in
-      joined_values op t u vars g.0 g.1 g.2 ∙ ap (λ e. value_of e vars) (sym (joined_is op t u is))
+  joined_value_in op t u vars is = joined_values op t u e vars (joined_form op t u is) ∙ ap (λ e. value_of e vars) (sym stands)
 
   chain_form : (steps : Vec Op) (n : ℕ) (tests : Vec Test) (settled : Bool) → f ≡ Chain steps n tests settled → IsChain settled tests.items (expression_in s)
   chain_form steps n tests settled is = subst (λ e. IsChain settled tests.items e) (sym stands) (subst (λ f. FormOf f e) is h).2

@@ -1,5 +1,5 @@
 -- What terms, and one operator on two of them, stand for.
-use Rattle.std.proofs.Common.{◌≡◌, ℕ, ◌+◌, [], ◌∷◌, ◌++◌, refl, sym, ap, ◌∙◌}
+use Rattle.std.proofs.Common.{◌≡◌, ℕ, ◌+◌, [], ◌∷◌, ◌++◌, refl, sym, ap, ◌∙◌, subst}
 use Rattle.gcl_core.specs.declared.syntax.BinOp.{BinOp}
 use Rattle.gcl_core.specs.declared.syntax.BinOp.TheVariants.{And, Or}
 use Rattle.gcl_core.specs.meaning.Value.{State, value_of, ◌>>=◌, applied, ExpressionBelow}
@@ -10,7 +10,7 @@ use Rattle.formula.specs.declared.op.Atom.TheVariants.{Num, Var}
 use Rattle.formula.specs.declared.op.Term.{Term}
 use Rattle.formula.specs.declared.op.Term.TheVariants.{One, Two}
 use Rattle.formula.specs.Steps.{settling, steps_between, joining, step_count, steps_at, steps_of, depth}
-use Rattle.formula.specs.ShortTerms.{term_steps, term_expression, IsTerm, term_depth, TermReads, term_value, joined_steps, joined_value}
+use Rattle.formula.specs.ShortTerms.{term_steps, term_expression, IsTerm, term_depth, TermReads, term_value, joined_steps, joined_value, JoinedOf}
 use Rattle.formula.proofs.Written.{Plain}
 
 -- ---- terms
@@ -72,9 +72,13 @@ joined_writes op t u p i k =
     ∙ ap (λ o. steps_at a 0 ++ (steps_at b j ++ o ∷ [])) (sym p.joining)
     ∙ ap (λ m. steps_at a 0 ++ (m ++ (steps_at b j ++ joining op ∷ []))) (sym (p.settling end))
 
-pub joined_values : (op : BinOp) (t u : Term) (vars : State) → settling op 0 ≡ [] → IsTerm t → IsTerm u →
-    joined_value op t u vars ≡ value_of (source.Bin op (term_expression t) (term_expression u)) vars
-joined_values op t u vars h i k =
-    ap (λ v. v >>= λ x. (term_value u vars >>= λ y. applied op x y)) (term_values t vars i)
-    ∙ ap (λ w. value_of (term_expression t) vars >>= λ x. (w >>= λ y. applied op x y)) (term_values u vars k)
-    ∙ value_of_plain op (term_expression t) (term_expression u) vars h
+pub joined_below : (op : BinOp) (t u : Term) (e : Expression) (n : ℕ) → JoinedOf op t u e → ExpressionBelow e n → TermReads t n × TermReads u n
+joined_below op t u e n h r =
+    let both = subst (λ e. ExpressionBelow e n) h.3 r in (term_reads t n both.0, term_reads u n both.1)
+
+pub joined_values : (op : BinOp) (t u : Term) (e : Expression) (vars : State) → JoinedOf op t u e → joined_value op t u vars ≡ value_of e vars
+joined_values op t u e vars h =
+    ap (λ v. v >>= λ x. (term_value u vars >>= λ y. applied op x y)) (term_values t vars h.1)
+    ∙ ap (λ w. value_of (term_expression t) vars >>= λ x. (w >>= λ y. applied op x y)) (term_values u vars h.2)
+    ∙ value_of_plain op (term_expression t) (term_expression u) vars h.0
+    ∙ ap (λ e. value_of e vars) (sym h.3)

@@ -1,14 +1,17 @@
--- Chains: `and` or `or` of tests, each of which is one operator on two terms or the opposite of that.
-use Rattle.std.specs.Prelude.{◌≡◌, ℕ, ℤ, Bool, true, false, not, List, [], ◌∷◌, Result, Ok, Err, if◌then◌else◌}
+-- Chains: `and` or `or` of tests, each of which is one operator on two terms or the opposite of that. One that asks for a
+-- variable's remainder has a form of its own.
+use Rattle.std.specs.Prelude.{◌≡◌, ℕ, ℤ, pos, ◌<ℤ◌, Bool, true, false, not, List, [], ◌∷◌, Result, Ok, Err, if◌then◌else◌}
 use Rattle.gcl_core.specs.declared.answers.Fault.{Fault}
 use Rattle.gcl_core.specs.declared.syntax.BinOp.{BinOp}
-use Rattle.gcl_core.specs.declared.syntax.BinOp.TheVariants.{And, Or}
+use Rattle.gcl_core.specs.declared.syntax.BinOp.TheVariants.{Rem, Eq, And, Or}
 use Rattle.gcl_core.specs.meaning.Syntax.{Expression}
 use Rattle.gcl_core.specs.meaning.Syntax as source
-use Rattle.gcl_core.specs.meaning.Value.{State, Value, ◌>>=◌, truth_number, is_zero, value_of, ExpressionBelow}
+use Rattle.gcl_core.specs.meaning.Value.{State, Value, ◌>>=◌, truth_number, is_zero, value_of, applied, ExpressionBelow}
+use Rattle.formula.specs.declared.op.Atom.TheVariants.{Var}
+use Rattle.formula.specs.declared.op.Condition.{Condition}
+use Rattle.formula.specs.declared.op.Condition.TheVariants.{Joined, Remainder}
 use Rattle.formula.specs.declared.op.Test.{Test}
-use Rattle.formula.specs.ShortTerms.{term_expression, IsTerm, TermReads, joined_value}
-use Rattle.formula.specs.Steps.{settling}
+use Rattle.formula.specs.ShortTerms.{AtomReads, atom_value, TermReads, joined_value, JoinedOf}
 
 -- the operator of the chain that this truth settles
 abbrev pub link : Bool → BinOp
@@ -28,23 +31,34 @@ abbrev pub as_value : Result Bool Fault → Value
 as_value (Ok truth) = Ok (truth_number truth)
 as_value (Err fault) = Err fault
 
+abbrev pub condition_value : Condition → State → Value
+condition_value (Joined op t u) vars = joined_value op t u vars
+condition_value (Remainder x k n) vars = applied Rem (atom_value (Var x) vars) k >>= λ r. applied Eq r n
+
+abbrev pub ConditionReads : Condition → ℕ → Type 0
+ConditionReads (Joined op t u) count = TermReads t count × TermReads u count
+ConditionReads (Remainder x k n) count = AtomReads (Var x) count × (pos 0 <ℤ k)
+
+-- a condition and the expression that it is
+abbrev pub ConditionOf : Condition → Expression → Type 0
+ConditionOf (Joined op t u) e = JoinedOf op t u e
+ConditionOf (Remainder x k n) e =
+    (pos 0 <ℤ k) × (e ≡ source.Bin Eq (source.Bin Rem (source.Var x) (source.Num k)) (source.Num n))
+
 -- the truth that settles it where a test does, and else the other
 abbrev pub chain_value : Bool → List Test → State → Value
 chain_value settled [] vars = Ok (truth_number (not settled))
-chain_value settled (t ∷ tests) vars = joined_value t.op t.left t.right vars
+chain_value settled (t ∷ tests) vars = condition_value t.condition vars
     >>= λ v. if settles_at t.settles v then Ok (truth_number settled) else chain_value settled tests vars
 
 abbrev pub ChainReads : List Test → ℕ → Type 0
 ChainReads [] count = Unit {0}
-ChainReads (t ∷ tests) count = TermReads t.left count × TermReads t.right count × ChainReads tests count
+ChainReads (t ∷ tests) count = ConditionReads t.condition count × ChainReads tests count
 
 -- a test that this truth settles, and the expression that it is
 pub record TestOf (settles : Bool) (t : Test) (e : Expression) : Type 0 where
   pub settles_at : t.settles ≡ settles
-  pub plain : settling t.op 0 ≡ []
-  pub left : IsTerm t.left
-  pub right : IsTerm t.right
-  pub expression : e ≡ source.Bin t.op (term_expression t.left) (term_expression t.right)
+  pub condition : ConditionOf t.condition e
 
 -- the number of the truth of a value
 abbrev pub truth_value : Value → Value

@@ -1,8 +1,7 @@
 -- Forms, as steps, and the expressions that they are of.
-use Rattle.std.specs.Prelude.{◌≡◌, ℕ, List, [], IsTrue, ◌+◌, max}
+use Rattle.std.specs.Prelude.{◌≡◌, ℕ, List, IsTrue, ◌+◌, max}
 use Rattle.gcl_core.specs.declared.syntax.BinOp.TheVariants.{Add, Lt, Eq}
 use Rattle.gcl_core.specs.meaning.Syntax.{Expression}
-use Rattle.gcl_core.specs.meaning.Syntax as source
 use Rattle.gcl_core.specs.meaning.Value.{fits_64}
 use Rattle.formula.specs.declared.op.Op.{Op}
 use Rattle.formula.specs.declared.op.Atom.TheVariants.{Num, Var}
@@ -11,8 +10,8 @@ use Rattle.formula.specs.declared.op.Term.TheVariants.{One}
 use Rattle.formula.specs.declared.op.Form.{Form}
 use Rattle.formula.specs.declared.op.Form.TheVariants.{Plus, Less, Equal, On, Joined, Long, Chain}
 use Rattle.formula.specs.declared.op.Form.TheVariants as form
-use Rattle.formula.specs.ShortTerms.{term_steps, term_expression, IsTerm, term_depth, joined_steps, on}
-use Rattle.formula.specs.Steps.{steps_of, depth, settling}
+use Rattle.formula.specs.ShortTerms.{term_steps, term_expression, IsTerm, term_depth, joined_steps, JoinedOf, on}
+use Rattle.formula.specs.Steps.{steps_of, depth}
 use Rattle.formula.specs.Chains.{IsChain}
 
 abbrev pub form_steps : Form → List Op
@@ -50,7 +49,6 @@ FormOf (Plus x a) e = TermOf (on Add x a) e
 FormOf (Less x a) e = TermOf (on Lt x a) e
 FormOf (Equal x a) e = TermOf (on Eq x a) e
 FormOf (On op x a) e = TermOf (on op x a) e
-FormOf (Joined op t u) e =
-    (settling op 0 ≡ []) × IsTerm t × IsTerm u × (e ≡ source.Bin op (term_expression t) (term_expression u))
+FormOf (Joined op t u) e = JoinedOf op t u e
 FormOf (Long steps n) e = (steps.items ≡ steps_of e) × (n ≡ depth e)
 FormOf (Chain steps n tests settled) e = (steps.items ≡ steps_of e) × (n ≡ depth e) × IsChain settled tests.items e

@@ -61,6 +61,11 @@ joined_steps op t u = term_steps t ++ (term_steps u ++ Bin op ∷ [])
 abbrev pub joined_value : BinOp → Term → Term → State → Value
 joined_value op t u vars = term_value t vars >>= λ x. (term_value u vars >>= λ y. applied op x y)
 
+-- one operator, neither `and` nor `or`, on two terms and the expression that it is
+abbrev pub JoinedOf : BinOp → Term → Term → Expression → Type 0
+JoinedOf op t u e =
+    (settling op 0 ≡ []) × IsTerm t × IsTerm u × (e ≡ source.Bin op (term_expression t) (term_expression u))
+
 -- one operator on a variable and an atom
 abbrev pub on : BinOp → ℕ → Atom → Term
 on op x a = Two op (Var x) a

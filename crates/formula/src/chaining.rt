@@ -1,13 +1,14 @@
 // Chains of tests: from an expression, and their values.
 
-ghost use Rattle.std.specs.Prelude.{◌≡◌, ◌<◌, ◌++◌, ◌∷◌, [], length, List, IfOk, IfSome, IsTrue};
+ghost use Rattle.std.specs.Prelude.{◌≡◌, ◌<◌, ◌++◌, ◌∷◌, [], length, List, Ok, IfOk, IfSome, IsTrue};
+ghost use Rattle.gcl_core.specs.meaning.Value.{truth_number};
 ghost use Rattle.gcl_core.specs.meaning.Views.{expression_of};
-ghost use Rattle.formula.specs.ShortTerms.{joined_value, TermReads};
-ghost use Rattle.formula.specs.Chains.{link, settles_at, settled_by, as_value, chain_value, ChainReads, TestOf, AreTestsOf, IsLinked, IsChain};
+ghost use Rattle.formula.specs.Chains.{link, settles_at, settled_by, as_value, condition_value, ConditionReads, ConditionOf, chain_value, ChainReads, TestOf, AreTestsOf, IsLinked, IsChain};
+ghost use Rattle.formula.specs.declared.op.Condition.TheVariants.{Remainder};
 ghost use Rattle.formula.specs.declared.op.Test.{Test};
 ghost use Rattle.formula.specs.inner.OnStack.{Leaves};
 
-use crate::op::{Form, Test};
+use crate::op::{Atom, Condition, Form, Term, Test};
 use crate::terms::value_of_term;
 use crate::writing::joined_of;
 use gcl_core::{BinOp, Expr, Fault};
@@ -24,22 +25,34 @@ fn is_link(op: BinOp, settled: bool) -> bool
     }
 }
 
+// The condition that an expression is, in its shorter form where it has one.
+fn condition_of(e: &Expr) -> Option<Condition>
+    ensures { IfSome result (λ c. ConditionOf c (expression_of e.now)) }
+{
+    match joined_of(e) {
+        Some(
+            Form::Joined(
+                BinOp::Eq,
+                Term::Two(BinOp::Rem, Atom::Var(x), Atom::Num(k)),
+                Term::One(Atom::Num(n)),
+            ),
+        ) if k > 0 => Some(Condition::Remainder(x, k, n)),
+        Some(Form::Joined(op, left, right)) => Some(Condition::Joined(op, left, right)),
+        _ => None,
+    }
+}
+
 // Appends the test that an expression is, and answers whether it is one.
 fn put_test(tests: &mut Vec<Test>, settles: bool, e: &Expr) -> Result<bool, AllocError>
     ensures { IfOk result (λ is_one. IsTrue is_one → (t : Test) × (tests.new.items ≡ tests.old.items ++ t ∷ [])
         × TestOf settles t (expression_of e.now)) }
 {
-    match joined_of(e) {
-        Some(Form::Joined(op, left, right)) => {
-            tests.push(Test {
-                settles,
-                op,
-                left,
-                right,
-            })?;
+    match condition_of(e) {
+        Some(condition) => {
+            tests.push(Test { settles, condition })?;
             Ok(true)
         }
-        _ => Ok(false),
+        None => Ok(false),
     }
 }
 
@@ -96,16 +109,32 @@ fn has_truth(truth: bool, v: i64) -> bool
     if truth { v != 0 } else { v == 0 }
 }
 
+// The remainder of the variable by k is n.
+#[inline(always)]
+fn has_remainder(x: u32, k: i64, n: i64, vars: &[i64]) -> bool
+    requires { ConditionReads (Remainder x k n) (length vars.now) }
+    ensures { Ok (truth_number result) ≡ condition_value (Remainder x k n) vars.now }
+{
+    vars[x as usize] % k == n
+}
+
 // The test settles its chain; or the first fault.
 #[inline(always)]
 fn settles(t: &Test, vars: &[i64]) -> Result<bool, Fault>
-    requires left { TermReads t.now.left (length vars.now) }
-    requires right { TermReads t.now.right (length vars.now) }
-    ensures { result ≡ settled_by t.now.settles (joined_value t.now.op t.now.left t.now.right vars.now) }
+    requires { ConditionReads t.now.condition (length vars.now) }
+    ensures { result ≡ settled_by t.now.settles (condition_value t.now.condition vars.now) }
 {
-    let x = value_of_term(&t.left, vars)?;
-    let y = value_of_term(&t.right, vars)?;
-    Ok(has_truth(t.settles, t.op.apply(x, y)?))
+    match &t.condition {
+        Condition::Remainder(x, k, n) => {
+            let v = i64::from(has_remainder(*x, *k, *n, vars));
+            Ok(has_truth(t.settles, v))
+        }
+        Condition::Joined(op, left, right) => {
+            let x = value_of_term(left, vars)?;
+            let y = value_of_term(right, vars)?;
+            Ok(has_truth(t.settles, op.apply(x, y)?))
+        }
+    }
 }
 
 // The truth of a chain, or the first fault.

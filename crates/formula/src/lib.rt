@@ -8,8 +8,6 @@ mod reading;
 mod running;
 mod stack;
 mod terms;
-#[cfg(test)]
-mod tests;
 mod writing;
 
 pub use formula::Formula;
