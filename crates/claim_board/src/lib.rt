@@ -5,8 +5,6 @@ mod board;
 mod deal;
 mod hand;
 mod pass;
-#[cfg(test)]
-mod tests;
 
 pub use deal::{board_shows_a_dealing, deals_fairly};
 pub use pass::{Board, Dealt, MOST_BLOCKS, MOST_PASSES, Pass};

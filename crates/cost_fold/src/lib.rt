@@ -3,8 +3,6 @@
 
 mod error;
 mod expected;
-#[cfg(test)]
-mod tests;
 
 pub use error::CostError;
 pub use expected::cost;

@@ -2,8 +2,6 @@
 #![tactic(auto)]
 
 mod choices;
-#[cfg(test)]
-mod tests;
 mod uniforms;
 
 pub use choices::{arms_bits, choice_bits};

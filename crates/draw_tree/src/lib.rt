@@ -6,8 +6,6 @@ mod deciding;
 mod laws;
 mod leaves;
 mod merging;
-#[cfg(test)]
-mod tests;
 mod tree;
 mod walking;
 mod widths;

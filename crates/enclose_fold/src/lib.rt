@@ -14,7 +14,5 @@ mod rounds;
 mod rows;
 mod steps;
 mod table;
-#[cfg(test)]
-mod tests;
 
 pub use enclosing::enclose;

@@ -9,8 +9,6 @@ mod program;
 mod residues;
 mod settle;
 mod solving;
-#[cfg(test)]
-mod tests;
 mod turning;
 mod wide;
 

@@ -6,8 +6,6 @@ mod error;
 mod lexing;
 mod names;
 mod piece;
-#[cfg(test)]
-mod tests;
 
 pub use error::LexError;
 pub use lexing::{ends_here, lex, one_answer};

@@ -11,8 +11,6 @@ mod parser;
 mod parsing;
 mod starts;
 mod statements;
-#[cfg(test)]
-mod tests;
 mod wording;
 
 pub use error::ParseError;

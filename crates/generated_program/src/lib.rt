@@ -4,8 +4,6 @@
 mod generating;
 mod laws;
 mod parts;
-#[cfg(test)]
-mod tests;
 
 pub use generating::{GREATEST_NUMBER, generate, generate_checked};
 pub use laws::{has_bytes, has_statements, is_checked, is_read_back};

@@ -19,8 +19,6 @@ mod rows;
 mod state;
 mod steps;
 mod table;
-#[cfg(test)]
-mod tests;
 
 pub use attempts::Attempts;
 pub use bits::round_bits;

@@ -5,8 +5,6 @@ mod bounding;
 mod laws;
 mod rising;
 mod rows;
-#[cfg(test)]
-mod tests;
 
 pub use bounding::bounds;
 pub use laws::{

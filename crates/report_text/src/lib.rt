@@ -9,8 +9,6 @@ mod refusals;
 mod rolls;
 mod shares;
 mod streams;
-#[cfg(test)]
-mod tests;
 mod version;
 
 pub use answers::{check_line, sample_line};

@@ -1,9 +1,13 @@
-//! Uses of runs and of the outside by public calls, each with what it promises. The tests of both, and of audits, tallies, hunts
-//! and lines, stand here too, so that none of these crates is proved once more with its tests.
+//! Uses of runs and of the outside by public calls, each with what it promises. The tests of both, and of boards, audits, tallies,
+//! hunts and lines, stand here too, so that none of these crates is proved once more with its tests.
 #![tactic(auto)]
 
 #[cfg(test)]
 mod auditing;
+#[cfg(test)]
+mod bidding;
+#[cfg(test)]
+mod claiming;
 mod feeding;
 #[cfg(test)]
 mod hunting;

@@ -3,8 +3,6 @@
 
 mod ends;
 mod rolling;
-#[cfg(test)]
-mod tests;
 
 pub use ends::{FLIPS, end_of, label_of};
 pub use rolling::rolls_into;

@@ -21,6 +21,3 @@ pub use rolling::roll;
 pub use rules::{GREATEST_SUM, MOST_DEPTH, MOST_DIGITS, MOST_LABELS, MOST_LISTED};
 pub use sharing::{Shares, weigh_labels};
 pub use weights::are_weights;
-
-#[cfg(test)]
-mod tests;

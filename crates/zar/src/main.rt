@@ -4,26 +4,14 @@
 ghost use Rattle.std.specs.Prelude.{◌<◌, ◌^◌, length};
 
 mod calls;
-#[cfg(test)]
-mod comparing;
 mod excerpt;
 mod explaining;
-#[cfg(test)]
-mod gate_tests;
-#[cfg(test)]
-mod hostile_tests;
-#[cfg(test)]
-mod in_memory;
 mod keeping;
 mod nearest;
 mod on_host;
 mod progress;
 mod repairs;
-#[cfg(test)]
-mod tests;
 mod wiping;
-#[cfg(test)]
-mod words_tests;
 
 use crate::explaining::explain;
 use crate::on_host::on_host;

@@ -32,6 +32,3 @@ pub use source::{MOST_BYTES, SourceError, read_source};
 pub use stream_bits::{MOST_BUDGET, StreamBits, streams_begin_as_published};
 pub use trace::{Event, Note, Trace};
 pub use writing::put;
-
-#[cfg(test)]
-mod tests;

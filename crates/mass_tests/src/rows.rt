@@ -1,0 +1,28 @@
+// Fractions and rows of masses, beside those that are wanted.
+
+use frac128::Frac;
+use gcl_core::Outcome;
+use mass_fold::FracRows;
+
+// A numerator over a denominator.
+pub(crate) type Pair = (u128, u128);
+
+pub(crate) type Rows = &'static [(Outcome, Pair)];
+
+pub(crate) fn is(f: &Frac, pair: Pair) -> bool {
+    f.num() == pair.0 && f.den() == pair.1
+}
+
+pub(crate) fn has_rows(rows: &FracRows, want: Rows) -> bool {
+    if rows.count() != want.len() {
+        return false;
+    }
+    for i in 0..want.len() {
+        let (x, mass) = rows.get(i);
+        let (outcome, pair) = want[i];
+        if *x != outcome || !is(mass, pair) {
+            return false;
+        }
+    }
+    true
+}
