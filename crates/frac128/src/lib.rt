@@ -6,8 +6,6 @@ ghost use Rattle.frac128.specs.Divisor.{gcd};
 ghost use Rattle.frac128.specs.Fraction.{InLowest, IsEqual, lowest, common_of, if_fits, sum_of, difference_of, product_of, quotient_of, order_of};
 
 mod divisor;
-#[cfg(test)]
-mod tests;
 
 use crate::divisor::gcd;
 use std::cmp::Ordering;
