@@ -1,8 +1,8 @@
 //! What is wrong with the words of a call, and what would be right.
 
-use crate::excerpt::shown;
-use crate::nearest::Nearest;
 use std::alloc::{AllocError, Global};
+use terminal::Nearest;
+use terminal::excerpt::shown;
 use zar_cli::{Form, HELP, Row, Setting, VERBS, VERSION_WORD, Verb, stands_alone};
 
 /// The row of the command that the first word is.

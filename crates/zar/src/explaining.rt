@@ -1,14 +1,14 @@
 //! What is shown behind the line of a refusal where a person reads it: the place, what is wrong, and what may help.
 
 use crate::calls::{call_marked, row_of, wrong_word};
-use crate::excerpt::{excerpt, shown};
-use crate::repairs::find_wrong;
 use gcl_core::refusals::BAD_WORDS;
 use std::alloc::{AllocError, Global};
 use std::fs;
 use std::fs::OpenFile;
 use std::io::Eprint;
 use std::rt::Files;
+use terminal::excerpt::{excerpt, shown};
+use terminal::find_wrong;
 use zar_cli::{Form, REFUSALS};
 
 // The code of a refusal and its place, if its line has them.

@@ -4,23 +4,17 @@
 ghost use Rattle.std.specs.Prelude.{◌<◌, ◌^◌, length};
 
 mod calls;
-mod excerpt;
 mod explaining;
-mod keeping;
-mod nearest;
 mod on_host;
-mod progress;
-mod repairs;
-mod wiping;
 
 use crate::explaining::explain;
 use crate::on_host::on_host;
-use crate::progress::Progress;
 use std::alloc::{AllocError, Global};
 use std::io::IsTerminal;
 use std::process::ExitCode;
 use std::rt::Env;
 use std::{env, io};
+use terminal::Progress;
 use zar_cli::statuses::{NO_WORDS, OUT_OF_MEMORY};
 use zar_cli::{Command, Work, read_words};
 

@@ -2,14 +2,12 @@
 ghost use Rattle.std.specs.Prelude.{◌^◌, ◌<◌, [], map, length, string_bytes};
 ghost use Rattle.zar_cli.specs.Answer.{IsAnswer};
 
-use crate::keeping::KeepingSink;
-use crate::progress::Progress;
-use crate::wiping::WipingSink;
 use std::alloc::Global;
 use std::io::{Eprint, Write};
 use std::rt;
 use std::thread::Threads;
 use std::time::Clock;
+use terminal::{KeepingSink, Progress, WipingSink};
 use zar_cli::zar;
 use zar_io::{Files, HostFiles, HostSink, Sink};
 

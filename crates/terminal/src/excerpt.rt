@@ -7,16 +7,16 @@ const WIDTH: usize = 76;
 
 const BEFORE: usize = 50;
 
-/// The place of a byte: its line and its column, both from 1 on, and where its line begins.
+// The place of a byte: its line and its column, both from 1 on, and where its line begins.
 #[derive(Clone, Copy)]
-pub struct LinePlace {
-    pub line: usize,
-    pub column: usize,
+struct LinePlace {
+    line: usize,
+    column: usize,
     start: usize,
 }
 
-/// Where the byte at an offset stands.
-pub fn place_of(text: &[u8], offset: usize) -> LinePlace {
+// Where the byte at an offset stands.
+fn place_of(text: &[u8], offset: usize) -> LinePlace {
     let mut line: usize = 1;
     let mut start: usize = 0;
     for (i, byte) in text.iter().take(offset).enumerate() {

@@ -16,6 +16,8 @@ pub struct KeepingSink<S: Sink + Drop> {
 }
 
 impl<S: Sink + Drop> KeepingSink<S> {
+    ghost use Rattle.terminal.specs.Kept.{kept_bytes};
+
     /// Its record is that of the other sink. Nothing was given yet.
     pub fn new(sink: S) -> KeepingSink<S>
         ensures { ⟦<KeepingSink<S> as Sink>⟧.answered result ≡ S.answered sink }
@@ -28,7 +30,9 @@ impl<S: Sink + Drop> KeepingSink<S> {
     }
 
     /// The bytes that are kept.
-    pub fn kept(&self) -> &[u8] {
+    pub fn kept(&self) -> &[u8]
+        ensures { result.now ≡ kept_bytes self.now }
+    {
         &self.kept[..self.length]
     }
 

@@ -13,6 +13,7 @@ pub struct Nearest<'w> {
 }
 
 impl<'w> Nearest<'w> {
+    /// None is offered yet.
     pub fn to(word: &'w str) -> Nearest<'w> {
         Nearest {
             word,
@@ -21,6 +22,7 @@ impl<'w> Nearest<'w> {
         }
     }
 
+    /// The nearest of those before and this one.
     pub fn offer(self, alloc: Global, other: &'w str) -> Result<Nearest<'w>, AllocError> {
         let wrong = damerau_levenshtein(alloc, self.word, other)?;
         if wrong < self.below {
