@@ -6,8 +6,8 @@ use Rattle.gcl_core.specs.weighing.Fractions.{Fraction, plus, power, divided_by_
 use Rattle.gcl_core.specs.weighing.LongestReading.{longest}
 use Rattle.gcl_core.specs.weighing.Mass.{failed_mass}
 
--- For each bit that a round may read by one attempt for each draw, 2 to the minus the limit of attempts, over the probability
--- that a round does not fail; and the probability that so many rounds fail as the limit of rounds says.
+-- D / 2 ^ attempts / (1 - f) + f ^ rounds, where D is the longest reading of a round in bits with one attempt for each draw,
+-- and f the probability that a round fails without a limit of attempts.
 abbrev pub most_cut_off : SourceProgram → Limits → Fraction
 most_cut_off p l =
     plus (divided_by_rest (longest l.turns 1 p.body, 2 ^ l.attempts) (failed_mass p l.turns None))

@@ -1,4 +1,13 @@
-//! The law of how little the limits of attempts and of rounds cut off.
+//! The law of how little the limits of attempts and of rounds cut off. The function does nothing: its clauses are theorems about
+//! definitions.
+//!
+//! Proved (`limits_cut_off_little`), for every checked program of which a round fails with a probability f below 1 without a
+//! limit of attempts: with r attempts, at least 1, and R rounds the two limits weigh together at most D/2^r/(1 - f) + f^R, where
+//! D is the longest reading of a round in bits with one attempt for each draw (`at_most`). So they weigh at most 1/k from the
+//! limits on that `enough_attempts` and `enough_rounds` name (`vanishes`).
+//!
+//! No clause says that these are the least that suffice. Nothing is said of the limit of turns: it is one and the same
+//! throughout, and what it cuts off need not become little, as of a program that may run for ever.
 #![tactic(auto)]
 
 ghost use Rattle.std.specs.Prelude.{◌≤◌, ℕ};

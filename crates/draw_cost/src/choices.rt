@@ -10,8 +10,8 @@ ghost use Rattle.draw_cost.specs.inner.Undecided.{undecided_at};
 use draw_tree::bits_for;
 use gcl_core::{Weight, draws};
 
-// The stretches of 2^depth numbers from `first` on, and of their halves, that have more than one class, each as often as it has
-// numbers.
+// How many numbers stand in all stretches that have more than one class: of the 2^depth numbers from `first` on, their halves,
+// the halves of these, and so on.
 fn undecided(depth: u32, ends: &[u64], first: u64) -> u128
     requires depth { depth ≤ 63 }
     requires fits { first + 2 ^ depth ≤ 2 ^ 63 }

@@ -7,8 +7,9 @@ ghost use Rattle.draw_cost.specs.inner.Undecided.{undecided_below};
 
 use draw_tree::bits_for;
 
-// The same of the first `rest` of 2^depth numbers, each with a class of its own, where the others are rejected: of the halves the
-// first has either all of its numbers among them, or the second none.
+// The numbers in all stretches that have more than one class, as `choices` counts them, of 2^depth numbers: the first `rest`
+// have each a class of its own, and the others are rejected. Either all numbers of the first half are among those, or none of
+// the second.
 fn undecided(depth: u32, rest: u64) -> u128
     requires depth { depth ≤ 63 }
     requires some { 1 ≤ rest }

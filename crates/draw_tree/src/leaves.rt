@@ -6,7 +6,7 @@ ghost use Rattle.draw_tree.specs.Views.{flips_of};
 
 use crate::tree::Draw;
 
-// The leaf of a class, or of no class.
+// The leaf of a class; for no class, the one at which the draw is made again.
 pub(crate) fn leaf_of(class: Option<usize>) -> Draw
     requires { IfSome class (λ i. i < 2 ^ 32) }
     ensures { flips_of result ≡ leaf class }

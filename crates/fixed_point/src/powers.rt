@@ -7,8 +7,8 @@ ghost use Rattle.fixed_point.specs.declared.TheConstants.{ALL};
 use crate::ALL;
 use crate::sharing::{share_down, share_up};
 
-/// `q` units to the power of `count`, each product rounded down. It ends where a product changes nothing, so it takes at most 121
-/// products where `q` is at most half of the whole.
+/// `q` units to the power of `count`, each product rounded down. It ends where a product changes nothing, so it takes at most
+/// 122 products where `q` is at most half of the whole.
 pub fn power_down(q: u128, count: u64) -> u128
     requires { q ≤ ALL }
     ensures value { result ≡ power_down q count }

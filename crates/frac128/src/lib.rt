@@ -1,4 +1,12 @@
-//! Exact fractions of two numbers of 128 bits, in lowest terms.
+//! Exact fractions of two numbers of 128 bits, in lowest terms: their sum, difference, product, quotient and order.
+//!
+//! Proved: `add`, `sub`, `mul` and `div` give the exact value in lowest terms, and `None` for the causes alone that their
+//! definitions name. A product or a quotient is `None` exactly where a part of it in lowest terms has no 128 bits, or the divisor
+//! is 0. A sum or a difference is also `None` where the least common multiple of the denominators, or a numerator over it, has no
+//! 128 bits, though the answer itself might. `compare` always answers, by value.
+//!
+//! No clause says how fast a call is. None takes memory. `of` asks for a denominator of at least 1, and no other call asks for
+//! anything. A contract sees a fraction as the pair of its two numbers in lowest terms, so fractions of one value are one pair.
 #![tactic(auto)]
 
 ghost use Rattle.std.specs.Prelude.{◌≡◌, ◌≤◌, ◌*◌, IfSome};

@@ -13,7 +13,7 @@ ghost use Rattle.gcl_check.specs.Refused.{refusal_answered};
 use crate::refusals::CheckError;
 use gcl_core::{Expr, GREATEST_DENOMINATOR, Kind, Weight};
 
-// A number is handed over, for what its type says of it.
+// It takes the number, whose type says that it has 64 bits.
 fn kind_of_number(number: i64) -> Kind
     ensures kind { result ≡ Number }
     ensures fits { IsTrue (fits_64 number) }

@@ -1,4 +1,5 @@
-//! The codes of refusals, each with its words. A text has the codes 1 to 12, a mass 13 to 15, and the words of a call 16.
+//! The codes of refusals, each with its words: 1 to 12 of a text, 13 to 15 of masses, bounds, costs and rolls, and 16 of the
+//! words of a call.
 
 /// A text has more bytes than are read.
 pub const TEXT_TOO_LONG: u8 = 1;
@@ -8,9 +9,9 @@ pub const BAD_BYTE: u8 = 2;
 pub const NUMBER_TOO_WIDE: u8 = 3;
 /// A name has more bytes than a name may have.
 pub const NAME_TOO_LONG: u8 = 4;
-/// A token with which no program goes on.
+/// A token that no program has behind those before it, or the end of a text that is no program yet.
 pub const UNEXPECTED: u8 = 5;
-/// Too many brackets are open, or too many operators stand in one expression.
+/// Too many brackets are open, or too many operators stand since the last `;` or brace.
 pub const TOO_DEEP: u8 = 6;
 /// A truth stands where a number is wanted, or a number where a truth is.
 pub const KIND_MISMATCH: u8 = 7;
@@ -18,13 +19,13 @@ pub const KIND_MISMATCH: u8 = 7;
 pub const UNKNOWN_NAME: u8 = 8;
 /// A program has more names than it may have.
 pub const TOO_MANY_NAMES: u8 = 9;
-/// A weight has the denominator 0.
+/// A weight has the denominator 0, or all parts of a choice among several are 0.
 pub const ZERO_DENOMINATOR: u8 = 10;
 /// A weight is above 1.
 pub const WEIGHT_ABOVE_ONE: u8 = 11;
-/// A weight's denominator, in lowest terms, is above the greatest.
+/// The denominator of a weight, or the sum of the parts of a choice among several, is above the greatest in lowest terms.
 pub const TOO_FINE: u8 = 12;
-/// A mass is a fraction of more than 128 bits.
+/// A fraction of the answer, or on the way to it, is too wide for 128 bits.
 pub const TOO_WIDE: u8 = 13;
 /// A point of a program is reached with more states than are kept.
 pub const TOO_MANY_STATES: u8 = 14;

@@ -16,7 +16,7 @@ pub struct Front {
     pub len: usize,
 }
 
-/// The symbol that the bytes are.
+/// The symbol that these bytes spell, or none.
 #[tactic(auto, unfolding(gcl_core::specs::text::Pieces::symbol_of))]
 pub fn symbol(bytes: &[u8]) -> Option<Sym>
     ensures { result ≡ piece.symbol_of bytes.now }

@@ -9,7 +9,7 @@ fn is_same(name: &[u8], other: &[u8]) -> bool
     name == other
 }
 
-/// What stands beside a name in a table, at its first place.
+/// The value beside a name in a table, at the first place at which the name stands; or none.
 pub fn value_named<T: Copy>(mut table: &[(&str, T)], name: &[u8]) -> Option<T>
     ensures { result ≡ value_named (map (λ e. (e.0.now, e.1)) table.entry.now) name.now }
 {

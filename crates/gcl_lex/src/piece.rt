@@ -12,7 +12,7 @@ use crate::error::LexError;
 use crate::names::value_named;
 use gcl_core::{GREATEST_LITERAL, KEYWORDS, Key, LONGEST_NAME, PieceKind, TokenKind};
 
-// The value, where a text may have it.
+// The value of some digits, or none where it is above `GREATEST_LITERAL`.
 fn number(digits: &[u8]) -> Option<u64>
     requires { list_all is_digit digits.now ≡ true }
     ensures { result ≡ number_of_digits digits.now }
@@ -44,7 +44,8 @@ fn name_kind(name: &[u8]) -> TokenKind
     }
 }
 
-/// What the token of a piece is, if it has one, or why the piece, which begins at the place `at`, may not stand.
+/// The kind of the token that a piece gives, none for a blank or a comment; or why a text may not have this piece, which begins
+/// at the place `at`.
 pub fn token_kind(kind: PieceKind, bytes: &[u8], at: u32) -> Result<Option<TokenKind>, LexError>
     requires { is_piece kind bytes.now ≡ true }
     ensures { ReadsPiece kind bytes.now at result }

@@ -7,7 +7,7 @@ ghost use Rattle.gcl_parse.specs.inner.Beginnings as beginning;
 use gcl_core::{Key, Sym, Token, TokenKind};
 use std::alloc::{AllocError, Global};
 
-// A name before these tokens is one that a statement sets.
+// A name before these tokens begins an assignment or a draw.
 fn sets_before(tokens: &[Token]) -> bool
     ensures { result ≡ beginning.sets_before (kinds_of tokens.now) }
 {
@@ -17,7 +17,7 @@ fn sets_before(tokens: &[Token]) -> bool
     }
 }
 
-// A statement, or `return`, begins with this token, behind which the others stand.
+// A statement, or `return`, begins with a token of this kind, where these tokens stand behind it.
 fn begins(kind: TokenKind, behind: &[Token]) -> bool
     ensures { result ≡ beginning.begins kind (kinds_of behind.now) }
 {

@@ -12,7 +12,8 @@ pub enum ParseError {
     /// Brackets nest deeper than 64, or more than 128 operators stand since the last `;` or brace, at the token that begins here.
     #[error("{words} at {at}", words = CODE_WORDS[TOO_DEEP as usize])]
     TooDeep { at: u32 },
-    /// With the token that begins here the tokens begin no program; or the text ends here, and its tokens are none yet.
+    /// No program has the token that begins here behind those before it; or the text ends here, and its tokens are no program
+    /// yet.
     #[error("{words} at {at}", words = CODE_WORDS[UNEXPECTED as usize])]
     Unexpected { at: u32 },
     #[error("out of memory")]

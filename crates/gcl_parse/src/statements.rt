@@ -155,7 +155,7 @@ impl Parser<'_> {
         Ok((part, block))
     }
 
-    /// An arm, at most `more` others and the brace behind them, where these arms were found before.
+    /// The arms behind those that were found: one, at most `more` others, and the closing brace.
     #[cycle(statements)]
     fn arms(&mut self, mut found: Vec<(u64, Block)>, more: usize) -> Result<Arms, Halt>
         ensures { ParsesArms more found.items self.old result self.new }

@@ -8,14 +8,14 @@ ghost use Rattle.gcl_core.specs.declared.rules.TheConstants.{LONGEST_TEXT};
 use gcl_core::{Names, Token, TokenKind, Word};
 use std::alloc::{AllocError, Global};
 
-/// The words of a text, and its names, by whose places they are numbered.
+/// The words of a text and its names. A name's number is its place among them.
 #[derive(Drop)]
 pub struct Worded {
     pub words: Vec<Word>,
     pub names: Names,
 }
 
-// The word of a token, whose name is among the names from then on.
+// The word of a token. A new name is added to the names.
 fn word(names: &mut Names, text: &[u8], token: Token) -> Result<Word, AllocError>
     requires room { length names.old < 2 ^ 32 - 1 }
     requires order { token.start ≤ token.end }
@@ -35,7 +35,7 @@ fn word(names: &mut Names, text: &[u8], token: Token) -> Result<Word, AllocError
     }
 }
 
-/// The words of a text.
+/// The words that these tokens of a text are, with the names in the order of their first appearance.
 pub fn words(alloc: Global, text: &[u8], tokens: &[Token]) -> Result<Worded, AllocError>
     requires short { length text.now ≤ LONGEST_TEXT }
     requires order { StandInOrder 0 tokens.now (length text.now) }

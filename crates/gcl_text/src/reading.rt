@@ -45,7 +45,8 @@ fn parse_refusal(error: ParseError) -> TextRefusal
     }
 }
 
-/// The program that a text has as it is written, with the places of its statements.
+/// The program that a text has as it is written, with the places of its statements; or the code for which it has none, and the
+/// place. `OutOfMemory` comes where memory runs out.
 pub fn parse_text(alloc: Global, text: &[u8]) -> Result<Parsed, TextRefusal>
     ensures written { Writes text.now result }
     ensures variables { IfOk result (λ p. VariablesBelow (source_of p.program)) }
@@ -94,7 +95,8 @@ fn check_refusal(error: CheckError, places: &Places) -> TextRefusal
     }
 }
 
-/// The checked program that a text spells. The first refusal of the text comes before those of its program.
+/// The checked program that a text spells, or the code for which it spells none, and the place. A refusal of the text as it is
+/// written comes before those of the check. `OutOfMemory` comes where memory runs out.
 pub fn check_text(alloc: Global, text: &[u8]) -> Result<Checked, TextRefusal>
     ensures spelled { Checks text.now result }
     ensures statements { IfOk result (λ p. count_all (source_of p).body < 2 ^ 32 - 1) }

@@ -5,6 +5,6 @@
 pub enum TextRefusal {
     /// The number of the code, and the place in the text where the code has one.
     Coded(u8, Option<u32>),
-    /// Out of memory.
+    /// Memory ran out, which says nothing of the text.
     OutOfMemory,
 }

@@ -1,5 +1,5 @@
--- The generated program of a number: a large program that is accepted, for each number from 1 to `GREATEST_NUMBER`. This
--- project's own rule.
+-- The generated program of a number: a large program that is accepted, for each number up to `GREATEST_NUMBER`. This project's
+-- own rule.
 use Rattle.std.specs.Prelude.{ℕ, zero, suc, ◌+◌, ◌%◌, pos, List, [], ◌∷◌, codes}
 use Rattle.gcl_core.specs.declared.syntax.BinOp.TheVariants as op
 use Rattle.gcl_core.specs.declared.syntax.Weight.{Weight}

@@ -14,7 +14,7 @@ use std::alloc::{AllocError, Global};
 /// The greatest number of which there is a generated program.
 pub const GREATEST_NUMBER: u32 = 1000;
 
-/// The generated program of a number, which is accepted as it is.
+/// The generated program of a number, which is accepted as it is. An error comes only where memory runs out.
 pub fn generate(alloc: Global, k: u32) -> Result<Program, AllocError>
     requires { k ≤ GREATEST_NUMBER }
     ensures program { IfOk result (λ p. source_of p ≡ generated k) }
@@ -36,7 +36,8 @@ pub fn generate(alloc: Global, k: u32) -> Result<Program, AllocError>
     })
 }
 
-/// The generated program of a number, checked, which the check does not refuse or change.
+/// The generated program of a number, checked, which the check does not refuse or change. An error comes only where memory runs
+/// out.
 pub fn generate_checked(alloc: Global, k: u32) -> Result<Checked, AllocError>
     requires { k ≤ GREATEST_NUMBER }
     ensures program { IfOk result (λ c. source_of c ≡ generated k) }

@@ -34,7 +34,7 @@ abbrev pub Within : List State → Table → Type 0
 Within D [] = Unit {0}
 Within D (e ∷ I) = StandsIn D e.1 × Within D I
 
--- under a notion of when two tables are the same, and of when two lists of ends are
+-- for any two relations that say when two tables, and when two lists of ends, are the same
 module _ (SameTable : Table → Table → Type 0) (SameEnds : Weighted End → Weighted End → Type 0) where
   pub record IsOutflow (f : Outflow) (after : Table) (gone : Weighted End) (cost : Fraction) : Type 0 where
     pub next : SameTable f.next after
@@ -49,8 +49,8 @@ module _ (SameTable : Table → Table → Type 0) (SameEnds : Weighted End → W
   abbrev pub SettlesBoth : Weighted End → Outflow → Outflow → Outflow → Type 0
   SettlesBoth ended g h f = IsOutflow f (g.next ++ h.next) (ended ++ (g.ended ++ h.ended)) (plus g.turns h.turns)
 
-  -- A loop. Its visits, and what enters a set of states that it never leaves, are together what comes in and what its body
-  -- leads back. What is given of the body is what it makes of a table.
+  -- A loop. What comes into it and what its body leads back are together its visits and what enters a set of states that it
+  -- never leaves. `Body` says what the body makes of a table.
   abbrev pub LoopSettles : (State → Value) → (Table → Outflow → Type 0) → Table → Outflow → Type 0
   LoopSettles guard Body I f =
       (visits : Table) × (endless : Table) × (D : List State) × (g : Outflow)

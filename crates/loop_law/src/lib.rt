@@ -1,5 +1,14 @@
 //! What blocks and programs come to in the limit, as the turns of their loops grow without bound. What a loop comes to is given
-//! by a table of its expected visits, which is checked by one turn of its body, and not found here.
+//! by a table of its expected visits, which one turn of its body checks. The functions do nothing: their clauses are theorems
+//! about definitions.
+//!
+//! Proved, without limits of attempts and rounds, of a checked program whose body settles and whose rounds do not all fail in the
+//! limit: at n turns the mass of every event without the limit of turns is at most its mass in the limit, and short of it by at
+//! most an n-th of the expected turns over what does not fail (`masses_tend_to_their_limits`). The limit of turns has at n turns
+//! at least the mass that never ends, and at most the same gap more (`turns_run_out_for_what_is_endless`). What a block settles
+//! to does not depend on which visits are given (`blocks_tend_to_what_they_settle_to`: `one_limit`).
+//!
+//! No clause says that a program settles, or how visits are found: `exact_fold` looks for them and may find none.
 #![tactic(auto)]
 
 ghost use Rattle.std.specs.Prelude.{◌≡◌, ℕ, ◌≤◌, Bool, false, None};
@@ -20,9 +29,9 @@ ghost use Rattle.loop_law.specs.LoopFree.{BlockFree, flowed_out};
 ghost use Rattle.loop_law.specs.Settling.{Outflow};
 ghost use Rattle.loop_law.specs.SettledMasses.{Settles, settled_weight, IsNear, ProgramSettles, settled_failed, MassTends, MassConverges, EndlessTends};
 
-/// It does nothing: its clauses say what it means that a block settles, without a limit of attempts. For every event of ends in
-/// which the limit of turns is not, and at every limit of turns n, the ends from a table weigh at most what the block settles
-/// to, and fall short of it by at most an n-th of the expected turns. So what it settles to is one, whatever visits are given.
+/// It does nothing: its clauses say what it means that a block settles, without a limit of attempts. At every limit of turns n,
+/// and for every event of ends without the limit of turns, the ends from a table weigh at most what the block settles to, and
+/// fall short of it by at most an n-th of the expected turns. So what it settles to does not depend on which visits are given.
 pub fn blocks_tend_to_what_they_settle_to()
     ensures near { (b : Statements) (I : Table) (f : Outflow) → BlockIsWeighed b → AreFractions I → Settles b I f →
         (n : ℕ) → 1 ≤ n → (event : End → Bool) → event (limit Turns) ≡ false →
@@ -33,9 +42,9 @@ pub fn blocks_tend_to_what_they_settle_to()
 {}
 
 /// It does nothing: its clauses say that the masses of a checked program whose body settles converge, without limits of
-/// attempts and of rounds, where in the limit a round fails with less than all weight. For every event of outcomes in which the
-/// limit of turns is not, the mass at n turns is at most the one in the limit, and short of it by at most an n-th of the
-/// expected turns over what does not fail.
+/// attempts and of rounds, where in the limit a round fails with less than all weight. For every event of outcomes without the
+/// limit of turns, the mass at n turns is at most the one in the limit, and short of it by at most an n-th of the expected
+/// turns over what does not fail.
 pub fn masses_tend_to_their_limits()
     ensures near { (p : SourceProgram) (f : Outflow) → IsChecked p → ProgramSettles p f → IsBelowOne (settled_failed p f) →
         (n : ℕ) → 1 ≤ n → (meant : Outcome → Bool) → meant (outcome.Limit Turns) ≡ false → MassTends p f n meant }
@@ -43,8 +52,8 @@ pub fn masses_tend_to_their_limits()
         (meant : Outcome → Bool) → meant (outcome.Limit Turns) ≡ false → MassConverges p f meant }
 {}
 
-/// It does nothing: its clause says what a checked program that settles runs for ever with. The limit of turns has at n turns
-/// at least the mass that no outcome has in the limit, and at most the gap more.
+/// It does nothing: its clause says with which mass a checked program that settles runs for ever: that which no outcome has in
+/// the limit. At n turns the limit of turns has at least that mass, and at most the gap more.
 pub fn turns_run_out_for_what_is_endless()
     ensures { (p : SourceProgram) (f : Outflow) → IsChecked p → ProgramSettles p f → IsBelowOne (settled_failed p f) →
         (n : ℕ) → 1 ≤ n → EndlessTends p f n }

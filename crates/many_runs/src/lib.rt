@@ -1,4 +1,14 @@
-//! Laws of many runs: in a row on one list of bits, and each on a stream of its own.
+//! Laws of many runs: in a row on one list of bits, and each on a stream of its own. The functions do nothing: their clauses are
+//! theorems about definitions.
+//!
+//! Proved, for every checked program and all limits: of the 2^L strings of L bits, those on which runs in a row end in given
+//! outcomes are at most 2^L times the product of their masses, and exactly so many where no string needs more bits, so the runs
+//! are independent (`runs_in_a_row_weigh_products`). On any streams of L bits a run ends in an outcome as often as a stream
+//! begins with a string that is just read to it; so its count is off what the outcome weighs by no more than the streams are off
+//! even at these strings (`runs_follow_the_fronts_of_streams`).
+//!
+//! No clause says that any streams, seeded ones among them, begin evenly; that has to be measured. All strings of L bits, each
+//! once, do (`even`).
 #![tactic(auto)]
 
 ghost use Rattle.std.specs.Prelude.{◌≡◌, ◌≤◌, ℕ, Bool, List, length, All};

@@ -14,7 +14,8 @@ abbrev pub AreHeld : {K : Type 0} → ℕ → List (K × Fraction) → Type 0
 AreHeld N [] = Unit {0}
 AreHeld N (e ∷ es) = (0 < e.1.0) × Whole N e.1 × AreHeld N es
 
--- the weights are whole parts of one number, which is at most so much, and no more than it together
+-- the weights are whole numbers of parts, of which `scale` make one whole; `scale` is at most `most`, and together they are at
+-- most one whole
 pub record WholeWithin (most : ℕ) (rows : Rows) : Type 0 where
   pub scale : ℕ
   pub positive : 0 < scale

@@ -8,7 +8,7 @@ use Rattle.mass_tables.specs.Reached.{draws_of}
 use Rattle.mass_tables.specs.Width.{round_width}
 use Rattle.mass_fold.specs.Metering.{Priced, price}
 
--- `many` parts of a bit, of which X are a whole bit; none, where 128 bits are too few for X times any bound of them
+-- `many` / X bits; none only where, for every bound C of these, 128 bits are too few for X * C
 abbrev pub BitsAt : ℕ → ℕ → Option Fraction → Type 0
 BitsAt X many (Some f) = Whole X f × (whole X f ≡ many)
 BitsAt X many None = (C : ℕ) → 1 ≤ C → many ≤ X * C → Overfills (X * C)

@@ -14,7 +14,7 @@ abbrev pub scale_of : ℕ → Fraction → ℕ → ℕ
 scale_of N f zero = N
 scale_of N f (suc n) = N * f.1 ^ n
 
--- s, and f for a further round, where s in some of R rounds is never above C
+-- s is given by each round that is made, f leads to a further one, and C bounds what s comes to in up to R rounds
 pub record MayRepeat (N C : ℕ) (s f : Fraction) (R : ℕ) : Type 0 where
   pub positive : 0 < N
   pub some : 1 ≤ C
@@ -22,7 +22,7 @@ pub record MayRepeat (N C : ℕ) (s f : Fraction) (R : ℕ) : Type 0 where
   pub second : Whole N f
   pub bound : (k : ℕ) → k < R → geometric f (suc k) * whole N s ≤ N * f.1 ^ k * C
 
--- t is s in one of R rounds
+-- t is what s comes to in R rounds
 abbrev pub IsRepeated : Fraction → Fraction → ℕ → Fraction → Type 0
 IsRepeated s f R t =
     (N : ℕ) → 0 < N → Whole N s → Whole N f → Whole (scale_of N f R) t × (whole (scale_of N f R) t ≡ geometric f R * whole N s)

@@ -11,15 +11,16 @@ use Rattle.gcl_core.specs.meaning.Outcomes.{same_outcome}
 use Rattle.gcl_core.specs.meaning.Syntax.{SourceProgram}
 use Rattle.posterior_bounds.specs.PosteriorBounds.{is_settled, fails, given, lower_of_those, upper_of_those, upper_of_others}
 
--- The bounds at n turns are fractions, and they are as far apart as for whatever else is meant: by the bound of all others.
+-- The bounds at n turns are fractions. Whatever is meant, they are as far apart as the bound of all others says.
 pub record AreBounds (p : SourceProgram) (n : ℕ) (meant : Outcome → Bool) : Type 0 where
   pub lower_fraction : 1 ≤ (lower_of_those p n meant).1
   pub upper_fraction : 1 ≤ (upper_of_those p n meant).1
   pub width : IsEqual (plus (lower_of_those p n meant) (upper_of_others p n)) (upper_of_those p n meant)
 
--- The outcomes that are meant have at n' turns a mass between their bounds at n turns, both included. Where a round gave them
--- nothing at n turns, it is at most the bound of all others, and so is their upper bound at n'. Their bounds at n' lie within
--- those at n: the lower one at n' is the mass there.
+-- The mass of the outcomes that are meant, at n' turns, lies between their bounds at n turns, both included (`from_below`,
+-- `from_above`). Their bounds at n' lie within those at n: the lower one at n' is that mass, and the upper one is at most that
+-- at n (`upper_falls`). Where a round of n turns gives them nothing, their mass and their upper bound at n' are at most the
+-- bound of all others at n (`among_others`, `new_falls`).
 pub record IsBounded (p : SourceProgram) (n n' : ℕ) (meant : Outcome → Bool) : Type 0 where
   pub fraction : 1 ≤ (mass_of_those p n' None None meant).1
   pub from_below : AtMost (lower_of_those p n meant) (mass_of_those p n' None None meant)

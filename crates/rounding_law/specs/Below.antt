@@ -7,7 +7,7 @@ use Rattle.mass_tables.specs.Tables.{Flow}
 use Rattle.rounding_law.specs.Units.{Units, held}
 use Rattle.rounding_law.specs.Flows.{UnitFlow}
 
--- J is below I, whose weights are whole at scale N: whatever counts a member
+-- J is below I, whose weights are whole at scale N: for every weighting of members
 abbrev pub IsBelow : {A : Type 0} → ℕ → Units A → Weighted A → Type 0
 IsBelow {A} N J I = (G : A → ℕ) → N * held G J ≤ ALL * amount N G I
 

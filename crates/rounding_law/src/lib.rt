@@ -1,5 +1,13 @@
-//! Tables of units: what a program makes of a table whose weights are whole numbers of units, with each product rounded down, and how
-//! that stands below what it makes of a table of fractions.
+//! Tables of units: what a program makes of a table whose weights are whole numbers of units, each product rounded down, and how
+//! far that stays below the exact fractions. The functions do nothing: their clauses are theorems about definitions.
+//!
+//! Proved: a table of units that is below a table of fractions is so after a block, for every weighting of states and of ends,
+//! and no table on the way has more states (`blocks_stay_below`). So the units that a round gives any set of outcomes are at most
+//! its mass (`rounds_stay_below`). A block makes no unit, and loses at most k for each product where each product loses at most k
+//! (`units_are_lost_by_rounding`): k is 1 without a limit of attempts, and 6 with one (`products_are_rounded_down`).
+//!
+//! No clause is of code: `enclose_fold` works with such tables and relies on these laws. No clause says that few units are lost
+//! in all: the number of products grows with the states and the turns of a program.
 #![tactic(auto)]
 
 ghost use Rattle.std.specs.Prelude.{◌≡◌, ◌≤◌, ◌<◌, ◌-◌, ◌+◌, ◌*◌, ◌^◌, ◌++◌, ℕ, Bool, Option, Some, None, length, All};
@@ -21,9 +29,9 @@ ghost use Rattle.rounding_law.specs.Roundings.{block_roundings, round_roundings}
 ghost use Rattle.rounding_law.specs.Rounds.{StandsBelow, round_units, meant_units, failed_units};
 ghost use Rattle.rounding_law.specs.Units.{Units, held, total};
 
-/// It does nothing: its clauses say what merging is. A merged list holds what the list does, whatever counts a state; it has each state
-/// once, in order, and none with 0 units. There is one such list that holds so much, so a merged list is merged as it is. And the more
-/// entries are merged, the more states there are.
+/// It does nothing: its clauses say what merging is. A merged list holds as much as the list does, for every weighting of states; it
+/// has each state once, in order, and none with 0 units. Lists that hold the same are merged to one list, to merge again changes
+/// nothing, and further entries never make the merged list shorter.
 pub fn tables_are_merged()
     ensures held { (J : Units State) (G : State → ℕ) → held G (merged J) ≡ held G J }
     ensures each_once { (J : Units State) → IsMerged (merged J) }
@@ -33,8 +41,8 @@ pub fn tables_are_merged()
     ensures longer { (J K : Units State) → length (merged J) ≤ length (merged (J ++ K)) }
 {}
 
-/// It does nothing: its clauses say that the program's products are rounded down, and how much each loses: less than a unit, and with a
-/// limit of attempts at most six. What an attempt is rejected with is exact for numbers of at most 120 bits.
+/// It does nothing: its clauses say that the program's products are rounded down, and how much each loses: at most one unit, and with a
+/// limit of attempts at most six. How often an attempt is rejected is exact in units for numbers of at most 120 bits.
 pub fn products_are_rounded_down()
     ensures below { RoundsDown down }
     ensures without_limit { LosesFew 1 ALL None down }
@@ -43,15 +51,15 @@ pub fn products_are_rounded_down()
         (again_down b ≡ rejected_numbers b * 2 ^ (120 - bits_for b)) × (again_up b ≡ rejected_numbers b * 2 ^ (120 - bits_for b)) }
 {}
 
-/// It does nothing: its clause says that what a block makes of a table below one of fractions, with each product rounded down, is below
-/// what it makes of that: whatever counts a state, and whatever counts an end. And no table on the way has more states.
+/// It does nothing: its clause says that a table of units that is below a table of fractions is so after a block that rounds each
+/// product down, for every weighting of states and of ends. And no table on the way has more states.
 pub fn blocks_stay_below()
     ensures { (cut : Rounding) → RoundsDown cut → (N L n : ℕ) → 0 < N → (r : Option ℕ) (b : Statements) → BlockIsWeighed b →
         (J : Units State) (I : Table) → Within N L (block_flow n r b I) → IsBelow N J I → FlowIsBelow N L (block_units cut n r b J) (block_flow n r b I) }
 {}
 
-/// It does nothing: its clauses say that the units of a round are below its masses: of the outcomes that are meant, and of a failed
-/// observation. And no table on the way has more states than the peak of the round.
+/// It does nothing: its clauses say that the units which a round gives any set of outcomes are at most its mass, and those of a failed
+/// observation at most the mass of failing. And no table on the way has more states than the peak of the round.
 pub fn rounds_stay_below()
     ensures meant { (cut : Rounding) → RoundsDown cut → (p : SourceProgram) (n : ℕ) (r : Option ℕ) → BlockIsWeighed p.body →
         (meant : Outcome → Bool) → StandsBelow (meant_units p meant (round_units cut p n r)) (round_mass p n r meant) }

@@ -14,7 +14,6 @@ use gcl_core::{Expr, Names};
 use gcl_print::Text;
 use std::alloc::{AllocError, Global};
 
-// A word and a number.
 fn numbered(text: &mut Text, word: &[u8], n: usize) -> Result<(), AllocError>
     ensures { OnOk result (text.new ≡ text.old ++ (word.now ++ decimal n)) }
 {

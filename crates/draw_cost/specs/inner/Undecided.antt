@@ -3,8 +3,8 @@
 use Rattle.std.specs.Prelude.{ℕ, zero, suc, ◌+◌, ◌-◌, ◌*◌, ◌^◌, List, nat_lt, if◌then◌else◌}
 use Rattle.gcl_core.specs.meaning.Draw.{have_one_class}
 
--- of the 2 ^ n numbers from `first` on and of their halves, halves of halves and so on, those stretches that have more than one
--- class, each as often as it has numbers
+-- how many numbers stand in all stretches that have more than one class: of the 2 ^ n numbers from `first` on, their halves,
+-- the halves of these, and so on
 abbrev pub undecided_at : List ℕ → ℕ → ℕ → ℕ
 undecided_at ends zero first = 0
 undecided_at ends (suc n) first =

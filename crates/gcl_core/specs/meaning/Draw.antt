@@ -94,7 +94,7 @@ class_size_from c (d ∷ ends) (suc i) = class_size_from d ends i
 abbrev pub class_size : List ℕ → ℕ → ℕ
 class_size ends i = class_size_from 0 ends i
 
--- how many of the numbers of the bits for b are rejected, where b have a class
+-- how many numbers of `bits_for b` bits are rejected, where the first b have a class
 abbrev pub rejected_numbers : ℕ → ℕ
 rejected_numbers b = 2 ^ bits_for b - b
 

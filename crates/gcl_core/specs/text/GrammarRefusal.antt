@@ -16,13 +16,13 @@ pub record IsProgram (ks : List TokenKind) : Type 0 where
   pub result : Expression
   pub reads : ReadsProgram words body result []
 
--- these kinds begin a program
+-- these kinds are the beginning of a program
 pub record Begins (ks : List TokenKind) : Type 0 where
   pub rest : List TokenKind
   pub program : IsProgram (ks ++ rest)
 
--- Each front that ends before this index begins a program, and the front with the token of this index begins none. Where the
--- index is how many tokens there are, each front begins a program, and the tokens are none.
+-- The tokens before this index are the beginning of some program, and with the token at this index they are the beginning of
+-- none. Where the index is the number of tokens, all of them are the beginning of a program, but no program.
 pub record RefusedAt (ks : List TokenKind) (index : ℕ) : Type 0 where
   pub within : index ≤ length ks
   pub before : (i : ℕ) → i < index → Begins (take (suc i) ks)

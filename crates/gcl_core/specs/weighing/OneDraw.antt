@@ -11,12 +11,13 @@ abbrev pub Ascends : ℕ → List ℕ → Type 0
 Ascends c [] = Unit {0}
 Ascends c (d ∷ ends) = (c ≤ d) × Ascends d ends
 
--- the strings that r attempts just read to this class, weighed; none, to the limit of attempts
+-- the weight of the strings that r attempts just read to this class, or to the limit of attempts where the class is none
 abbrev pub draw_weight : List ℕ → ℕ → Option ℕ → ℕ → ℕ
 draw_weight ends r class L = string_weight (λ w. reading_to (λ c. option_eq ◌==◌ c class) (draw_on ends r w)) L
 
--- The law, at every length L that has the bits of all r attempts, k * r: a class weighs 2 ^ L by its numbers' share of the
--- strings of k * r bits, the limit of attempts what is left, and no string of that length needs more bits.
+-- The law, at every length L of at least k * r, the bits of all r attempts: a class weighs as large a part of 2 ^ L as the
+-- strings are of k * r bits that lead to one of its numbers, the limit of attempts weighs what is left, and no string of that
+-- length needs more bits.
 module _ (ends : List ℕ) (r : ℕ) where
   abbrev pub attempt_bits : ℕ
   attempt_bits = bits_for (last_end ends)
