@@ -82,7 +82,6 @@ impl AuditRows {
     ghost use Rattle.audit_walk.specs.Rows.{IsRows, sum_of_counts};
     ghost use Rattle.audit_walk.specs.inner.Sums.{AddsUp};
 
-    // No rows.
     pub(crate) fn none(alloc: Global) -> AuditRows
         ensures { result ≡ [] }
     {
@@ -91,7 +90,6 @@ impl AuditRows {
         }
     }
 
-    // One row.
     pub(crate) fn one(alloc: Global, outcome: Outcome, count: u64) -> Result<AuditRows, AllocError>
         requires { 0 < count }
         ensures { IfOk result (λ r. r ≡ (outcome, count) ∷ []) }

@@ -1,5 +1,7 @@
-//! The tests of formulas, draws, trees on bits, code and rolls, by public calls, so that none of these crates is proved once more with
-//! its tests.
+//! The tests of formulas, draws, trees on bits, code and rolls.
+//!
+//! They stand in a crate of their own and go by public calls, so none of the crates that they test is proved once more with its
+//! tests. They promise nothing: the values, listings and bits that are expected are written out in them.
 #![tactic(auto)]
 
 #[cfg(test)]

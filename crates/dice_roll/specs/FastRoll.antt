@@ -17,7 +17,7 @@ spelled u = spelled_from 0 u
 unfoldable pub quota : ℕ → ℕ → ℕ
 quota m t = 2 ^ t / m
 
--- the first of the numbers of t bits that may be a label's: those below it have a label after fewer bits
+-- the least number of t bits that has no label after fewer bits: all below it have one
 abbrev pub first_undecided : ℕ → ℕ → ℕ
 first_undecided m t = 2 * (m * quota m (t - 1))
 

@@ -15,9 +15,9 @@ abbrev pub drawn : List ℕ → ℕ → List Bool → Option ℕ
 drawn ends r w = class_in (draw_on ends r w)
 
 pub record StaysBehind (ends : List ℕ) (r : ℕ) (ws : List ℕ) : Type 0 where
-  -- after no number of flips do more strings have a class
+  -- after T flips no more strings have the class i, for every T
   pub each : (i T : ℕ) → decided (drawn ends r) i T ≤ decided (weighted ws) i T
-  -- nor do fewer have none
+  -- and no fewer have none
   pub left : (T : ℕ) → undecided (weighted ws) T ≤ undecided (drawn ends r) T
-  -- and no fewer flips come before a class on average, at any limit of flips
+  -- and no fewer flips are made before a class on average, at any limit N of flips
   pub flips : (N : ℕ) → add_strings (flips_on (weighted ws)) N ≤ add_strings (flips_on (drawn ends r)) N

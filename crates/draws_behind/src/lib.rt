@@ -1,4 +1,11 @@
-//! Draws by attempts beside rolls by weights.
+//! The law that a draw by attempts, as the compiler makes it, never decides sooner than a roll by the sizes of its classes. The
+//! function does nothing: its clause is a theorem about definitions.
+//!
+//! Proved (`draws_by_attempts_stay_behind`): after any number of flips, and at any limit of attempts, such a draw has decided no
+//! more strings for any class and left no fewer undecided, and it comes to a class after no fewer flips on average.
+//!
+//! No clause says how much later a draw comes to its class. A draw that has reached its limit of attempts counts as one that has
+//! no class however many flips follow.
 #![tactic(auto)]
 
 ghost use Rattle.std.specs.Prelude.{◌≡◌, ℕ, List, slice_index};
@@ -10,9 +17,9 @@ ghost use Rattle.draws_behind.specs.Drawn.{StaysBehind};
 
 use gcl_core::draw_weighs;
 
-/// It does nothing: its clause says that a draw by attempts, whatever their limit, has decided at no number of flips more strings
-/// for a class than the roll by the weights of the classes, and that it has no class yet after at least as many flips on average.
-/// A draw that comes to its limit of attempts has no class however many flips follow.
+/// It does nothing: its clause says of a draw by attempts, whatever their limit, that after N flips it has decided no more
+/// strings for any class than the roll by the sizes of the classes, for every N, and that it makes no fewer flips on average. A
+/// draw that comes to its limit of attempts has no class however many flips follow.
 pub fn draws_by_attempts_stay_behind()
     ensures { (ends : List ℕ) (r : ℕ) (ws : List ℕ) → Ascends 0 ends → AreWeights ws → last_end ends ≡ sum ws
         → ((i : ℕ) → class_size ends i ≡ slice_index ws i) → StaysBehind ends r ws }

@@ -50,7 +50,7 @@ impl Round {
         }
     }
 
-    // What outcomes with `w` units in one round have at least in all rounds, with what fails in each of them or without.
+    // What outcomes that have `w` units in one round have at least in all rounds; `with_failed` adds the units of all rounds failing.
     fn least(self, w: u128, with_failed: bool) -> u128
         requires { w ≤ self.all }
         ensures value { result ≡ least_of self.rounds self.failed w (λ x. with_failed) }

@@ -9,8 +9,8 @@ ghost use Rattle.enclose_fold.specs.inner.Odds.{AreDecided};
 use draw_tree::bits_for;
 use fixed_point::{ALL, part_down, power_down, power_up, share_down};
 
-/// A draw among `bound` numbers, by at most so many attempts, or by as many as it takes. Of one whole it keeps what some attempt
-/// decides and what none does, each rounded down.
+/// A draw among `bound` numbers, by at most so many attempts, or by as many as it takes. `some` are the units of one whole that an
+/// attempt decides, and `none` those that none does, both rounded down.
 #[derive(Clone, Copy)]
 pub struct Odds {
     pub bound: u64,
@@ -22,7 +22,7 @@ pub struct Odds {
     ghost decided: { IfSome attempts (AreDecided bound some none) } by { Prim.hlevel props },
 }
 
-// That an attempt among `bound` numbers is rejected.
+// The units of one whole with which an attempt among `bound` numbers is rejected.
 fn again(bound: u64) -> u128
     requires least { 1 ≤ bound }
     requires most { bound ≤ 2 ^ 63 }

@@ -6,7 +6,8 @@ ghost use Rattle.enclosure_law.specs.SomeRounds.{followed, in_rounds};
 
 use fixed_point::{ALL, share_down};
 
-// Some rounds, and others where each of them failed: what fails in all of them, and what outcomes have in them.
+// The rounds of `a`, and then those of `b` where all of `a` failed: the units of what fails in all of them, and of what outcomes have
+// in them.
 fn followed(a: (u128, u128), b: (u128, u128)) -> (u128, u128)
     requires first { a.0 + a.1 ≤ ALL }
     requires second { b.0 + b.1 ≤ ALL }
@@ -16,7 +17,7 @@ fn followed(a: (u128, u128), b: (u128, u128)) -> (u128, u128)
     (share_down(a.0, b.0), a.1 + share_down(a.0, b.1))
 }
 
-/// The units of what fails in each of some rounds, and of what some outcomes have in them, from those of `one`. They take at most
+/// The units of what fails in all of some rounds, and of what some outcomes have in them, from those of one round. They take at most
 /// four products for each binary digit of the number of rounds.
 pub fn in_rounds(one: (u128, u128), rounds: u64) -> (u128, u128)
     requires { one.0 + one.1 ≤ ALL }

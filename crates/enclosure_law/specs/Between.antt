@@ -1,5 +1,5 @@
--- Two bounds of a mass, in units, from what one round has at least. The upper one is what the least of all other outcomes leaves of
--- the whole, since all masses add up to 1. This project's own rule.
+-- Two bounds of a mass, in units, from what one round has at least. The upper one is what all other outcomes leave of the whole where
+-- they have no more than their least, since all masses add up to 1. This project's own rule.
 use Rattle.std.specs.Prelude.{ℕ, ◌+◌, ◌-◌, ◌*◌, ◌/◌, Bool, true, Option, Some, None, not, if◌then◌else◌}
 use Rattle.std.specs.Int.{div_ceil}
 use Rattle.fixed_point.specs.declared.TheConstants.{ALL}
@@ -24,14 +24,15 @@ abbrev pub whole_of : Option ℕ → ℕ → ℕ
 whole_of None failed = ALL - failed
 whole_of (Some R) failed = ALL
 
--- what outcomes have of it, from what one round gives them; in R rounds the limit of rounds has what fails in each
+-- what outcomes have of it at least, from the units that one round gives them; with a limit of R rounds, the limit of rounds has what
+-- fails in all of them
 abbrev pub least_of : Option ℕ → (failed given : ℕ) → (Outcome → Bool) → ℕ
 least_of None failed given meant = given
 least_of (Some R) failed given meant =
     let all = in_rounds (failed, given) R in
     all.1 + (if meant (outcome.Limit Rounds) then all.0 else 0)
 
--- where one round has so many units that fail, and gives outcomes that are meant so many
+-- of one round, `failed` are the units that fail, and `given` those of any set of outcomes
 module _ (R : Option ℕ) (failed : ℕ) (given : (Outcome → Bool) → ℕ) where
   abbrev pub whole : ℕ
   whole = whole_of R failed

@@ -4,14 +4,14 @@ use Rattle.std.specs.Int.Digits.{digits_of}
 use Rattle.fixed_point.specs.Units.{shared}
 use Rattle.fixed_point.specs.declared.TheConstants.{ALL}
 
--- the units of what fails in each of some rounds, and of what some outcomes have in one of them
+-- of some rounds, the units of what fails in all of them, and of what some outcomes have in them
 abbrev pub InRounds : Type 0
 InRounds = ℕ × ℕ
 
 abbrev pub no_round : InRounds
 no_round = (ALL, 0)
 
--- some rounds, and others where each of them failed
+-- the rounds of a, and then those of b where all of a failed
 abbrev pub followed : InRounds → InRounds → InRounds
 followed a b = (shared a.0 b.0, a.1 + shared a.0 b.1)
 

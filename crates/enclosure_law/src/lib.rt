@@ -1,4 +1,15 @@
-//! Bounds between which a program's masses lie, from one round that was rounded down.
+//! Bounds between which a program's masses lie, from one round whose products were rounded down. The functions do nothing: their
+//! clauses are theorems about definitions.
+//!
+//! Proved, for every checked program and all limits, and for all turns at every greater limit of turns, where without a limit of
+//! rounds a round fails with probability below 1: the mass of an outcome that has a row lies between its two bounds, and all
+//! outcomes without a row have together at most the bound of the others (`masses_lie_between`). Two bounds of a row are no
+//! further apart than that bound and a unit of 2^-120, and with a limit of rounds one unit more for each. Without one, and but
+//! for all turns, what is lost is at most k units for each product, where each loses at most k
+//! (`bounds_are_as_wide_as_what_is_lost`).
+//!
+//! No clause is of code: `enclose_fold` gives these bounds. No clause says that they are narrow: without a limit of rounds what
+//! is lost is divided by what does not fail, and for all turns what ran out of turns counts as lost.
 #![tactic(auto)]
 
 ghost use Rattle.std.specs.Prelude.{◌≡◌, ◌*◌, ◌≤◌, ◌<◌, ℕ, Bool, true, false, Option, None};
@@ -17,8 +28,8 @@ ghost use Rattle.enclosure_law.specs.SomeRounds.{InRounds, in_rounds};
 ghost use Rattle.enclosure_law.specs.Enclosures.{units_of, lost_units, upper_of_others, AreEnclosures};
 ghost use Rattle.enclosure_law.specs.Holding.{IsFor, MayEnd, IsBetween, Enclose, most_apart, AreClose};
 
-/// It does nothing: its clauses say that what some rounds give in units, by the digits of their number, stays below what they give:
-/// what fails in each of them, and what some outcomes have.
+/// It does nothing: its clauses say that the units of R rounds, worked out by the binary digits of R, are at most the exact weights:
+/// those of what fails in all of them, and of what some outcomes have in them.
 pub fn some_rounds_stay_below()
     ensures fails { (p : Fraction) → 1 ≤ p.1 → (one : InRounds) → StandsBelow one.0 p → (R : ℕ) → StandsBelow (in_rounds one R).0 (power p R) }
     ensures gives { (m p : Fraction) → 1 ≤ m.1 → 1 ≤ p.1 → (one : InRounds) → StandsBelow one.0 p → StandsBelow one.1 m →
@@ -27,8 +38,8 @@ pub fn some_rounds_stay_below()
 
 /// It does nothing: its clauses say that the masses of a program lie between the bounds that one round gives, rounded down, for every
 /// checked program, all limits, and for all turns every greater limit of turns at which a round fails with probability below 1, where
-/// there is no limit of rounds. Whatever outcomes are meant lie between, and so do those of rows; outcomes without a row have
-/// together at most the bound of the others. Where the round has a unit that does not fail, it fails with probability below 1.
+/// there is no limit of rounds. So it is for every set of outcomes, and for each row; outcomes without a row have together at most the
+/// bound of the others. Where the round has a unit that does not fail, it fails with probability below 1.
 pub fn masses_lie_between()
     ensures events { (p : SourceProgram) (n n' : ℕ) (r R : Option ℕ) (all_turns : Bool) → IsChecked p → IsFor all_turns n n' → MayEnd p n' r R →
         (meant : Outcome → Bool) → IsBetween p n n' r R all_turns meant }
@@ -40,8 +51,8 @@ pub fn masses_lie_between()
 {}
 
 /// It does nothing: its clauses say how far apart the bounds are: no further than the bound of the others, but for a unit, and with a
-/// limit of rounds one for each round. What no outcome has is, without a limit of rounds, no more than what the roundings of the round
-/// lose; for all turns what ran out of turns comes to it.
+/// limit of rounds one for each round. Without a limit of rounds, and but for all turns, what no outcome has is no more than what the
+/// roundings of the round lose; for all turns what ran out of turns is lost, too.
 pub fn bounds_are_as_wide_as_what_is_lost()
     ensures rows { (p : SourceProgram) (n : ℕ) (r R : Option ℕ) (all_turns : Bool) → IsChecked p → MayEnd p n r R →
         (rows : Rows) (other : Fraction) → AreEnclosures p n r R all_turns rows → other ≡ upper_of_others p n r R all_turns →

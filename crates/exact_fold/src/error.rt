@@ -22,7 +22,7 @@ impl From<MassError> for SettleError {
             MassError::TooWide => SettleError::TooWide,
             MassError::TooManyStates => SettleError::TooManyStates,
             MassError::OutOfMemory => SettleError::OutOfMemory,
-            // No step of a block says so.
+            // No step of a block answers this.
             MassError::AllFailed => SettleError::NotSettled,
         }
     }

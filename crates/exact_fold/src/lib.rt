@@ -1,4 +1,15 @@
-//! Programs with loops, settled exactly: their masses as the turns of loops grow without bound.
+//! Exact masses of a program where nothing is limited, its loops included. The expected visits of a loop are looked for, and one
+//! turn of the loop checks what was found.
+//!
+//! Proved: the rows of `exact` are exactly the masses of what the program settles to, in lowest terms, outcomes ascending, and
+//! what they leave of 1 runs for ever (`masses`). Laws: at n turns each mass is at most its row and short of it by at most an
+//! n-th of a rate (`exact_masses_are_limits`); each row lies within the bounds of every limit of turns
+//! (`exact_masses_lie_within_bounds`); and the strings of bits on which runs end come to weigh what the rows say, as limits grow
+//! (`strings_tend_to_exact_masses`).
+//!
+//! No clause says that a program with a loop has an answer: a call that refused each of them as too wide would keep the contract,
+//! and tests alone show that it does not. Nothing is promised of the visits that are looked for, only of what passed the check.
+//! No clause says that memory or the stack suffices, or how long a call takes.
 #![tactic(auto)]
 
 mod error;

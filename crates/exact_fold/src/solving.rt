@@ -201,7 +201,8 @@ impl Left {
     }
 }
 
-/// The visits of states, by their numbers, from what each is entered with and the part of a turn from one to another.
+/// The expected visits of each state, by its number. `entered` has the weight with which the loop comes to each state, and
+/// `parts` the probability that one turn leads from one state to another.
 pub fn solved(
     alloc: Global,
     entered: BTreeMap<u64, Residues>,
@@ -231,7 +232,8 @@ pub fn solved(
     visits_by(alloc, pivots, &left.entered)
 }
 
-// What each state is entered with, and what is led to it by those that were eliminated after it, over what leaves it.
+// The visits of each state: the weight with which it is entered, and what the states that were eliminated after it lead to it,
+// over what leaves it.
 fn visits_by(
     alloc: Global,
     pivots: Vec<Pivot>,

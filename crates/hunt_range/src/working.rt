@@ -14,9 +14,9 @@ use std::thread::{Threads, for_each_mut};
 use stream_runs::{Job, MOST_WORKERS};
 use zar_io::Gate;
 
-/// Claims blocks, and offers of each the first stream that is wanted. It stops where no block is left, or where a number was
-/// looked at that the block claimed last does not begin below. The gate is told of each block before its first stream. An error
-/// comes only where memory runs out.
+/// Claims blocks, and offers of each the first stream that is wanted. It stops where no block is left, or where the block that
+/// was claimed last begins at the least stream that was found, or behind it. The gate is told of each block before its first
+/// stream. An error comes only where memory runs out.
 pub fn work<G: Gate>(
     alloc: Global,
     board: &Board,

@@ -1,5 +1,8 @@
-//! The tests of fractions, units, draws' bits, masses, expected bits, bounds, enclosed and exact masses, by public calls, so that none of these
-//! crates is proved once more with its tests.
+//! The tests of fractions, units, draws' bits, masses, expected bits, bounds, enclosed and exact masses.
+//!
+//! They stand in a crate of their own and go by public calls, so none of the crates that they test is proved once more with its
+//! tests. They promise nothing: the fractions that are expected are written out in them, worked by hand or by another program.
+//! They show what no clause says: that programs have an answer and are not refused, above all those with loops by `exact`.
 #![tactic(auto)]
 
 #[cfg(test)]

@@ -1,4 +1,11 @@
-//! The lines that the program prints, made with no memory.
+//! The lines that the program prints, one call for each kind, made with no memory.
+//!
+//! Proved: each call gives the line of its definition, byte for byte (`ensures` of `sample_line`, `mass_line`, `fault_line` ..),
+//! and a line has at most 224 bytes (`Line::bytes`).
+//!
+//! No clause says that these are good words: code and definition read the words of refusals and of the version in the same
+//! tables, so a slip in one of them is seen by tests alone. A code that does not exist has a line without words. None of the
+//! calls takes memory or asks for anything.
 #![tactic(auto)]
 
 mod answers;

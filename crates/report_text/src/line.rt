@@ -40,7 +40,6 @@ impl Line {
         }
     }
 
-    // A line of this text.
     pub(crate) fn of(text: &[u8]) -> Line
         requires { length text.now ≤ rule.LINE_BYTES }
         ensures { result ≡ text.now }

@@ -51,8 +51,8 @@ fn fill<'s>(
     }
 }
 
-/// Writes how the runs of a sampler end, one for each place of the two slices: at place k that on the stream `first` + k. The
-/// memory is that of two runs, whatever the places. An error comes only where it runs out, before anything is written.
+/// Writes how the runs of a sampler end: place k of both slices gets the end of the run on the stream `first` + k. The memory
+/// is that of two runs, whatever the places. An error comes only where it runs out, before anything is written.
 pub fn draws_into(
     alloc: Global,
     s: &Sampler,

@@ -11,8 +11,8 @@ use gcl_core::{Checked, Limits};
 use sampler_run::compile;
 use std::alloc::{AllocError, Global};
 
-/// Writes how the runs of a program end, one for each place of the two slices: at place k that on the stream `first` + k. An
-/// error comes only where memory runs out, before anything is written.
+/// Writes how the runs of a program end: place k of both slices gets the end of the run on the stream `first` + k. An error
+/// comes only where memory runs out, before anything is written.
 pub fn draws_of(
     alloc: Global,
     program: &Checked,

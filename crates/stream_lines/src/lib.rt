@@ -1,4 +1,12 @@
-//! The lines of runs on the streams of a range, made by several threads and written as they come.
+//! The lines of runs on a range of seeded streams, made by several threads and written as they come.
+//!
+//! Proved: the sink took the lines of the program's runs on the streams of the range, all of them, in their order, and nothing
+//! else, whatever the number of workers and whichever ends first. Where a write failed it took a part of the front of these
+//! lines, and one failure is recorded (`write_runs`: `written`). Where memory runs out nothing was written (`untouched`).
+//!
+//! No clause says that two threads ran at once, how long a call takes, or how much memory it needs: its code takes all of it
+//! before the first byte, for 16,384 lines of each worker. Callers have to hand in limits in range, at most 2^40 streams, 1 to 64
+//! workers, and a budget of at most 10^9 bits.
 #![tactic(auto)]
 
 mod batch;

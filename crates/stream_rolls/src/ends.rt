@@ -9,8 +9,8 @@ use stream_draws::{MORE_BITS, VALUE};
 /// The limit of flips cut the roll off. No run of a program ends so.
 pub const FLIPS: u8 = 8;
 
-/// The number of the end of a roll. Where it has a label, or needed more bits than it was given, that is the number of a run that
-/// ended with a value, or did.
+/// The number of the end of a roll. A label has the number `VALUE` of a run that ended with a value, and bits that were missing
+/// have its number `MORE_BITS`.
 pub fn end_of(rolled: Roll) -> u8
     ensures { result ≡ end_of rolled }
 {

@@ -67,8 +67,8 @@ fn fill(
     }
 }
 
-/// Writes what rolls by weights give, one for each place of the two slices: at place k that on the stream `first` + k, with at
-/// most `flips` flips. The weights are laid out once, for all of them. An error comes only where the memory for that runs out,
+/// Writes what rolls by weights give, with at most `flips` flips each: place k of both slices gets the end of the roll on the
+/// stream `first` + k. The weights are laid out once, for all of them. An error comes only where the memory for that runs out,
 /// before anything is written.
 pub fn rolls_into(
     alloc: Global,

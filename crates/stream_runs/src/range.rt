@@ -31,7 +31,7 @@ impl SeedRange {
         (self.to - self.from).div_ceil(STREAMS_OF_A_BLOCK)
     }
 
-    /// The first stream of a block.
+    /// The first stream of the block of this number, from 0.
     pub fn first_stream(&self, block: u64) -> u64
         requires order { self.now.from ≤ self.now.to }
         requires block { block < blocks_over self.now.from self.now.to }

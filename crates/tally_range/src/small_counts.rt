@@ -58,7 +58,6 @@ impl SmallCounts {
     ghost use Rattle.tally_range.specs.Rows.{counted_at};
     ghost use Rattle.tally_range.specs.Sums.{count_in};
 
-    // No counts.
     pub(crate) fn new() -> SmallCounts
         ensures { (key : TallyKey) → count_in result key ≡ 0 }
     {

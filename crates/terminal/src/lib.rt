@@ -1,4 +1,12 @@
-//! What the program shows a person at a terminal: how far a count is, the place of a refusal in a text, and what may have been meant.
+//! What the program shows a person at a terminal: how far a count is, the place of a refusal in a text, and what may have been
+//! meant.
+//!
+//! Proved: the sinks that stand before the real ones, `WipingSink` and `KeepingSink`, have the record of the sink that they write
+//! to, so what is proved of the bytes that were written holds with them too; `KeepingSink::kept` answers the bytes that it kept.
+//!
+//! No clause says what is shown: the line of progress, the line of a text with a mark below, and the question for another word
+//! are only tested (`tests/progress`, `tests/screens`). Nor that a hint is right, or that all that is wrong with a text is found.
+//! Want of memory leaves out what would be shown.
 #![tactic(auto)]
 
 pub mod excerpt;

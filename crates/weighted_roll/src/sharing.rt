@@ -98,7 +98,6 @@ fn over_strings(half: u128, flips: u64) -> Frac
     Frac::of(half, strings_of(flips - 1))
 }
 
-// The share of each label.
 fn label_shares(
     alloc: Global,
     weights: &[u64],

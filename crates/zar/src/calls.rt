@@ -16,7 +16,6 @@ pub fn row_of(words: &[String]) -> Option<Row> {
     None
 }
 
-// The option of this word.
 fn setting_of(takes: &[Setting], word: &str) -> Option<Setting> {
     for setting in takes {
         if setting.0 == word {

@@ -1,4 +1,13 @@
-// The program: the words of the call, the files of the host, and the two standard streams.
+//! The program: the words of the call, the files of the host, the two standard streams, and what follows the line of a refusal at
+//! a terminal.
+//!
+//! Proved: `on_host`, the one call that `main` makes for a command, has the clause `answer` of `zar` in `zar_cli`, with the files
+//! and the writers of the host, from empty records on. It asks for fewer than 2^32 words, which `main` tests, and for nothing of
+//! the host.
+//!
+//! No clause speaks of `main` itself, which hands over the words and the streams and gives the status to the system: it is
+//! trusted, and tested by what the built program prints. Nor of what the files of the system hold, or of what is shown at a
+//! terminal alone, as `explain` and the line of progress do.
 #![tactic(auto)]
 
 ghost use Rattle.std.specs.Prelude.{◌<◌, ◌^◌, length};

@@ -34,8 +34,9 @@ pub fn on_host<
 )
     requires { length words.now < 2 ^ 32 }
 
-    // By what the host answered: the output is what is said of the words over any files that may have answered so, there are such
-    // files where no name is sought twice, and the writers took the text of the output, or a part of its front.
+    // By what the host answered: for every set of files that agrees with the record, the output is what is said of the words
+    // over these files; there are such files where no name is sought twice; and the writers took the text of the output, or a
+    // part of its front.
     ensures answer { IsAnswer (map string_bytes words.now) result.0
         [] (⟦<HostFiles<'p, R> as Files>⟧.answered result.1)
         [] (⟦<WipingSink<'p, HostSink<O>, R> as Sink>⟧.answered result.2)

@@ -30,7 +30,6 @@ pub struct ZarRollLimits {
     pub flips: u64,
 }
 
-// The limits of runs.
 pub(crate) fn run_limits(limits: &ZarLimits) -> Limits
     ensures { result ≡ limits_of limits.now }
 {

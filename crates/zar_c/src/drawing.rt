@@ -15,7 +15,7 @@ use gcl_text::check_text;
 use std::alloc::Global;
 use stream_draws::{StreamsFrom, draws_of};
 
-/// Writes how the runs of the program that a text spells end, one for each place of the two arrays: at place k that on the first
+/// Writes how the runs of the program that a text spells end: place k of both arrays gets the end of the run on the first
 /// `budget` bits of the stream `first` + k of the seed. The status is 0 where it did, 1 where the text spells no program, with
 /// the code and the place of its refusal, 2 where the numbers are out of range or the arrays are not alike, and 5 where memory
 /// ran out. Where it is not 0 the arrays stay as they were.

@@ -1,5 +1,15 @@
 //! The library for C. An export requires nothing but what the types of its parameters say, and tests the rest. It keeps nothing
 //! between calls, starts no thread, and opens no file.
+//!
+//! Proved: with status 0, `zar_draws` and `zar_roll` have filled the places of both arrays, all of them, with the ends and values
+//! of the runs or rolls on the streams that were asked for (`drawn`, `rolled`), and with any other status the arrays stay as they
+//! were (`untouched`). The calls for lines, as `zar_mass`, tell exactly the lines of their command or why there are none, and
+//! write them where they fit (`ensures`). The status is 1 only where the text spells no program, and 6 only where the cause of
+//! the code holds, but for the codes 13 and 14 of `zar_exact`, which tell none.
+//!
+//! No clause says that memory or the stack suffices, or how long a call takes. What no function can test is asked of its caller,
+//! in `zar.h`: that no pointer is null, that each array has the length that is told, that the arrays of a call do not overlap,
+//! and that no other thread writes them. That `zar.h` says what the exports take is tested, not proved.
 #![tactic(auto)]
 
 mod asking;

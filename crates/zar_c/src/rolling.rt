@@ -11,8 +11,8 @@ use std::alloc::Global;
 use stream_draws::StreamsFrom;
 use stream_rolls::rolls_into;
 
-/// Writes what rolls by weights give, one for each place of the two arrays: at place k that on the first `budget` bits of the
-/// stream `first` + k of the seed, with at most `flips` flips. The status is 0 where it did, 2 where no roll may have the
+/// Writes what rolls by weights give, with at most `flips` flips each: place k of both arrays gets the end of the roll on the
+/// first `budget` bits of the stream `first` + k of the seed. The status is 0 where it did, 2 where no roll may have the
 /// weights, a number is out of range or the arrays are not alike, and 5 where memory ran out. Where it is not 0 the arrays stay
 /// as they were.
 #[unsafe(no_mangle)]

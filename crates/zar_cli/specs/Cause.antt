@@ -18,8 +18,8 @@ pub record NoneFailed (out out_now err err_now : List Event) : Type 0 where
   pub on_err : failures err_now ≡ failures err
 
 -- The statuses have their causes. A write fault comes exactly where a write failed; else a read fault exactly where a read
--- failed; else the refusal of words exactly where they are no command. A file is missing only where the last answer was that one
--- which the words name is. After a failed read none is open.
+-- failed; else the refusal of words exactly where they are no command. The status of a missing file comes only where the last
+-- answer was that a file which the words name did not open. After a failed read none is open.
 pub record HasCause (words : List CallWord) (status : ℕ) (files files_now out out_now err err_now : List Event) : Type 0 where
   pub write_fault : status ≡ WRITE_FAULT → Failed out out_now ⊎ Failed err err_now
   pub failed_write : Failed out out_now ⊎ Failed err err_now → status ≡ WRITE_FAULT

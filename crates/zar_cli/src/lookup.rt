@@ -10,7 +10,7 @@ pub fn is_same(name: &str, other: &str) -> bool
     name == other
 }
 
-/// What stands beside a word in a table, at its first place.
+/// The value beside a word in a table, at the first place at which the word stands; or none.
 pub fn value_named<T: Copy>(mut table: &[(&str, T)], name: &str) -> Option<T>
     ensures { result ≡ value_named (map (λ e. (e.0.now, e.1)) table.entry.now) name.now }
 {

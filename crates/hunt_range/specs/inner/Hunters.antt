@@ -45,7 +45,8 @@ pub record Searched (s : Sought) (p : Pass) (q : LeastPass) : Type 0 where
   pub covers : Covers s (dealt_to p) (seen_by q)
   pub wanted : AreWanted s (offers_of q)
 
--- the worker stopped: there was no block left, or a block was dealt to it that begins at a number looked at, or behind it
+-- the worker stopped: there was no block left, or a block was dealt to it that begins at the least number that it has seen, or
+-- behind it
 abbrev pub HasStopped : Sought → Pass → LeastPass → Type 0
 HasStopped s p q = (had_none p ≡ true) ⊎ ((j : ℕ) × (0 < times j (dealt_to p)) × (seen_by q ≤ block_start s j))
 
