@@ -60,7 +60,8 @@ pub fn parts(bound: u64, attempts: Attempts) -> Option<(Frac, Frac)>
     Some((given.mul(&each)?, rest))
 }
 
-/// The table with each weight multiplied.
+/// The table with each weight multiplied by `w`. `TooWide` comes where a weight needs more than 128 bits, and `OutOfMemory`
+/// where memory runs out.
 pub fn scale(alloc: Global, w: &Frac, table: &Table) -> Result<Table, MassError>
     requires { 1 ≤ w.now.0 }
     ensures ok { IfOk result (λ t. (E : Ended) → ScaledTo w.now table.now E t) }
@@ -169,7 +170,9 @@ impl Fold {
         }
     }
 
-    /// The table after a uniform draw of a variable.
+    /// The table after a uniform draw of the variable x, below the value of an expression in each state. A state in which that
+    /// is a fault or no bound, and what no attempt decides, is added to `ended`. An error comes where a weight needs more than
+    /// 128 bits, a table more than [`MOST_STATES`](crate::MOST_STATES) states, or memory runs out.
     pub fn draw(self, x: u32, e: &Expr, table: Table, ended: &mut Ended) -> Result<Table, MassError>
         requires place { x < table.vars }
         requires reads { ExpressionBelow (expression_of e.now) table.vars }

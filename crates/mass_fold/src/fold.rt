@@ -36,7 +36,9 @@ pub struct Fold {
 }
 
 impl Fold {
-    /// The table after a block.
+    /// The table after a block. What ended on the way is added to `ended`, and the bits of the draws that were reached to the
+    /// meter. An error comes where a weight needs more than 128 bits, a table more than [`MOST_STATES`](crate::MOST_STATES)
+    /// states, or memory runs out.
     #[cycle(fold)]
     pub fn block(
         self,

@@ -41,7 +41,8 @@ fn outcome_sum(rows: &BTreeMap<Outcome, Frac>, x: &Outcome, f: &Frac) -> Result<
     }
 }
 
-/// Adds the weight of an outcome, where it is above 0.
+/// Adds the weight of an outcome, where it is above 0. An error comes where a weight needs more than 128 bits, or memory runs
+/// out.
 pub fn add(rows: &mut BTreeMap<Outcome, Frac>, x: Outcome, f: &Frac) -> Result<(), MassError>
     ensures ok { OnOk result (AddGives rows.old.entries rows.new.entries x f.now) }
     ensures cause { IfErr result (λ e. AddBlames e rows.old.entries f.now) }
@@ -55,7 +56,8 @@ pub fn add(rows: &mut BTreeMap<Outcome, Frac>, x: Outcome, f: &Frac) -> Result<(
     Ok(())
 }
 
-/// Adds the outcomes of the states that the body ends in.
+/// Adds the outcomes of the states that the body ends in, each with the weight of its state. An error comes where a weight
+/// needs more than 128 bits, or memory runs out.
 pub fn add_results(
     e: &Expr,
     table: &Table,
@@ -71,7 +73,8 @@ pub fn add_results(
     Ok(())
 }
 
-/// Adds the faults and the limits that the body ends in.
+/// Adds the faults and the limits that the body ends in, each with its weight. An error comes where a weight needs more than
+/// 128 bits, or memory runs out.
 pub fn add_ended(ended: &Ended, rows: &mut BTreeMap<Outcome, Frac>) -> Result<(), MassError>
     ensures ok { OnOk result (EndedGive ended.now rows.old.entries rows.new.entries) }
     ensures cause { IfErr result (λ error. EndedBlame error ended.now rows.old.entries) }

@@ -13,7 +13,8 @@ use gcl_core::{Limit, Outcome};
 use std::alloc::Global;
 use std::collections::BTreeMap;
 
-/// s + f s + .., a term for each round. `None` where it does not fit. Where f is 0, one round is all.
+/// s + f s + f^2 s + .., a term for each round. `None` where a fraction on the way needs more than 128 bits. Where f is 0, one
+/// round is all.
 pub fn repeated(s: &Frac, f: &Frac, rounds: u64) -> Option<Frac>
     requires { 1 ≤ rounds }
     ensures value { IfSome result (IsRepeated s.now f.now rounds) }
@@ -30,7 +31,7 @@ pub fn repeated(s: &Frac, f: &Frac, rounds: u64) -> Option<Frac>
     Some(sum)
 }
 
-// f to the power of the rounds; none where it does not fit. Where f is 0 or 1 it is its power.
+// f to the power of the rounds; none where that needs more than 128 bits. Where f is 0 or 1 it is its own power.
 fn all_failed(f: &Frac, rounds: u64) -> Option<Frac>
     requires some { 1 ≤ rounds }
     requires most { f.now.0 ≤ f.now.1 }
@@ -43,8 +44,9 @@ fn all_failed(f: &Frac, rounds: u64) -> Option<Frac>
     power(f, rounds)
 }
 
-/// The weights of an outcome in `rounds` rounds, from those in one: each further round gives it the same weight times that of all
-/// rounds before to fail. What fails in all of them is the limit of rounds.
+/// The weights of outcomes in `rounds` rounds, from those in one: each further round gives an outcome its weight again, times
+/// the probability that all rounds before failed. What fails in all of them is the limit of rounds. An error comes where a
+/// weight needs more than 128 bits, or memory runs out.
 pub fn in_rounds(
     alloc: Global,
     table: BTreeMap<Outcome, Frac>,
@@ -66,7 +68,8 @@ pub fn in_rounds(
     Ok(masses)
 }
 
-/// The weights of all rounds without a limit, from those in one: each divided by the probability that a round does not fail.
+/// The weights of all rounds without a limit, from those in one: each divided by the probability that a round does not fail. An
+/// error comes where a weight needs more than 128 bits, or memory runs out.
 pub fn over_rest(
     alloc: Global,
     table: BTreeMap<Outcome, Frac>,

@@ -44,7 +44,7 @@ impl FracRows {
         &self.rows[i]
     }
 
-    /// The entries of a table as rows.
+    /// The entries of a table as rows, in their order. An error comes only where memory runs out.
     pub fn of(alloc: Global, table: BTreeMap<Outcome, Frac>) -> Result<FracRows, MassError>
         ensures same { IfOk result (λ rows. rows ≡ table.entries) }
         ensures ascending { IfOk result Ascending }

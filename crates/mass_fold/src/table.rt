@@ -68,7 +68,7 @@ impl Table {
         }
     }
 
-    /// One state, of `vars` variables that are 0, with the weight 1.
+    /// One state, of `vars` variables that are 0, with the weight 1. An error comes only where memory runs out.
     pub fn start(alloc: Global, vars: u32) -> Result<Table, MassError>
         ensures one { IfOk result (λ t. t.states.entries ≡ (zeros vars, (1, 1)) ∷ []) }
         ensures vars { IfOk result (λ t. t.vars ≡ vars) }
@@ -81,7 +81,8 @@ impl Table {
         Ok(Table { vars, states })
     }
 
-    /// Adds the weight of a state.
+    /// Adds the weight of a state. `TooManyStates` comes where it would be one state more than [`MOST_STATES`], `TooWide` where
+    /// its weight needs more than 128 bits, and `OutOfMemory` where memory runs out.
     pub fn put(&mut self, s: State, f: Frac) -> Result<(), MassError>
         requires { length s ≡ self.old.vars }
         ensures ok { OnOk result (PutGives self.old.states.entries self.new.states.entries s f) }

@@ -68,7 +68,8 @@ fn marked(
     Ok(said)
 }
 
-/// The file, the line and the column of a place in it, and the line with a mark of this length under the place.
+/// The file, the line and the column of a place in it, and the line with a mark of this length under the place. An error comes
+/// only where memory runs out.
 pub fn excerpt(
     alloc: Global,
     file: &str,

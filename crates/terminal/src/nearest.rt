@@ -22,7 +22,7 @@ impl<'w> Nearest<'w> {
         }
     }
 
-    /// The nearest of those before and this one.
+    /// The nearest of those before and this one. An error comes only where memory runs out.
     pub fn offer(self, alloc: Global, other: &'w str) -> Result<Nearest<'w>, AllocError> {
         let wrong = damerau_levenshtein(alloc, self.word, other)?;
         if wrong < self.below {
@@ -36,7 +36,7 @@ impl<'w> Nearest<'w> {
         }
     }
 
-    /// A question for the nearest word, if one is near.
+    /// A question for the nearest word; empty where none is near. An error comes only where memory runs out.
     pub fn question(self, alloc: Global) -> Result<String, AllocError> {
         match self.best {
             Some(best) => format!(in alloc; "; did you mean '{best}'?"),
