@@ -8,7 +8,8 @@ use Rattle.weighted_roll.specs.declared.columns.Column.TheVariants.{Leaf, Rest}
 abbrev pub next_of : ℕ → ℕ → ℕ
 next_of b r = if nat_le b (2 * r) then 2 * r - b else 2 * r
 
--- the label i has a leaf, or none: the string of number 0 is at it, and the others are numbered on
+-- where the label i has a leaf, the string of number 0 is at it, and each other has one number less from there on; where it has
+-- none, nothing changes
 abbrev pub past_label : Bool → ℕ → ℕ → (ℕ → Column) → Column
 past_label true i zero on = Leaf i
 past_label true i (suc k) on = on k

@@ -18,7 +18,7 @@ use Rattle.zar_cli.specs.Words.{command_of}
 
 -- what is said of a command over the files
 pub record IsSaidOf (command : Command) (before now : List Event) (output : Output) : Type 0 where
-  -- whatever the files are, it is what is said over some, or it may be said
+  -- whatever the files are, it is what the command says over some files, or what it may say beside that
   pub fits : MaySay command output ⊎ ((file : World) × IsOutput file command output)
   pub leaves : Leaves (names_in command) (refusal_in output) before now
   -- of the files that the command names the first are sought, each once, in their order, and no other

@@ -22,11 +22,11 @@ abbrev pub reading : Option (List ℕ) → (List ℕ → Output → Type 0) → 
 reading (Some bytes) go output = go bytes output
 reading None go output = output ≡ Err NoFile
 
--- that is said of the bits of a file, where it is there
+-- what is said of the bits of a file, where it is there
 abbrev pub on_bits : Option (List ℕ) → (List Bool → Said) → Output → Type 0
 on_bits file say = reading file (λ bytes. says (say (file_bits bytes)))
 
--- on with the program that a text has; where the text is refused instead, that is said, with the code and the place
+-- on with the program that a text has; where it has none, the refusal is said, with its code and place
 pub record HasOrRefuses (Has : SourceProgram → Type 0) (Refuses : ℕ → Option ℕ → Type 0) (go : SourceProgram → Output → Type 0)
     (output : Output) : Type 0 where
   pub right : ((p : SourceProgram) × Has p × go p output)

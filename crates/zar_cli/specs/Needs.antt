@@ -28,7 +28,7 @@ names_in (Roll weights flips (Some source)) = names_of_bits source
 names_in (Roll weights flips None) = []
 names_in (Help topic) = []
 
--- whether it takes memory: help, and a roll on the bits of a stream, hold nothing
+-- whether it takes memory: help takes none, nor does a roll of `fast` on the bits of a stream
 abbrev pub takes_memory : Command → Bool
 takes_memory (Fast labels flips (Some (Stream seed stream budget))) = false
 takes_memory (Help topic) = false

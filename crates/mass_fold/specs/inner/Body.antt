@@ -19,8 +19,8 @@ use Rattle.mass_fold.specs.inner.Fold.{Stands, EndStands}
 use Rattle.mass_fold.specs.Metering.{Priced, price}
 use Rattle.mass_fold.specs.inner.Metering.{Counted}
 
--- At the common denominator of a round, the table and what ended stand for those of the definition. Whatever ends of the body are
--- meant, in a state or otherwise, they hold together as much as the weighted ends of the body give them.
+-- At the common denominator of a round, the table and what ended stand for those of the definition. For every set of ends of
+-- the body, they hold together as much as the weighted ends of the body give it.
 pub record BodyGives (p : SourceProgram) (n : ℕ) (r : Option ℕ) (es : Entries) (E : Ended) : Type 0 where
   pub stands : Stands (round_width p n r) es (tables_of p n r).next
   pub masses : (is : End → Bool)

@@ -15,7 +15,7 @@ use Rattle.mass_fold.specs.Amounts.{held, AreHeld}
 use Rattle.mass_fold.specs.inner.Amounts.{Entries, Blames}
 use Rattle.mass_fold.specs.inner.Ended.{rows_of}
 
--- a table with each state once stands for a list of states, at a scale: whatever counts a state, both count the same
+-- a table with each state once stands for a list of states, at a scale: both weigh the same, for every weighting of states
 pub record Stands (N : ℕ) (es : Entries) (I : Table) : Type 0 where
   pub kept : AreHeld N es
   pub same : (G : State → ℕ) → held N G es ≡ amount N G I
@@ -66,7 +66,8 @@ WeighedBy part count es fs = (u : Fraction) → 0 < u.1 → part.0 * count * u.1
 abbrev pub WeighBlamesBy : Fraction → ℕ → Entries → MassError → Type 0
 WeighBlamesBy part count es e = (u : Fraction) → 0 < u.1 → u.0 ≤ u.1 → part.0 * count * u.1 ≡ u.0 * part.1 → WeighBlames u es e
 
--- a loop with t turns left, begun on the table I with J ended: what is left of it makes up for what stands
+-- a loop with t turns left, begun on the table I where J had ended: what was collected and what is still to come are together
+-- what the whole loop gives
 pub record LoopAt (flow : ℕ → Table → Flow) (n t : ℕ) (now exits : Entries) (E : Ended) (N L : ℕ) (I : Table) (J : Weighted End)
     : Type 0 where
   pub table : Table

@@ -13,7 +13,7 @@ use Rattle.mass_fold.specs.Rows.{Rows}
 abbrev pub counted : (Outcome → Bool) → Outcome → ℕ
 counted meant x = cond (meant x) 1 0
 
--- whatever outcomes are meant, the rows hold as much as the masses give them
+-- for every set of outcomes, the rows hold as much as the masses give it
 pub record HoldMasses (N : ℕ) (mass : (Outcome → Bool) → Fraction) (rows : Rows) : Type 0 where
   pub positive : 0 < N
   pub kept : AreHeld N rows

@@ -21,8 +21,7 @@ use Rattle.mass_fold.specs.Metering.{IsPriced, Priced, price}
 
 -- ---- a meter
 
--- `many` parts more, of X parts of a bit; where there is no room for them, 128 bits are too few for X times any bound of the
--- whole
+-- `many` / X bits more; they are too wide only where, for every bound C of the sum, 128 bits are too few for X * C
 abbrev pub CountedOn : ℕ → ℕ → Fraction → Meter → Type 0
 CountedOn X many f Off = ⊥
 CountedOn X many f (Bits g) = Whole X f → Whole X g × (whole X g ≡ whole X f + many)
@@ -78,7 +77,7 @@ CountsAll Fact p es m m' = (N M : ℕ) → 0 < N → 0 < M → AreHeld N es → 
 abbrev pub CountsDraws : Option ℕ → ℕ → List ℕ → Entries → Meter → Meter → Type 0
 CountsDraws r b ends es m m' = CountsAll (λ M s. IsPriced r M b) (λ M s. price r M ends) es m m'
 
--- whatever the rest counts, all do
+-- what the meter comes to by the rest of the entries, it comes to by all
 abbrev pub CountsRest : (ℕ → State → Type 0) → (ℕ → State → ℕ) → Entries → Meter → Meter → Entries → Type 0
 CountsRest Fact p es m now rest = (m' : Meter) → CountsAll Fact p rest now m' → CountsAll Fact p es m m'
 

@@ -41,7 +41,7 @@ pub record HasMoved (code : List Instruction) (l : Limits) (old new : Registers)
   pub moved : MovedTo code l old new before after p
   pub shape : SameShape old new
 
--- whatever code has a draw of x there that has begun, or is under way, at an attempt below b, it moves so from this attempt on
+-- any code that has a draw of x at the index, which stands at this attempt below b, moves so from there on
 abbrev pub DrawMoves : ℕ → Trial → ℕ → Registers → Registers → ℕ → ℕ → ℕ → Pace → Type 0
 DrawMoves b t x old new word before after p = (code : List Instruction) (l : Limits) (e : Expression) →
     slice_get code old.index ≡ Some (Range x e) → CanRun code l old before → HasBegun code l (machine_of old) word before b t →
