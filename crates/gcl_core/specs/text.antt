@@ -1,5 +1,6 @@
 -- Texts: their pieces and words, the program that these derive, which programs are accepted, and how they are printed.
 pub mod Names
+pub mod Numbers
 pub mod Levels
 pub mod Pieces
 pub mod Tokens

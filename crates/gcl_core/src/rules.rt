@@ -18,5 +18,7 @@ pub const GREATEST_DENOMINATOR: u64 = 1 << 62;
 pub const LEAST_ARMS: usize = 2;
 /// The most arms of a choice among several.
 pub const MOST_ARMS: usize = 16;
+/// The most digits of a number that a word spells.
+pub const MOST_DIGITS: usize = 20;
 /// The greatest limit of turns, of attempts and of rounds.
 pub const MOST_LIMIT: u64 = 1_000_000_000;

@@ -6,8 +6,7 @@ ghost use Rattle.gcl_core.specs.text.Names.{value_named};
 ghost use Rattle.gcl_core.specs.text.Pieces as piece;
 ghost use Rattle.gcl_lex.specs.inner.Cutting as cutting;
 
-use crate::names::value_named;
-use gcl_core::{PieceKind, SYMBOLS, Sym};
+use gcl_core::{PieceKind, SYMBOLS, Sym, value_named};
 
 /// A piece at the front of a text, by its length in bytes.
 #[derive(Clone, Copy)]

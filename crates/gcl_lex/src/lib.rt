@@ -13,7 +13,6 @@
 mod cutting;
 mod error;
 mod lexing;
-mod names;
 mod piece;
 
 pub use error::LexError;

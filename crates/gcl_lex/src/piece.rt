@@ -9,8 +9,7 @@ ghost use Rattle.gcl_lex.specs.inner.Reads.{number_of_digits, ReadsPiece};
 
 use crate::cutting::symbol;
 use crate::error::LexError;
-use crate::names::value_named;
-use gcl_core::{GREATEST_LITERAL, KEYWORDS, Key, LONGEST_NAME, PieceKind, TokenKind};
+use gcl_core::{GREATEST_LITERAL, KEYWORDS, Key, LONGEST_NAME, PieceKind, TokenKind, value_named};
 
 // The value of some digits, or none where it is above `GREATEST_LITERAL`.
 fn number(digits: &[u8]) -> Option<u64>

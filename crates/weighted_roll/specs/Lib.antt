@@ -1,5 +1,4 @@
 pub mod Weights
-pub mod Numbers
 pub mod Listed
 pub mod Columns
 pub mod WeightedRoll

@@ -1,7 +1,7 @@
 -- The weights that a word of a call lists: numbers with a comma, the code 44, between two. This project's own rule.
 use Rattle.std.specs.Prelude.{ℕ, ◌&&◌, ◌==◌, List, [], ◌∷◌, ◌++◌, length, Option, Some, None, nat_le, if◌then◌else◌}
 use Rattle.weighted_roll.specs.declared.rules.TheConstants.{GREATEST_SUM, MOST_LISTED}
-use Rattle.weighted_roll.specs.Numbers.{number_in}
+use Rattle.gcl_core.specs.text.Numbers.{number_in}
 use Rattle.weighted_roll.specs.Weights.{are_weights}
 
 -- a weight is a number of at most the greatest sum

@@ -1,5 +1,5 @@
-//! One draw of a label by weights with as few flips as can be, numbers and weights as words list them, what the labels weigh, and
-//! why no exact draw needs fewer flips.
+//! One draw of a label by weights with as few flips as can be, weights as words list them, what the labels weigh, and why no exact
+//! draw needs fewer flips.
 //!
 //! Proved: `roll`, and `Loaded::roll` by weights that are laid out once, answer the walk with remainders down the tree of Knuth
 //! and Yao on the bits of a source, and just the bits that they count are gone (`answer`, `taken`). Of the strings of T bits
@@ -15,7 +15,6 @@
 mod columns;
 mod laws;
 mod loaded;
-mod numbers;
 mod reading;
 mod rolling;
 mod rules;
@@ -26,9 +25,8 @@ mod word_flips;
 
 pub use laws::{equal_weights_roll_fast, exact_rollers_stay_below, weighted_rolls_are_optimal};
 pub use loaded::Loaded;
-pub use numbers::number_in;
 pub use reading::{lists_weights, weights_in};
 pub use rolling::roll;
-pub use rules::{GREATEST_SUM, MOST_DEPTH, MOST_DIGITS, MOST_LABELS, MOST_LISTED};
+pub use rules::{GREATEST_SUM, MOST_DEPTH, MOST_LABELS, MOST_LISTED};
 pub use sharing::{Shares, weigh_labels};
 pub use weights::are_weights;

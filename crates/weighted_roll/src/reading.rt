@@ -5,9 +5,9 @@ ghost use Rattle.weighted_roll.specs.Listed.{weight_in, parts_from, weights_in};
 ghost use Rattle.weighted_roll.specs.Weights.{AreWeights};
 ghost use Rattle.weighted_roll.specs.inner.Sums.{HasSums};
 
-use crate::numbers::number_in;
 use crate::rules::{GREATEST_SUM, MOST_LISTED};
 use crate::weights::are_weights;
+use gcl_core::number_in;
 use std::alloc::{AllocError, Global};
 
 // The weight that a part of a word is, if it is one.

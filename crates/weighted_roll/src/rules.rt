@@ -8,5 +8,3 @@ pub const GREATEST_SUM: u64 = 1 << 62;
 pub const MOST_DEPTH: usize = 64;
 /// The most weights that a word lists.
 pub const MOST_LISTED: usize = 4_096;
-/// The most digits of a weight that a word lists.
-pub const MOST_DIGITS: usize = 20;

@@ -6,7 +6,7 @@ use Rattle.gcl_core.specs.text.Names.{value_named}
 use Rattle.gcl_core.specs.declared.answers.Outcome.TheVariants as outcome
 use Rattle.gcl_core.specs.declared.answers.TallyKey.{TallyKey}
 use Rattle.gcl_core.specs.declared.answers.TallyKey.TheVariants as key
-use Rattle.weighted_roll.specs.Numbers.{number_in}
+use Rattle.gcl_core.specs.text.Numbers.{number_in}
 use Rattle.zar_cli.specs.declared.keys.TheConstants.{WANTS, BEFORE_VALUES}
 
 abbrev pub CallWord : Type 0

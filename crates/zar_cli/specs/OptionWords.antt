@@ -14,7 +14,7 @@ use Rattle.zar_cli.specs.declared.command.Source.TheVariants as source
 use Rattle.zar_cli.specs.declared.settings.Form.{Form}
 use Rattle.zar_cli.specs.declared.settings.Form.TheVariants as form
 use Rattle.zar_cli.specs.declared.settings.TheConstants.{BITS, SEED, STREAM, BUDGET, FROM, TO, WORKERS, TURNS, ATTEMPTS, ROUNDS, WANT, ALL_TURNS, USUAL_LIMIT, USUAL_BUDGET, USUAL_WORKERS}
-use Rattle.weighted_roll.specs.Numbers.{number_in}
+use Rattle.gcl_core.specs.text.Numbers.{number_in}
 use Rattle.zar_cli.specs.Forms.{CallWord, is_name, key_named}
 
 -- an option: its word, and the form of the value behind it

@@ -11,12 +11,12 @@ use crate::settings::{
 };
 use audit_walk::MOST_DEPTH;
 use dice_roll::{LEAST_LABELS, MOST_FLIPS, MOST_LABELS};
-use gcl_core::MOST_LIMIT;
 use gcl_core::refusals::BAD_WORDS;
+use gcl_core::{MOST_LIMIT, number_in};
 use generated_program::GREATEST_NUMBER;
 use report_text::VERSION_LINE;
 use stream_runs::MOST_WORKERS;
-use weighted_roll::{GREATEST_SUM, MOST_LISTED, number_in};
+use weighted_roll::{GREATEST_SUM, MOST_LISTED};
 use zar_io::MOST_BUDGET;
 
 /// What help is asked for.

@@ -3,9 +3,7 @@
 ghost use Rattle.std.specs.Prelude.{◌≡◌};
 ghost use Rattle.zar_cli.specs.Forms.{value_in, printed_value_in, want_named, key_named};
 
-use crate::lookup::value_named;
-use gcl_core::{Fault, Limit, Outcome, TallyKey};
-use weighted_roll::number_in;
+use gcl_core::{Fault, Limit, Outcome, TallyKey, number_in, value_named};
 
 /// Each way to end that has words: one, and those with which it is printed. Code and definitions read this table.
 pub const WANTS: [(&str, TallyKey); 16] = [
@@ -90,7 +88,7 @@ fn printed_value_in(word: &str) -> Option<i64>
 fn want_named(word: &str) -> Option<TallyKey>
     ensures { result ≡ want_named word.now }
 {
-    value_named(&WANTS, word)
+    value_named(&WANTS, word.as_bytes())
 }
 
 // The way to end that a word names.

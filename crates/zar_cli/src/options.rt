@@ -15,9 +15,8 @@ use crate::settings::{
     ATTEMPTS, BITS, BUDGET, FROM, Form, ROUNDS, SEED, Setting, TO, TURNS, USUAL_BUDGET,
     USUAL_LIMIT, USUAL_WORKERS, WANT, WORKERS,
 };
-use gcl_core::{Limits, TallyKey};
+use gcl_core::{Limits, TallyKey, number_in};
 use stream_runs::{MOST_STREAMS, SeedRange};
-use weighted_roll::number_in;
 
 /// The options of a command: the word of each, and its value behind it, unless it stands alone.
 #[derive(Clone, Copy)]

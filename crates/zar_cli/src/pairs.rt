@@ -3,8 +3,8 @@
 ghost use Rattle.std.specs.Prelude.{◌≡◌, ◌+◌, ◌^◌, ◌<◌, [], length, map, string_bytes};
 ghost use Rattle.zar_cli.specs.OptionWords.{excludes, stands_alone, bars, is_barred, form_behind, wrong_option};
 
-use crate::lookup::value_named;
 use crate::settings::{ALL_TURNS, BITS, BUDGET, Form, SEED, STREAM, Setting};
+use gcl_core::value_named;
 
 // Bits of a file and bits of a stream exclude each other.
 fn excludes(name: &str, other: &str) -> bool
@@ -54,7 +54,7 @@ fn form_behind(takes: &[Setting], before: &[String], name: &str) -> Option<Form>
     if is_barred(name, before) {
         None
     } else {
-        value_named(takes, name)
+        value_named(takes, name.as_bytes())
     }
 }
 

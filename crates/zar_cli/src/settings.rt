@@ -2,18 +2,17 @@
 
 ghost use Rattle.std.specs.Prelude.{◌≡◌, is_some, map, option_map, IfSome};
 ghost use Rattle.zar_cli.specs.OptionWords.{fits};
-ghost use Rattle.gcl_core.specs.text.Names.{value_named};
+ghost use Rattle.gcl_core.specs.text.Names.{same_name, value_named};
 ghost use Rattle.zar_cli.specs.Words.{Row, row_named};
 ghost use Rattle.zar_cli.specs.inner.OptionsView.{first_form, IsNumberOf};
 
 use crate::keys::key_named;
-use crate::lookup::is_same;
 use audit_walk::MOST_DEPTH;
 use dice_roll::{LEAST_LABELS, MOST_FLIPS, MOST_LABELS};
-use gcl_core::MOST_LIMIT;
+use gcl_core::{MOST_LIMIT, number_in};
 use generated_program::GREATEST_NUMBER;
 use stream_runs::MOST_WORKERS;
-use weighted_roll::{lists_weights, number_in};
+use weighted_roll::lists_weights;
 use zar_io::MOST_BUDGET;
 
 /// The word of a command.
@@ -159,7 +158,13 @@ pub const USUAL_FLIPS: u64 = 1000;
 /// The limit of flips under which the labels of a roll are weighed where none is given.
 pub const USUAL_WEIGHED_FLIPS: u64 = 30;
 
-// What stands beside a word in such a table, at its first place.
+fn is_same(word: &str, other: &str) -> bool
+    ensures { result ≡ same_name word.now other.now }
+{
+    word == other
+}
+
+// What stands beside a word in such a table, at its first place. That a row's slices are seen as lists is said here, row by row.
 fn row_in(mut table: &[(&str, Row)], word: &str) -> Option<Row>
     ensures { option_map {U = Row} (λ r. (r.0, r.1, map (λ s. (s.0.now, s.1)) r.2.now, map (λ s. (s.0.now, s.1)) r.3.now)) result
         ≡ value_named {A = Row} (map (λ r. (

@@ -2,7 +2,7 @@ use Rattle.std.proofs.Common.{◌≡◌, ◌≢◌, [], ◌∷◌, None, refl, s
 use Rattle.std.proofs.lemmas.Bool.{ne_eqb}
 use Rattle.std.proofs.lemmas.Str.Pattern.{strip_prefix_char}
 use Rattle.gcl_core.specs.declared.refusals.TheConstants.{BAD_WORDS}
-use Rattle.weighted_roll.specs.Numbers.{number_in}
+use Rattle.gcl_core.specs.text.Numbers.{number_in}
 use Rattle.zar_cli.specs.Forms.{CallWord}
 use Rattle.zar_cli.specs.Words.{code_named}
 use Rattle.zar_cli.proofs.help.code_named.Goals as goal

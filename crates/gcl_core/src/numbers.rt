@@ -1,11 +1,11 @@
-// Numbers as a word of a call spells them.
+// Numbers as words spell them.
 
 ghost use Rattle.std.specs.Prelude.{◌≡◌, ◌≤◌, true, length, IfSome};
 ghost use Rattle.std.specs.List.{list_all};
 ghost use Rattle.std.specs.Str.Parse.{digits_value};
 ghost use Rattle.gcl_core.specs.text.Pieces.{is_digit};
-ghost use Rattle.weighted_roll.specs.declared.rules.TheConstants.{MOST_DIGITS};
-ghost use Rattle.weighted_roll.specs.Numbers.{number_in};
+ghost use Rattle.gcl_core.specs.declared.rules.TheConstants.{MOST_DIGITS};
+ghost use Rattle.gcl_core.specs.text.Numbers.{number_in};
 
 use crate::rules::MOST_DIGITS;
 

@@ -1,4 +1,4 @@
-// Names in a table.
+// Values in a table, each by its name.
 
 ghost use Rattle.std.specs.Prelude.{◌≡◌, map};
 ghost use Rattle.gcl_core.specs.text.Names.{same_name, value_named};

@@ -1,9 +1,9 @@
--- Numbers as a word of a call spells them. This project's own rule.
+-- Numbers as words spell them. This project's own rule.
 use Rattle.std.specs.Prelude.{ℕ, ◌&&◌, List, length, Option, Some, None, nat_le, if◌then◌else◌}
 use Rattle.std.specs.List.{list_all}
 use Rattle.std.specs.Str.Parse.{digits_value}
 use Rattle.gcl_core.specs.text.Pieces.{is_digit}
-use Rattle.weighted_roll.specs.declared.rules.TheConstants.{MOST_DIGITS}
+use Rattle.gcl_core.specs.declared.rules.TheConstants.{MOST_DIGITS}
 
 -- a number is 1 to `MOST_DIGITS` digits, leading zeros allowed, with a value in its range
 abbrev pub number_in : ℕ → ℕ → List ℕ → Option ℕ
