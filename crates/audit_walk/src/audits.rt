@@ -18,7 +18,7 @@ impl Audit {
     ghost use Rattle.audit_walk.specs.Rows.{sum_of_counts};
     ghost use Rattle.audit_walk.specs.inner.Sums.{AddsUp};
 
-    // All strings end in one outcome.
+    // The audit of all strings of `left` bits, where each of them ends in one outcome.
     pub(crate) fn ended(alloc: Global, outcome: Outcome, left: u32) -> Result<Audit, AllocError>
         requires { left ≤ MOST_DEPTH }
         ensures rows { IfOk result (λ a. a.rows ≡ (outcome, 2 ^ left) ∷ []) }

@@ -3,8 +3,8 @@
 //! Proved: the rows of `enclose` are exactly those of `enclosure_law`, outcomes ascending (`rows`, `other`). Each mass lies
 //! between its two bounds (`enclose`), for all turns at every greater limit of turns too, where without a limit of rounds a round
 //! fails with probability below 1; and these are no further apart than the bound of the others and a few units (`close`). It is
-//! never refused for its width: only where a point has more than 65,536 states, where rounds have no limit and no unit of a round
-//! passes, or out of memory (`refused`).
+//! never refused for its width: but for want of memory, only where a point has more than 65,536 states, or where rounds have no
+//! limit and no unit of a round passes (`refused`).
 //!
 //! No clause says that bounds are narrow, that a refusal comes where its cause holds, that memory or the stack suffices, or how
 //! long a call takes, which grows with the states and with the limit of turns. Callers have to hand in limits in range.

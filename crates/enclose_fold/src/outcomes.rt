@@ -28,7 +28,6 @@ fn sum_at(units: &BTreeMap<Outcome, u128>, x: &Outcome, w: u128) -> u128
     }
 }
 
-// Adds units of an outcome.
 fn add(units: &mut BTreeMap<Outcome, u128>, x: Outcome, w: u128) -> Result<(), MassError>
     requires { total units.old.entries + w ≤ ALL }
     ensures ok { OnOk result (Adds units.old.entries x w units.new.entries) }

@@ -67,7 +67,7 @@ fn add(sum: &Frac, f: &Frac) -> Option<Frac>
     sum.add(f)
 }
 
-// The sum of the weights.
+// The sum of the weights, or none where it, or a sum on the way to it, does not fit.
 fn total(rows: &BTreeMap<Outcome, Frac>) -> Option<Frac>
     ensures { IfSome result (SumsTo rows.now.entries) }
 {

@@ -101,7 +101,7 @@ pub(crate) fn chain_of(alloc: Global, e: &Expr) -> Result<Option<(Vec<Test>, boo
     }
 }
 
-// A number has this truth.
+// Whether a number counts as this truth: any but 0 is true.
 #[inline(always)]
 fn has_truth(truth: bool, v: i64) -> bool
     ensures { result ≡ settles_at truth v }

@@ -12,7 +12,6 @@ ghost use Rattle.gcl_check.specs.Refused.{refusal_answered};
 use crate::refusals::CheckError;
 use gcl_core::{Arms, GREATEST_DENOMINATOR};
 
-// Each part is 0.
 fn are_zero(arms: &Arms) -> bool
     ensures { result ≡ (sum (parts_of (list_of_arms arms.now)) == 0) }
 {

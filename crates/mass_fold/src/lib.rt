@@ -1,10 +1,10 @@
 //! Exact masses of a program's outcomes, by tables of states that are merged at each point, and the expected bits of the draws on
 //! the way.
 //!
-//! Proved: `mass` gives exactly the masses above 0, in lowest terms, outcomes ascending (`rows`). It refuses them only for a
-//! cause that holds (`refused`): the width is 2^128 or more, a point has more than 65,536 states, all rounds fail and have no
-//! limit, or memory ran out. `round_bits` gives the bits that the draws of one round read on average. Law: the rows of `mass` are
-//! what the strings of bits of a run weigh (`masses_are_weighed`).
+//! Proved: `mass` gives exactly the masses above 0, in lowest terms, outcomes ascending (`rows`). But for want of memory it
+//! refuses them only for a cause that holds (`refused`): the width is 2^128 or more, a point has more than 65,536 states, or all
+//! rounds fail and have no limit. `round_bits` gives the bits that the draws of one round read on average. Law: the rows of
+//! `mass` are what the strings of bits of a run weigh (`masses_are_weighed`).
 //!
 //! No clause says that a refusal comes where its cause holds: a program of greater width may have its masses all the same. Nor
 //! that memory or the stack suffices, nor how long a call takes, which grows with the states and with the limit of turns. Callers

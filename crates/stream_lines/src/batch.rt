@@ -42,7 +42,6 @@ impl Batch {
         })
     }
 
-    // The bytes of the batch.
     pub(crate) fn bytes(&self) -> &[u8]
         ensures { result.now ≡ self.now }
     {

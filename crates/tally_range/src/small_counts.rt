@@ -44,7 +44,6 @@ fn small_value(key: TallyKey) -> Option<usize>
     }
 }
 
-// The key of a small value.
 fn key_of_value(value: usize) -> TallyKey
     requires { value < SMALL_VALUES }
     ensures { result ≡ value_key value }

@@ -11,7 +11,6 @@ fn printed(alloc: Global, text: &[u8]) -> Result<Vec<u8>, Fail> {
     Ok(print(alloc, &parse_text(alloc, text)?.program)?)
 }
 
-// The parts, joined.
 fn joined(alloc: Global, parts: &[&str]) -> Result<Vec<u8>, AllocError> {
     let mut whole = Vec::new(alloc);
     for part in parts {

@@ -61,7 +61,7 @@ fn push_leaves(labels: &mut Vec<u32>, rests: &[u64], whole: u64) -> Result<(), A
 }
 
 impl Table {
-    // So many columns of these weights.
+    // The first `depth` columns of these weights, laid out.
     pub(crate) fn of(alloc: Global, weights: &[u64], depth: usize) -> Result<Table, AllocError>
         requires { AreWeights weights.now }
         ensures { IfOk result (λ r. r.weights.items ≡ weights.now) }

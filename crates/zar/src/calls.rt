@@ -82,7 +82,7 @@ fn form_said(alloc: Global, form: Form) -> Result<String, AllocError> {
     }
 }
 
-// No command has this word.
+// What is said where no command has the first word.
 fn of_command(alloc: Global, words: &[String]) -> Result<String, AllocError> {
     let Some(word) = words.first() else {
         return String::from_str(alloc, "a command is missing");

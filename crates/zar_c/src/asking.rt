@@ -40,7 +40,6 @@ pub(crate) fn run_limits(limits: &ZarLimits) -> Limits
     }
 }
 
-// Whether limits are in range.
 pub(crate) fn is_in_range(l: &Limits) -> bool
     ensures { IsTrue result ↔ InRange l.now }
 {

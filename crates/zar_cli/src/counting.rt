@@ -61,7 +61,7 @@ pub fn tally_text<R: Threads + Sync, G: Gate>(
     Ok(text)
 }
 
-/// What is said of them.
+/// How a program's runs end on the streams of a range, as what the command says.
 pub fn tally_of<R: Threads + Sync, G: Gate>(
     rt: &R,
     alloc: Global,

@@ -84,7 +84,7 @@ fn refusal_status(refusal: &Refusal) -> u8
     }
 }
 
-/// The status of an output.
+/// The status with which the program ends after this output.
 pub fn status_of(output: &Result<Said, Refusal>) -> u8
     ensures { result ≡ status_of output.now }
 {
