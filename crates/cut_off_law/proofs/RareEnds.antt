@@ -73,8 +73,8 @@ module _ (meant : End → Bool) (own : (e : End) → is_own e ≡ true → meant
   abbrev G : End → ℕ
   G = chi meant
 
-  -- of a whole of N what is meant has at most d times 2 to the minus r, by so many bits d as may be read by r attempts for each draw; and nothing, where
-  -- the limit of attempts is not meant
+  -- of a whole of N, the ends that are meant have at most d / (r * 2 ^ r), where at most d bits are read by r attempts for each draw; and
+  -- nothing, where the limit of attempts is not meant
   pub record Rare (d N : ℕ) (m : Weighted End) : Type 0 where
     pub part : ℕ
     pub counts : Counts N G m part

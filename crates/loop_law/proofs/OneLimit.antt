@@ -1,4 +1,5 @@
--- What a block settles to is one: whatever visits are given, each event weighs the same. And masses come as near to their limit as is asked.
+-- What a block settles to does not depend on which visits are given: each event weighs the same. And masses come as near to their limit as
+-- is asked.
 use Rattle.std.proofs.Common.{◌≡◌, ℕ, zero, suc, ◌+◌, ◌*◌, ◌-◌, ◌≤◌, ◌<◌, Bool, false, None, ⊎_elim, subst, arith}
 use Rattle.std.proofs.Math.Nat.{mul-le-mul, mul-le-mul_left, mul-le-mul_right, le_of_mul-le-mul_right}
 use Rattle.std.proofs.lemmas.Bool.{cases_lt}

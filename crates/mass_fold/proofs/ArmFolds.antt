@@ -26,7 +26,8 @@ use Rattle.mass_fold.specs.inner.Fold.{Stands, EndStands, FoldsTo, FoldBlames, A
 use Rattle.mass_fold.proofs.Folds.{stands_along, end_along, merged, merge_blamed, head_few}
 use Rattle.mass_fold.proofs.Sides.{count_whole, count_small, count_equal, draws_head}
 
--- in the midst of the arms, begun on the table I with J ended: what the other arms give makes up for what stands
+-- in the midst of the arms, begun on the table I where J had ended: what was collected and what the other arms give are together what all
+-- of them give
 pub record ArmsAt (whole rest : Table → Flow) (out : Entries) (E : Ended) (N L : ℕ) (I : Table) (J : Weighted End) : Type 0 where
   pub table : Table
   pub gone : Weighted End
