@@ -1,5 +1,5 @@
-//! The codes of refusals, each with its words: 1 to 12 of a text, 13 to 15 of masses, bounds, costs and rolls, and 16 of the
-//! words of a call.
+//! The codes of refusals, each with its words: 1 to 12 of a text, 13 to 15 and 17 of masses, bounds, costs and rolls, and 16 of
+//! the words of a call.
 
 /// A text has more bytes than are read.
 pub const TEXT_TOO_LONG: u8 = 1;
@@ -33,9 +33,11 @@ pub const TOO_MANY_STATES: u8 = 14;
 pub const ALL_FAILED: u8 = 15;
 /// The words of a call are no command.
 pub const BAD_WORDS: u8 = 16;
+/// A round passes too seldom, if at all, for one unit of its weight.
+pub const TOO_UNLIKELY: u8 = 17;
 
 /// The words of each code, at its number. There is no code 0.
-pub const CODE_WORDS: [&str; 17] = [
+pub const CODE_WORDS: [&str; 18] = [
     "",
     "text too long",
     "bad byte",
@@ -53,4 +55,5 @@ pub const CODE_WORDS: [&str; 17] = [
     "too many states",
     "every round fails",
     "bad words",
+    "too unlikely to enclose",
 ];
