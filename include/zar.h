@@ -2,7 +2,7 @@
  *
  * A call takes a program's text or weights, and keeps nothing between calls: there is no handle and nothing to free. Threads may call at a
  * time, each on arrays of its own. No call ends the process, starts a thread, or opens a file. Its memory is that of malloc, all of
- * which it gives back.
+ * which it gives back. The command `enclose` of the program has no function here.
  *
  * What a caller must keep, since no call can test it:
  *   - no pointer is null, not even one to an array of length 0;

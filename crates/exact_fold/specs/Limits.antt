@@ -11,7 +11,7 @@ use Rattle.posterior_bounds.specs.PosteriorBounds.{is_settled, lower_of, upper_o
 use Rattle.loop_law.specs.Settling.{Outflow}
 use Rattle.loop_law.specs.SettledMasses.{settled_failed, IsNear}
 
--- the expected number of turns of all loops, over what does not fail
+-- the expected number of turns that loops complete, those of what runs for ever not counted, over what does not fail
 abbrev pub rate_of : SourceProgram → Outflow → Fraction
 rate_of p settled = divided_by_rest settled.turns (settled_failed p settled)
 
