@@ -19,13 +19,18 @@ def calls(session):
     return "".join(f"{line.removeprefix('$ ')}\n" for line in session.splitlines() if line.startswith("$ "))
 
 
+def filled(text):
+    """Its lines but those that are empty: in a document these keep calls apart."""
+    return "".join(f"{line}\n" for line in text.splitlines() if line)
+
+
 def printed(session):
-    """What stands under the calls; lines that are empty keep them apart."""
-    return "".join(f"{line}\n" for line in session.splitlines() if line and not line.startswith("$ "))
+    """What stands under the calls."""
+    return "".join(f"{line}\n" for line in filled(session).splitlines() if not line.startswith("$ "))
 
 
 def said(script, folder, env):
-    """What the calls print in a folder, on either output."""
+    """What the calls print in a folder, on either output, without empty lines."""
     words = ["bash", "-c", script]
     streams = {"stdin": subprocess.DEVNULL, "stdout": subprocess.PIPE, "stderr": subprocess.STDOUT}
-    return subprocess.run(words, cwd=folder, env={**os.environ, **env}, text=True, timeout=60, check=False, **streams).stdout
+    return filled(subprocess.run(words, cwd=folder, env={**os.environ, **env}, text=True, timeout=60, check=False, **streams).stdout)
