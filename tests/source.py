@@ -9,6 +9,8 @@ PUBLIC_MODULE = re.compile(r"^pub mod (\w+);", re.MULTILINE)
 # A function with what stands before its body.
 FUNCTION = re.compile(r"^ *(?P<pub>pub )?(?:const |extern \"C\" )?fn (?P<name>\w+)\b(?P<head>(?:(?!\bfn \w).)*?)(?:^ *\{|\{\}?$|;$)", re.DOTALL | re.MULTILINE)
 CLAUSE = re.compile(r"^\s*ensures(?: (\w+))? \{", re.MULTILINE)
+# A brace, or a text in quotes, which may hold some.
+BRACE = re.compile(r'"(?:\\.|[^"\\])*"|[{}]')
 BLOCK = re.compile(r"^(?P<head>(?:pub )?(?:impl|trait)\b[^{]*)\{\n(?P<body>.*?)^\}", re.DOTALL | re.MULTILINE)
 IMPL = re.compile(r"^impl(?:<[^>]*>)? (?:(?P<trait>\w+)(?:<.*>)? for )?(?P<type>\w+)")
 TRAIT = re.compile(r"^pub trait (?P<name>\w+)")
@@ -47,7 +49,18 @@ def exported(crate):
 
 
 def clauses(head):
-    return [name or "ensures" for name in CLAUSE.findall(head)]
+    """The clauses of a function, each with its text."""
+    return [(it[1] or "ensures", braced(head[it.end() :])) for it in CLAUSE.finditer(head)]
+
+
+def braced(text):
+    """What stands before the brace that closes one before the text."""
+    depth = 1
+    for it in BRACE.finditer(text):
+        depth += {"{": 1, "}": -1}.get(it[0], 0)
+        if not depth:
+            return text[: it.start()].strip()
+    raise ValueError(f"a clause has no end: {text}")
 
 
 def functions(text):
@@ -65,15 +78,15 @@ def functions(text):
 
 
 def contracts(crate):
-    """The clauses of what a crate exports: a function, free or of a type or trait, with a clause of it, in the order of the files."""
+    """The clauses of what a crate exports: a function, free or of a type or trait, and a clause of it, each with its text, in the order of the files."""
     names = exported(crate)
-    return [
-        (function, clause)
+    return {
+        (function, clause): text
         for file in files(crate)
         for function, is_public, told in functions(file.read_text(encoding="utf-8"))
         if is_public and function.split("::")[0] in names
-        for clause in told
-    ]
+        for clause, text in told
+    }
 
 
 def rows(document, columns):
