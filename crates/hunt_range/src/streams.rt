@@ -11,6 +11,7 @@ ghost use Rattle.hunt_range.specs.inner.Blocks.{FirstWanted};
 use gcl_core::TallyKey;
 use sampler_run::State;
 use stream_runs::{SeedRange, run_on_stream};
+use zar_io::StreamBits;
 
 fn is_same(key: TallyKey, want: &TallyKey) -> bool
     ensures { result ≡ same_key key want.now }
@@ -35,9 +36,10 @@ pub fn first_wanted<'s>(
     ensures same_start { set_back state.new ≡ set_back state.old }
 {
     let end = range.end_of_block(first);
+    let mut bits = StreamBits::new(range.seed, first, range.budget);
     let mut at = first;
     while at < end {
-        let key = run_on_stream(state, home, range.seed, at, range.budget);
+        let key = run_on_stream(state, home, &mut bits, range.seed, at, range.budget);
         if is_same(key, want) {
             return Some(at);
         }

@@ -262,6 +262,23 @@ fn streams_begin_with_published_words(rt: HostRuntime) {
     }
 }
 
+// Streams of the table above, each begun where another was read.
+#[test]
+fn a_stream_is_begun_anew(rt: HostRuntime) {
+    let mut bits = StreamBits::new(7, 3, 100);
+    assert!(rt; bits.next().is_ok());
+    bits.begin(0, 0, 544);
+    for _ in 0..512 {
+        assert!(rt; bits.next().is_ok());
+    }
+    assert_bits(&rt, &mut bits, "10111110111001110000011110011111");
+    bits.begin(0, 1 << 57, 32);
+    assert_bits(&rt, &mut bits, "00110111010011011100011011000010");
+    bits.begin(0, 0, 32);
+    assert_bits(&rt, &mut bits, "10101101111000001011100001110110");
+    assert_eq!(rt; bits.next(), Ok(None));
+}
+
 // The first words of the first block are ade0b876 and 903df1a0.
 #[test]
 fn words_of_a_stream_lie_ready(rt: HostRuntime) {

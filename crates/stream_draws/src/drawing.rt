@@ -14,6 +14,7 @@ use gcl_core::Limits;
 use sampler_run::{Sampler, State};
 use std::alloc::{AllocError, Global};
 use stream_runs::answer_on_stream;
+use zar_io::StreamBits;
 
 /// The streams from `first` on of a seed, and how many bits of each a run may read.
 #[derive(Clone, Copy)]
@@ -38,10 +39,12 @@ fn fill<'s>(
     ensures { (run : List Bool → Answer) → IsRestOf (set_back state.old) run →
         AreEnds run streams.seed streams.first streams.budget values.new ends.new }
 {
+    let mut bits = StreamBits::new(streams.seed, streams.first, streams.budget);
     for k in 0..values.len() {
         let answer = answer_on_stream(
             state,
             home,
+            &mut bits,
             streams.seed,
             streams.first + k as u64,
             streams.budget,

@@ -17,7 +17,7 @@ use sampler_run::State;
 use std::alloc::{AllocError, Global};
 use std::thread::{Threads, for_each_mut};
 use stream_runs::{Job, MOST_WORKERS, STREAMS_OF_A_BLOCK, answer_on_stream};
-use zar_io::Gate;
+use zar_io::{Gate, StreamBits};
 
 // A worker that begins as `home` does. An error comes only where memory runs out.
 fn worker_of<'s>(alloc: Global, home: &State<'s>) -> Result<Worker<'s>, AllocError>
@@ -80,10 +80,11 @@ fn fill<'s, G: Gate>(
     ensures same_start { set_back state.new ≡ set_back state.old }
 {
     batch.clear();
+    let mut bits = StreamBits::new(job.range.seed, first, job.range.budget);
     let mut at = first;
     while at < end {
         enter(job, at);
-        let answer = answer_on_stream(state, home, job.range.seed, at, job.range.budget);
+        let answer = answer_on_stream(state, home, &mut bits, job.range.seed, at, job.range.budget);
         batch.push(sample_line(&answer).bytes());
         at += 1;
     }

@@ -19,6 +19,7 @@ use zar_io::{Failed, StreamBits};
 fn roll_on_stream(
     loaded: &Loaded,
     room: &mut [u64],
+    bits: &mut StreamBits,
     flips: u64,
     seed: u64,
     stream: u64,
@@ -30,8 +31,8 @@ fn roll_on_stream(
     ensures answer { result ≡ weighted_roll loaded.now flips (stream_bits seed stream budget) }
     ensures same_room { length room.new ≡ length room.old }
 {
-    let mut bits = StreamBits::new(seed, stream, budget);
-    match loaded.roll(room, flips, &mut bits) {
+    bits.begin(seed, stream, budget);
+    match loaded.roll(room, flips, bits) {
         Ok(rolled) => rolled,
         Err(Failed) => unreachable!(),
     }
@@ -53,10 +54,12 @@ fn fill(
     requires fits { streams.first + length labels.old ≤ 2 ^ 64 }
     ensures { AreRolled loaded.now flips streams.seed streams.first streams.budget labels.new ends.new }
 {
+    let mut bits = StreamBits::new(streams.seed, streams.first, streams.budget);
     for k in 0..labels.len() {
         let rolled = roll_on_stream(
             loaded,
             room,
+            &mut bits,
             flips,
             streams.seed,
             streams.first + k as u64,

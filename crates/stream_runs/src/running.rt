@@ -22,11 +22,13 @@ fn key_of_answer(answer: Answer) -> TallyKey
 }
 
 /// Runs from where `home` stands, before its first bit, on the first bits of a stream, as many as the budget says: the answer of
-/// the run. It takes no memory.
+/// the run. `bits` is what the bits are read with, whatever it held: it is quick where that was a neighbour of the stream. It takes
+/// no memory.
 #[inline(always)]
 pub fn answer_on_stream<'s>(
     state: &mut State<'s>,
     home: &State<'s>,
+    bits: &mut StreamBits,
     seed: u64,
     stream: u64,
     budget: u64,
@@ -38,8 +40,8 @@ pub fn answer_on_stream<'s>(
     ensures same_start { set_back state.new ≡ set_back state.old }
 {
     state.fork_from(home);
-    let mut bits = StreamBits::new(seed, stream, budget);
-    match go_on(state, &mut bits) {
+    bits.begin(seed, stream, budget);
+    match go_on(state, bits) {
         Ok(stop) => stop.answer,
         Err(_) => unreachable!(),
     }
@@ -49,6 +51,7 @@ pub fn answer_on_stream<'s>(
 pub fn run_on_stream<'s>(
     state: &mut State<'s>,
     home: &State<'s>,
+    bits: &mut StreamBits,
     seed: u64,
     stream: u64,
     budget: u64,
@@ -58,5 +61,5 @@ pub fn run_on_stream<'s>(
     ensures key { (run : List Bool → Answer) → IsRestOf (set_back state.old) run → result ≡ key_on run seed budget stream }
     ensures same_start { set_back state.new ≡ set_back state.old }
 {
-    key_of_answer(answer_on_stream(state, home, seed, stream, budget))
+    key_of_answer(answer_on_stream(state, home, bits, seed, stream, budget))
 }

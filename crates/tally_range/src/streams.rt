@@ -18,6 +18,7 @@ use gcl_core::TallyKey;
 use sampler_run::State;
 use std::alloc::AllocError;
 use stream_runs::{STREAMS_OF_A_BLOCK, SeedRange, run_on_stream};
+use zar_io::StreamBits;
 
 // Counts one more for the key, in the table only where it is no small value. An error comes only where memory runs out.
 #[inline]
@@ -54,9 +55,10 @@ pub(crate) fn count_streams<'s>(
         count_in table.new key + count_in small.new key ≤ count_in table.old key + count_in small.old key + (end - first)) }
     ensures same_start { set_back state.new ≡ set_back state.old }
 {
+    let mut bits = StreamBits::new(range.seed, first, range.budget);
     let mut at = first;
     while at < end {
-        let key = run_on_stream(state, home, range.seed, at, range.budget);
+        let key = run_on_stream(state, home, &mut bits, range.seed, at, range.budget);
         count_key(small, table, key)?;
         at += 1;
     }

@@ -5,9 +5,13 @@ use Rattle.std.specs.Prelude.{◌==◌, ◌+◌, ◌-◌, ◌/◌, ◌%◌, ◌^
 use Rattle.std.specs.Int.{w64, to_le_bytes}
 use Rattle.rand_chacha.specs.ChaCha.{word_at, key_of}
 
+-- the 32 bytes of a seed
+abbrev pub seed_bytes : ℕ → List ℕ
+seed_bytes seed = to_le_bytes w64 seed ++ replicate 24 0
+
 -- word number t of a stream
 abbrev pub stream_word : ℕ → ℕ → ℕ → ℕ
-stream_word seed stream t = word_at 10 (key_of (to_le_bytes w64 seed ++ replicate 24 0)) stream t
+stream_word seed stream t = word_at 10 (key_of (seed_bytes seed)) stream t
 
 -- bit number n of words of 32 bits
 abbrev pub word_bit : (ℕ → ℕ) → ℕ → Bool

@@ -1,2 +1,3 @@
 pub mod AgreesOnce
 pub mod Orderly
+pub mod Fronts

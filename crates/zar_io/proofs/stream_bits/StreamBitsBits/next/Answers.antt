@@ -1,5 +1,5 @@
-use Rattle.std.proofs.Common.{sym, ◌∙◌}
-use Rattle.rand_chacha.specs.ChaCha.{word_at}
+use Rattle.std.proofs.Common.{◌≡◌, ◌+◌, ◌-◌, ◌*◌, ◌/◌, ap, sym, ◌∙◌, arith}
+use Rattle.zar_io.specs.StreamBits.{stream_word}
 use Rattle.zar_io.proofs.StreamBitsLemmas.{bit_given}
 use Rattle.zar_io.proofs.stream_bits.StreamBitsBits.next.Goals as goal
 
@@ -7,5 +7,10 @@ pub returns-clause-bit : goal.returns-clause-bit
 returns-clause-bit c = λ file agrees.
     let s = c.draw_word.new.self in
     let waits = c.draw_word.ensures.waits in
-    let given = bit_given (word_at 10 s.words.key s.words.stream) s.word s.given s.left s.words.word_pos s.waiting s.place waits s.in_word (s.held waits) (λ e. c.if-self-eq0.false (sym c.draw_word.ensures.left ∙ e)) in
+    let word = stream_word s.seed s.stream in
+    let at = 32 * s.drawn - s.waiting in
+    let place : s.drawn - 1 ≡ at / 32 = omega (arith, waits, s.in_word, s.some) in
+    let ends : at + s.waiting ≡ 32 * s.drawn = omega (arith, s.some) in
+    let after : 32 * s.drawn - (s.waiting - 1) ≡ at + 1 = omega (arith, waits, s.some) in
+    let given = bit_given word s.word at s.left s.drawn s.waiting ends waits s.in_word (s.held waits ∙ ap word place) (λ e. c.if-self-eq0.false (sym c.draw_word.ensures.left ∙ e)) in
     cc
