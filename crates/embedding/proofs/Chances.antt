@@ -17,7 +17,7 @@ none_above (suc n) h = absurd (h (omega arith))
 -- the fraction in its row, or none where it has none
 pub chance_found : (mass : Outcome → Fraction) (rows : Rows) (x : Outcome) (answer : Option Fraction) → AreMasses mass rows
     → IfSome answer (λ f. Contains rows (x, f)) → IfNone answer ((f : Fraction) → Contains rows (x, f) → ⊥) → IsChance answer (mass x)
-chance_found mass rows x (Some f) are found none = (are.each x f found).1
+chance_found mass rows x (Some f) are found none = are.each x f found
 chance_found mass rows x None are found none = none_above (mass x).0 (λ above. none _ (are.all x above))
 
 -- the same of the limit of turns
