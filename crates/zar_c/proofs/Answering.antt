@@ -1,7 +1,8 @@
 -- What a call about lines answers, at each of its ends.
-use Rattle.std.proofs.Common.{◌≡◌, ℕ, ◌<◌, ◌≤◌, ◌++◌, ◌⊎◌, List, Option, length, drop, inl, inr, refl, arith}
+use Rattle.std.proofs.Common.{◌≡◌, ℕ, ◌<◌, ◌≤◌, ◌++◌, ◌⊎◌, List, Option, length, drop, inl, inr, refl, sym, ap, subst, arith}
 use Rattle.gcl_core.specs.meaning.Syntax.{SourceProgram}
 use Rattle.zar_c.specs.Answered.{IsAnswer}
+use Rattle.zar_c.specs.Said.{place_of, bare, done, text_refused, mass_refused}
 use Rattle.zar_c.specs.declared.said.ZarSaid.{ZarSaid}
 use Rattle.zar_c.specs.declared.statuses.TheConstants.{DONE, TEXT_REFUSED, NUMBERS_REFUSED, OUT_OF_MEMORY, MASS_REFUSED}
 use Rattle.zar_c.specs.inner.Refusing.{IsRefusal}
@@ -9,17 +10,20 @@ use Rattle.zar_c.specs.inner.Refusing.{IsRefusal}
 module _ (Has : SourceProgram → Type 0) (HasNone : ℕ → Option ℕ → Type 0) (Can : Type 0) (Are : SourceProgram → List ℕ → Type 0)
     (Refuses : SourceProgram → ℕ → Type 0) (old : List ℕ) (s : ZarSaid) where
   -- a number is out of range
-  pub numbers_refused : s.status ≡ NUMBERS_REFUSED → (Can → ⊥) → IsAnswer Has HasNone Can Are Refuses old old s
-  numbers_refused is cannot = record {
+  pub numbers_refused : s ≡ bare NUMBERS_REFUSED → (Can → ⊥) → IsAnswer Has HasNone Can Are Refuses old old s
+  numbers_refused form cannot = record {
     told = λ e. absurd (omega (arith, is, e));
     reason = λ e. absurd (omega (arith, is, e));
     there = λ e. absurd (by e);
     refused = λ e. absurd (omega (arith, is, e));
     asked = (λ e. cannot, λ n. is);
     untouched = λ n. refl;
-    status = inr (inr (inr (inl is)));
+    form = inr (inr (inr (inl form)));
   }
     where
+      is : s.status ≡ NUMBERS_REFUSED
+      is = ap (λ (t : ZarSaid). t.status) form
+
       by : (s.status ≡ DONE) ⊎ (s.status ≡ MASS_REFUSED) → ⊥
       by (inl e) = omega (arith, is, e)
       by (inr e) = omega (arith, is, e)
@@ -33,29 +37,35 @@ module _ (Has : SourceProgram → Type 0) (HasNone : ℕ → Option ℕ → Type
     refused = is.refused;
     asked = (λ e. absurd (is.asked e), λ n. absurd (n can));
     untouched = λ n. refl;
-    status = among is.status;
+    form = among is.form;
   }
     where
       by : (s.status ≡ DONE) ⊎ (s.status ≡ MASS_REFUSED) → (p : SourceProgram) × Has p
       by (inl e) = absurd (is.undone e)
       by (inr e) = is.there e
 
-      among : (s.status ≡ TEXT_REFUSED) ⊎ (s.status ≡ MASS_REFUSED) ⊎ (s.status ≡ OUT_OF_MEMORY)
-          → (s.status ≡ DONE) ⊎ (s.status ≡ TEXT_REFUSED) ⊎ (s.status ≡ MASS_REFUSED) ⊎ (s.status ≡ NUMBERS_REFUSED) ⊎ (s.status ≡ OUT_OF_MEMORY)
+      among : (s ≡ text_refused s.code (place_of s)) ⊎ (s ≡ mass_refused s.code) ⊎ (s ≡ bare OUT_OF_MEMORY)
+          → (s ≡ done s.length) ⊎ (s ≡ text_refused s.code (place_of s)) ⊎ (s ≡ mass_refused s.code) ⊎ (s ≡ bare NUMBERS_REFUSED) ⊎ (s ≡ bare OUT_OF_MEMORY)
       among (inl e) = inr (inl e)
       among (inr (inl e)) = inr (inr (inl e))
       among (inr (inr e)) = inr (inr (inr (inr e)))
 
   -- there are these lines
-  pub lines_told : (new lines : List ℕ) → Can → s.status ≡ DONE → ((p : SourceProgram) → Has p → Are p lines) → (p : SourceProgram) × Has p
-      → s.length ≡ length lines → (length lines ≤ length old → new ≡ lines ++ drop (length lines) old) → (length old < length lines → new ≡ old)
+  pub lines_told : (new lines : List ℕ) → Can → s ≡ done (length lines) → ((p : SourceProgram) → Has p → Are p lines) → (p : SourceProgram) × Has p
+      → (length lines ≤ length old → new ≡ lines ++ drop (length lines) old) → (length old < length lines → new ≡ old)
       → IsAnswer Has HasNone Can Are Refuses old new s
-  lines_told new lines can is are there long written kept = record {
+  lines_told new lines can form are there written kept = record {
     told = λ e p has. record { lines = lines; are = are p has; long = long; written = written; kept = kept };
     reason = λ e. absurd (omega (arith, is, e));
     there = λ e. there;
     refused = λ e. absurd (omega (arith, is, e));
     asked = (λ e. absurd (omega (arith, is, e)), λ n. absurd (n can));
     untouched = λ n. absurd (n is);
-    status = inl is;
+    form = inl (subst (λ n. s ≡ done n) (sym long) form);
   }
+    where
+      is : s.status ≡ DONE
+      is = ap (λ (t : ZarSaid). t.status) form
+
+      long : s.length ≡ length lines
+      long = ap (λ (t : ZarSaid). t.length) form

@@ -2,7 +2,7 @@
 use Rattle.std.specs.Prelude.{◌≡◌, ◌↔◌, ◌⊎◌, ℕ, ◌<◌, ◌≤◌, ◌++◌, List, length, drop, Option}
 use Rattle.gcl_core.specs.meaning.Syntax.{SourceProgram}
 use Rattle.gcl_core.specs.text.Texts.{IsWrittenIn}
-use Rattle.zar_c.specs.Said.{place_of}
+use Rattle.zar_c.specs.Said.{place_of, bare, done, text_refused, mass_refused}
 use Rattle.zar_c.specs.declared.said.ZarSaid.{ZarSaid}
 use Rattle.zar_c.specs.declared.statuses.TheConstants.{DONE, TEXT_REFUSED, NUMBERS_REFUSED, OUT_OF_MEMORY, MASS_REFUSED}
 
@@ -24,8 +24,8 @@ pub record IsAnswer (Has : SourceProgram → Type 0) (HasNone : ℕ → Option �
   pub refused : s.status ≡ TEXT_REFUSED → HasNone s.code (place_of s)
   pub asked : (s.status ≡ NUMBERS_REFUSED) ↔ (Can → ⊥)
   pub untouched : (s.status ≡ DONE → ⊥) → new ≡ old
-  pub status : (s.status ≡ DONE) ⊎ (s.status ≡ TEXT_REFUSED) ⊎ (s.status ≡ MASS_REFUSED) ⊎ (s.status ≡ NUMBERS_REFUSED)
-      ⊎ (s.status ≡ OUT_OF_MEMORY)
+  pub form : (s ≡ done s.length) ⊎ (s ≡ text_refused s.code (place_of s)) ⊎ (s ≡ mass_refused s.code)
+      ⊎ (s ≡ bare NUMBERS_REFUSED) ⊎ (s ≡ bare OUT_OF_MEMORY)
 
 -- a call without numbers can be made
 abbrev pub NoNumbers : Type 0

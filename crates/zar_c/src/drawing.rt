@@ -5,7 +5,7 @@ ghost use Rattle.gcl_core.specs.meaning.Syntax.{SourceProgram};
 ghost use Rattle.gcl_core.specs.text.Texts.{Spells, SpellsNone};
 ghost use Rattle.stream_draws.specs.Draws.{AreDrawn};
 ghost use Rattle.zar_c.specs.Draws.{CanDraw, limits_of};
-ghost use Rattle.zar_c.specs.Said.{place_of};
+ghost use Rattle.zar_c.specs.Said.{place_of, bare, done, text_refused};
 
 use crate::asking::{ZarLimits, can_draw, run_limits};
 use crate::said::{ZarSaid, refused, said};
@@ -35,8 +35,8 @@ pub extern "C" fn zar_draws(
     ensures refused { (result.status ≡ TEXT_REFUSED) → SpellsNone text.now result.code (place_of result) }
     ensures asked { (result.status ≡ NUMBERS_REFUSED) ↔ (CanDraw limits.now first (length values.old) (length ends.old) → ⊥) }
     ensures untouched { (result.status ≡ DONE → ⊥) → (values.new ≡ values.old) × (ends.new ≡ ends.old) }
-    ensures status { (result.status ≡ DONE) ⊎ (result.status ≡ TEXT_REFUSED) ⊎ (result.status ≡ NUMBERS_REFUSED)
-        ⊎ (result.status ≡ OUT_OF_MEMORY) }
+    ensures form { (result ≡ done 0) ⊎ (result ≡ text_refused result.code (place_of result)) ⊎ (result ≡ bare NUMBERS_REFUSED)
+        ⊎ (result ≡ bare OUT_OF_MEMORY) }
 {
     one_reading();
     if !can_draw(limits, first, values.len(), ends.len()) {

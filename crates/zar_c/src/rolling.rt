@@ -3,6 +3,7 @@
 ghost use Rattle.std.specs.Prelude.{◌≡◌, ◌↔◌, ◌⊎◌, length};
 ghost use Rattle.stream_rolls.specs.Rolls.{AreRolled};
 ghost use Rattle.zar_c.specs.Rolls.{CanRoll};
+ghost use Rattle.zar_c.specs.Said.{bare, done};
 
 use crate::asking::{ZarRollLimits, can_roll};
 use crate::said::{ZarSaid, said};
@@ -30,7 +31,7 @@ pub extern "C" fn zar_roll(
     ensures asked { (result.status ≡ NUMBERS_REFUSED)
         ↔ (CanRoll weights.now limits.now first (length labels.old) (length ends.old) → ⊥) }
     ensures untouched { (result.status ≡ DONE → ⊥) → (labels.new ≡ labels.old) × (ends.new ≡ ends.old) }
-    ensures status { (result.status ≡ DONE) ⊎ (result.status ≡ NUMBERS_REFUSED) ⊎ (result.status ≡ OUT_OF_MEMORY) }
+    ensures form { (result ≡ done 0) ⊎ (result ≡ bare NUMBERS_REFUSED) ⊎ (result ≡ bare OUT_OF_MEMORY) }
 {
     if !can_roll(weights, limits, first, labels.len(), ends.len()) {
         return said(NUMBERS_REFUSED);

@@ -2,7 +2,7 @@
 
 ghost use Rattle.std.specs.Prelude.{◌≡◌, ◌≤◌, ◌<◌, ◌++◌, length, drop};
 ghost use Rattle.gcl_text.specs.declared.refusing.TextRefusal.TheVariants.{Coded};
-ghost use Rattle.zar_c.specs.Said.{place_of};
+ghost use Rattle.zar_c.specs.Said.{place_of, bare, done, text_refused, mass_refused};
 ghost use Rattle.zar_c.specs.inner.Refusing.{IsSaid};
 
 use crate::statuses::{DONE, MASS_REFUSED, OUT_OF_MEMORY, TEXT_REFUSED};
@@ -22,7 +22,7 @@ pub struct ZarSaid {
 
 // A status, and nothing besides.
 pub(crate) fn said(status: u8) -> ZarSaid
-    ensures { result.status ≡ status }
+    ensures { result ≡ bare status }
 {
     ZarSaid {
         status,
@@ -38,21 +38,18 @@ fn coded(code: u8, at: Option<u32>) -> ZarSaid
     ensures status { result.status ≡ TEXT_REFUSED }
     ensures code { result.code ≡ code }
     ensures place { place_of result ≡ at }
+    ensures form { result ≡ text_refused result.code (place_of result) }
 {
     match at {
         Some(place) => ZarSaid {
-            status: TEXT_REFUSED,
             code,
             has_place: true,
             place,
-            length: 0,
+            ..said(TEXT_REFUSED)
         },
         None => ZarSaid {
-            status: TEXT_REFUSED,
             code,
-            has_place: false,
-            place: 0,
-            length: 0,
+            ..said(TEXT_REFUSED)
         },
     }
 }
@@ -69,22 +66,17 @@ pub(crate) fn refused(refusal: TextRefusal) -> ZarSaid
 
 // Why there are no masses, by this code.
 pub(crate) fn reason(code: u8) -> ZarSaid
-    ensures status { result.status ≡ MASS_REFUSED }
-    ensures code { result.code ≡ code }
+    ensures { result ≡ mass_refused code }
 {
     ZarSaid {
-        status: MASS_REFUSED,
         code,
-        has_place: false,
-        place: 0,
-        length: 0,
+        ..said(MASS_REFUSED)
     }
 }
 
 // Writes a text to the front of an array where it fits, and tells its length.
 pub(crate) fn written(text: &[u8], to: &mut [u8]) -> ZarSaid
-    ensures status { result.status ≡ DONE }
-    ensures long { result.length ≡ length text.now }
+    ensures told { result ≡ done (length text.now) }
     ensures written { length text.now ≤ length to.old → to.new ≡ text.now ++ drop (length text.now) to.old }
     ensures kept { length to.old < length text.now → to.new ≡ to.old }
 {
@@ -92,10 +84,7 @@ pub(crate) fn written(text: &[u8], to: &mut [u8]) -> ZarSaid
         to[..text.len()].copy_from_slice(text);
     }
     ZarSaid {
-        status: DONE,
-        code: 0,
-        has_place: false,
-        place: 0,
         length: text.len() as u64,
+        ..said(DONE)
     }
 }

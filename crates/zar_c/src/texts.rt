@@ -9,7 +9,7 @@ ghost use Rattle.gcl_core.specs.text.Texts.{IsRefusedText, Spells, SpellsNone};
 ghost use Rattle.sampler_code.specs.Code.{code_of};
 ghost use Rattle.sampler_code.specs.Listing.{listing};
 ghost use Rattle.zar_c.specs.Answered.{AreTold, IsShown, IsWritten};
-ghost use Rattle.zar_c.specs.Said.{place_of};
+ghost use Rattle.zar_c.specs.Said.{place_of, bare, done, text_refused};
 
 use crate::said::{ZarSaid, refused, said, written};
 use crate::shown::{listing_of, shown_of};
@@ -21,7 +21,7 @@ use std::alloc::Global;
 /// Writes the line of the version, where the array has room, and tells its length in any case.
 #[unsafe(no_mangle)]
 pub extern "C" fn zar_version(lines: &mut [u8]) -> ZarSaid
-    ensures status { result.status ≡ DONE }
+    ensures form { result ≡ done result.length }
     ensures told { AreTold (λ line. line ≡ VERSION_LINE.now) result.length lines.old lines.new }
 {
     written(VERSION_LINE.as_bytes(), lines)
@@ -33,7 +33,7 @@ pub extern "C" fn zar_version(lines: &mut [u8]) -> ZarSaid
 pub extern "C" fn zar_check(alloc: Global, text: &[u8]) -> ZarSaid
     ensures spelled { (result.status ≡ DONE) → (p : SourceProgram) × Spells text.now p }
     ensures refused { (result.status ≡ TEXT_REFUSED) → SpellsNone text.now result.code (place_of result) }
-    ensures status { (result.status ≡ DONE) ⊎ (result.status ≡ TEXT_REFUSED) ⊎ (result.status ≡ OUT_OF_MEMORY) }
+    ensures form { (result ≡ done 0) ⊎ (result ≡ text_refused result.code (place_of result)) ⊎ (result ≡ bare OUT_OF_MEMORY) }
 {
     let _program = match check_text(alloc, text) {
         Ok(program) => program,

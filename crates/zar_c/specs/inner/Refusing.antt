@@ -3,18 +3,19 @@ use Rattle.std.specs.Prelude.{◌≡◌, ◌⊎◌, ℕ, Option, MatchOption}
 use Rattle.gcl_core.specs.meaning.Syntax.{SourceProgram}
 use Rattle.gcl_text.specs.declared.refusing.TextRefusal.{TextRefusal}
 use Rattle.gcl_text.specs.declared.refusing.TextRefusal.TheVariants.{Coded, OutOfMemory}
-use Rattle.zar_c.specs.Said.{place_of}
+use Rattle.zar_c.specs.Said.{place_of, bare, text_refused, mass_refused}
 use Rattle.zar_c.specs.declared.said.ZarSaid.{ZarSaid}
 use Rattle.zar_c.specs.declared.statuses.TheConstants.{DONE, TEXT_REFUSED, NUMBERS_REFUSED, OUT_OF_MEMORY, MASS_REFUSED}
 
--- a text's refusal is told by its status, its code and its place
+-- a text's refusal is told by its status, its code and its place, and nothing besides
 abbrev pub IsSaid : TextRefusal → ZarSaid → Type 0
-IsSaid (Coded code at) s = (s.status ≡ TEXT_REFUSED) × (s.code ≡ code) × (place_of s ≡ at)
-IsSaid OutOfMemory s = s.status ≡ OUT_OF_MEMORY
+IsSaid (Coded code at) s =
+    (s.status ≡ TEXT_REFUSED) × (s.code ≡ code) × (place_of s ≡ at) × (s ≡ text_refused s.code (place_of s))
+IsSaid OutOfMemory s = s ≡ bare OUT_OF_MEMORY
 
 -- a reason with this code, or none for memory, is told
 abbrev pub IsReason : Option ℕ → ZarSaid → Type 0
-IsReason code s = MatchOption code (s.status ≡ OUT_OF_MEMORY) (λ n. (s.status ≡ MASS_REFUSED) × (s.code ≡ n))
+IsReason code s = MatchOption code (s ≡ bare OUT_OF_MEMORY) (λ n. s ≡ mass_refused n)
 
 -- the text has no program, or its lines are refused, or memory ran out
 pub record IsRefusal (Has : SourceProgram → Type 0) (HasNone : ℕ → Option ℕ → Type 0) (Refuses : SourceProgram → ℕ → Type 0)
@@ -24,4 +25,4 @@ pub record IsRefusal (Has : SourceProgram → Type 0) (HasNone : ℕ → Option 
   pub refused : s.status ≡ TEXT_REFUSED → HasNone s.code (place_of s)
   pub reason : s.status ≡ MASS_REFUSED → (p : SourceProgram) → Has p → Refuses p s.code
   pub there : s.status ≡ MASS_REFUSED → (p : SourceProgram) × Has p
-  pub status : (s.status ≡ TEXT_REFUSED) ⊎ (s.status ≡ MASS_REFUSED) ⊎ (s.status ≡ OUT_OF_MEMORY)
+  pub form : (s ≡ text_refused s.code (place_of s)) ⊎ (s ≡ mass_refused s.code) ⊎ (s ≡ bare OUT_OF_MEMORY)
