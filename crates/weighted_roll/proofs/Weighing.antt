@@ -1,16 +1,17 @@
 -- What the labels weigh, as the code computes it.
-use Rattle.std.proofs.Common.{◌≡◌, ⊎_elim, ℕ, zero, suc, ◌+◌, ◌-◌, ◌*◌, ◌/◌, ◌^◌, ◌≤◌, ◌<◌, Bool, false, Option, Some, None, List, [], ◌∷◌, ◌++◌, length, get_or, refl, sym, ap, subst, ◌∙◌, arith}
+use Rattle.std.proofs.Common.{◌≡◌, ℕ, zero, suc, ◌+◌, ◌-◌, ◌*◌, ◌/◌, ◌^◌, ◌≤◌, ◌<◌, Bool, Option, Some, None, List, [], ◌∷◌, ◌++◌, length, get_or, sym, ap, ◌∙◌, arith}
 use Rattle.std.proofs.lemmas.Bool.Decides.{nat_tests}
-use Rattle.std.specs.List.{All, sum}
+use Rattle.std.specs.List.{sum}
 use Rattle.frac128.specs.Divisor.{gcd}
 use Rattle.frac128.specs.Fraction.{Fraction, lowest}
 use Rattle.frac128.proofs.Divisors.{gcd_is, gcd_pos, coprime_rests, factor_pos, lowest_from}
 use native.Mathlib.Nat.{mul-div_cancel'}
 use Rattle.weighted_roll.specs.Rollers.{undecided, decided, flips_on, add_strings, sum_below}
-use Rattle.weighted_roll.specs.Shares.{all_flips, are_narrow, flips_expected, share_left, share_of, shares_of, values_below}
+use Rattle.weighted_roll.specs.Shares.{all_flips, flips_expected, share_left, share_of, shares_of, values_below}
 use Rattle.weighted_roll.specs.WeightedRoll.{weighted}
 use Rattle.weighted_roll.specs.Weights.{AreWeights}
 use Rattle.weighted_roll.proofs.Costs.{cost_of}
+use Rattle.weighted_roll.proofs.Allowed.{are_below, are_some}
 use Rattle.weighted_roll.proofs.Optimality.{optimal}
 use Rattle.weighted_roll.proofs.Sums.{sums_same, sums_times}
 
@@ -36,7 +37,7 @@ module _ (ws : List ℕ) (b T : ℕ) (are : AreWeights ws) (e : b ≡ sum ws) wh
   quota_at i = 2 ^ T * get_or ws i 0 / b
 
   all_quotas : undecided (weighted ws) T + sum_below quota_at (length ws) ≡ 2 ^ T
-  all_quotas = rw e ((optimal ws are.below are.some).left T)
+  all_quotas = rw e ((optimal ws (are_below ws are) (are_some ws are)).left T)
 
   module _ (i left : ℕ) (p : left + sum_below quota_at i ≡ 2 ^ T) where
     pub quota_fits : i < length ws → quota_at i ≤ left
@@ -127,7 +128,7 @@ values_one_more f n before after x e g h =
     h ∙ ap (λ l. l ++ x ∷ []) e ∙ ap (λ y. values_below f n ++ y ∷ []) g ∙ ap (values_below f) one
 
 pub share_given : (ws : List ℕ) (b T i given : ℕ) → AreWeights ws → b ≡ sum ws → given ≡ 2 ^ T * get_or ws i 0 / b → given ≡ decided (weighted ws) i T
-share_given ws b T i given are e f = f ∙ ap (λ b. 2 ^ T * get_or ws i 0 / b) e ∙ sym ((optimal ws are.below are.some).each i T)
+share_given ws b T i given are e f = f ∙ ap (λ b. 2 ^ T * get_or ws i 0 / b) e ∙ sym ((optimal ws (are_below ws are) (are_some ws are)).each i T)
 
 pub wide_limit : (ws : List ℕ) (T : ℕ) → 127 < T → shares_of ws T ≡ None
 wide_limit ws T lt = grind (arith, nat_tests)

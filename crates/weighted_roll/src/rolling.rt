@@ -11,6 +11,7 @@ ghost use Rattle.weighted_roll.specs.Weights.{AreWeights};
 ghost use Rattle.weighted_roll.specs.WeightedRoll.{weighted_roll};
 
 use crate::columns::{Column, pass_labels};
+use crate::weights::weights_are_small;
 use dice_roll::Roll;
 use zar_io::{Bits, Failed};
 
@@ -50,6 +51,7 @@ pub fn roll<B: Bits>(
     ensures same_source { B.source bits.new ≡ B.source bits.old }
     ensures same_room { length rests.new ≡ length rests.old }
 {
+    weights_are_small(weights);
     let whole = sum_of(weights);
     rests.copy_from_slice(weights);
     // The number of the string so far among those as long that have no label.

@@ -10,6 +10,7 @@ ghost use Rattle.weighted_roll.specs.WeightedRoll.{weighted};
 ghost use Rattle.weighted_roll.specs.Weights.{AreWeights};
 
 use crate::rolling::sum_of;
+use crate::weights::weights_are_small;
 use dice_roll::MOST_WEIGHED_FLIPS;
 use frac128::Frac;
 use std::alloc::{AllocError, Global};
@@ -62,6 +63,7 @@ fn strings_left(weights: &[u64], whole: u64, flips: u64) -> u128
     requires few { flips ≤ dice_rule.MOST_WEIGHED_FLIPS }
     ensures { result ≡ undecided (weighted weights.now) flips }
 {
+    weights_are_small(weights);
     let mut left = strings_of(flips);
     for weight in weights {
         left -= strings_given(*weight, whole, flips);
@@ -109,6 +111,7 @@ fn label_shares(
     requires few { flips ≤ dice_rule.MOST_WEIGHED_FLIPS }
     ensures { IfOk result (λ v. v.items ≡ values_below (share_of weights.now flips) (length weights.now)) }
 {
+    weights_are_small(weights);
     let strings = strings_of(flips);
     let mut shares = Vec::new(alloc);
     for weight in weights {
@@ -131,6 +134,7 @@ pub fn weigh_labels(
     if flips > MOST_WEIGHED_FLIPS {
         return Ok(None);
     }
+    weights_are_small(weights);
     let whole = sum_of(weights);
     match half_of_flips(weights, whole, flips) {
         None => Ok(None),

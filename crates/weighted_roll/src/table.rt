@@ -8,6 +8,7 @@ ghost use Rattle.weighted_roll.specs.Weights.{AreWeights};
 
 use crate::columns::{Column, pass_labels};
 use crate::rolling::sum_of;
+use crate::weights::weights_are_small;
 use std::alloc::{AllocError, Global};
 
 // Weights, and for the first flips which labels have a leaf.
@@ -66,6 +67,7 @@ impl Table {
         requires { AreWeights weights.now }
         ensures { IfOk result (λ r. r.weights.items ≡ weights.now) }
     {
+        weights_are_small(weights);
         let whole = sum_of(weights);
         let mut rests = weights.to_vec(alloc)?;
         let mut labels = Vec::new(alloc);

@@ -15,7 +15,7 @@ use Rattle.weighted_roll.proofs.rolling.roll.Goals as goal
 
 pub loop-read-init : goal.loop-read-init
 loop-read-init g c = record {
-  walk = walk_start c.args.weights.now _ _ c.sum_of-whole.ensures c.copy_from_slice.ensures.after c.requires.weights.below;
+  walk = walk_start c.args.weights.now _ _ c.sum_of-whole.ensures c.copy_from_slice.ensures.after c.weights_are_small.ensures.below;
   same = λ file agrees.
       let e : c.args.flips ≡ c.args.flips - 0 = omega arith in
       ap (λ h. weighted_from (sum c.args.weights.now) h c.args.weights.now 0 0 (g.B.Bits.left c.args.bits.now file)) e
@@ -47,13 +47,13 @@ returns-in-None-clause-taken g c file agrees =
 
 pub overflow_mul-number : goal.overflow_mul-number
 overflow_mul-number g c =
-    let p : 0 < c.sum_of-whole.result = omega (arith, c.requires.weights.some) in
+    let p : 0 < c.sum_of-whole.result = omega (arith, c.weights_are_small.ensures.some) in
     let n = walk_number c.sum_of-whole.result (length c.args.weights.now) c.loop-read.number c.loop-read.rests p c.loop-read.invariant.walk in
     omega arith
 
 pub overflow_add-number : goal.overflow_add-number
 overflow_add-number g c =
-    let p : 0 < c.sum_of-whole.result = omega (arith, c.requires.weights.some) in
+    let p : 0 < c.sum_of-whole.result = omega (arith, c.weights_are_small.ensures.some) in
     let n = walk_number c.sum_of-whole.result (length c.args.weights.now) c.loop-read.number c.loop-read.rests p c.loop-read.invariant.walk in
     omega (arith, bit-le c.in-Some.bit)
 
