@@ -6,9 +6,9 @@ use Rattle.std.proofs.lemmas.List.{length-append}
 use Rattle.std.proofs.lemmas.List.Sums.{sum_by-append}
 use Rattle.std.proofs.lemmas.Bool.Decides.{nat_tests}
 use Rattle.weighted_roll.specs.declared.rules.TheConstants.{GREATEST_SUM, MOST_LABELS, MOST_LISTED}
-use Rattle.weighted_roll.specs.Listed.{weight_in, parts_from, if_listed}
+use Rattle.weighted_roll.specs.Listed.{parts_from, if_listed}
 use Rattle.weighted_roll.specs.inner.Sums.{greatest_of, HasSums}
-use Rattle.weighted_roll.proofs.Listing.{Lacks, Read, read_part, read_last}
+use Rattle.weighted_roll.proofs.Listing.{Read}
 
 sum_more : (ws : List ℕ) (a : ℕ) → sum (ws ++ a ∷ []) ≡ sum ws + a
 sum_more ws a = let s = sum_by-append (λ x. x) ws (a ∷ []) in omega arith

@@ -1,6 +1,6 @@
-use Rattle.std.proofs.Common.{sym, subst, ◌∙◌, ap, arith, rules}
+use Rattle.std.proofs.Common.{sym, ◌∙◌, arith, rules}
 use Rattle.std.proofs.lemmas.Str.Pattern.{split_parts}
-use Rattle.weighted_roll.proofs.Listing.{Read, read_part, no_part, read_last, no_last}
+use Rattle.weighted_roll.proofs.Listing.{read_part, no_part, read_last, no_last}
 use Rattle.weighted_roll.proofs.reading.parts_in.Goals as goal
 
 pub returns-in-None : goal.returns-in-None

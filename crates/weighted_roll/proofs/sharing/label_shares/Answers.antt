@@ -1,5 +1,4 @@
-use Rattle.std.proofs.Common.{◌≡◌, ◌∙◌, ◌<◌, ◌*◌, ◌^◌, ◌/◌, ℕ, get_or, ap, arith}
-use Rattle.std.proofs.lemmas.List.{get_or_default}
+use Rattle.std.proofs.Common.{◌∙◌, ap}
 use Rattle.frac128.specs.Fraction.{lowest}
 use Rattle.weighted_roll.specs.Rollers.{decided}
 use Rattle.weighted_roll.specs.WeightedRoll.{weighted}

@@ -1,4 +1,4 @@
-use Rattle.std.proofs.Common.{◌≡◌, ◌∙◌, ◌-◌, ◌*◌, ◌<◌, ◌^◌, suc, ap, subst, arith}
+use Rattle.std.proofs.Common.{◌≡◌, ◌∙◌, ◌-◌, ◌*◌, ◌^◌, suc, ap, arith}
 use Rattle.frac128.specs.Fraction.{lowest}
 use Rattle.weighted_roll.proofs.Growing.{power_pos}
 use Rattle.weighted_roll.proofs.Weighing.{twice_lowest}
