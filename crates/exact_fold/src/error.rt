@@ -6,7 +6,7 @@ use std::alloc::{AllocError, AllocFailed};
 /// Why a block is not settled.
 #[derive(Clone, Copy, PartialEq, Eq, Debug)]
 pub enum SettleError {
-    /// A fraction is too wide for two numbers of 128 bits.
+    /// A fraction, or a number on the way to one, is wider than 128 bits.
     TooWide,
     /// More than 65,536 states at one point, or on the guard of one loop.
     TooManyStates,
@@ -43,8 +43,9 @@ impl<T: Drop> From<AllocFailed<T>> for SettleError {
 /// Why there are no exact masses.
 #[derive(Clone, Copy, PartialEq, Eq, Debug)]
 pub enum ExactError {
-    /// A fraction is too wide for two numbers of 128 bits: of a loop's visits, of one turn, or of a mass. Visits that are wider
-    /// are not found, or what is found of them does not pass its check.
+    /// A fraction, or a number on the way to one, is wider than 128 bits: of a loop's visits, of one turn, of a sum of these, or of
+    /// a mass. Visits that are wider are not found, or what is found of them does not pass its check. None are found either where
+    /// four of eight primes above 2^62 divide what an elimination divides by, whose product has more than 248 bits then.
     TooWide,
     /// More than 65,536 states at one point, or on the guard of one loop.
     TooManyStates,

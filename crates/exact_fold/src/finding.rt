@@ -3,7 +3,8 @@
 ghost use Rattle.std.specs.Prelude.{◌≡◌, IfOk};
 
 use crate::error::SettleError;
-use crate::residues::Residues;
+use crate::primes::PRIMES;
+use crate::residues::{Moduli, Residues};
 use crate::solving::solved;
 use frac128::Frac;
 use mass_fold::{State, Table, scale};
@@ -43,6 +44,20 @@ pub fn copied(alloc: Global, table: &Table) -> Result<Table, SettleError>
     ensures { IfOk result (λ t. t.vars ≡ table.now.vars) }
 {
     Ok(scale(alloc, &Frac::of(1, 1), table)?)
+}
+
+// The fractions with these remainders, by number.
+fn fractions(
+    alloc: Global,
+    moduli: &Moduli,
+    residues: &BTreeMap<u64, Residues>,
+) -> Result<BTreeMap<u64, Frac>, SettleError> {
+    let mut fractions = BTreeMap::new(alloc);
+    for (number, part) in residues {
+        let f = moduli.fraction(part).ok_or(SettleError::TooWide)?;
+        fractions.insert(*number, f)?;
+    }
+    Ok(fractions)
 }
 
 impl Seen {
@@ -128,10 +143,11 @@ impl Seen {
         Ok(leaving)
     }
 
-    // The visits of the states that may be left, by number.
-    fn visits(
+    // The visits of the states that may be left, by number, at these moduli.
+    fn visits_at(
         &self,
         alloc: Global,
+        moduli: &mut Moduli,
         start: &Table,
         leaving: &BTreeMap<u64, bool>,
     ) -> Result<BTreeMap<u64, Residues>, SettleError> {
@@ -139,21 +155,39 @@ impl Seen {
         for (s, f) in &start.states {
             if let Some(number) = self.numbers.get(s) {
                 if leaving.contains_key(number) {
-                    entered.insert(*number, Residues::of(f))?;
+                    entered.insert(*number, moduli.of(f))?;
                 }
             }
         }
         let mut parts = BTreeMap::new(alloc);
         for (from, to, f) in &self.parts {
             if leaving.contains_key(from) && leaving.contains_key(to) {
-                parts.insert((*from, *to), Residues::of(f))?;
+                parts.insert((*from, *to), moduli.of(f))?;
             }
         }
         let mut states = Vec::new(alloc);
         for (number, _) in leaving {
             states.push(*number)?;
         }
-        solved(alloc, entered, &parts, &states)
+        solved(alloc, moduli, entered, &parts, &states)
+    }
+
+    // The visits of the states that may be left, by number: at moduli of which none is lost.
+    fn visits(
+        &self,
+        alloc: Global,
+        start: &Table,
+        leaving: &BTreeMap<u64, bool>,
+    ) -> Result<BTreeMap<u64, Frac>, SettleError> {
+        let mut moduli = Moduli::first();
+        for _ in 0..PRIMES.len() {
+            let visits = self.visits_at(alloc, &mut moduli, start, leaving)?;
+            if moduli.hold() {
+                return fractions(alloc, &moduli, &visits);
+            }
+            moduli = moduli.others().ok_or(SettleError::TooWide)?;
+        }
+        Err(SettleError::TooWide)
     }
 
     /// The visits of the states that may be left, and the states that are never left.
@@ -167,10 +201,9 @@ impl Seen {
         let mut closed = Table::new(alloc, start.vars);
         for (s, number) in &self.numbers {
             match numbers.get(number) {
-                Some(part) => {
-                    let f = part.fraction().ok_or(SettleError::TooWide)?;
+                Some(f) => {
                     if f.num() != 0 {
-                        put(&mut visits, s.copy(alloc)?, f)?;
+                        put(&mut visits, s.copy(alloc)?, *f)?;
                     }
                 }
                 None => put(&mut closed, s.copy(alloc)?, Frac::of(1, 1))?,

@@ -16,6 +16,7 @@ mod error;
 mod finding;
 mod laws;
 mod loops;
+mod primes;
 mod program;
 mod residues;
 mod settle;

@@ -2,7 +2,7 @@
 // promised of them.
 
 use crate::error::SettleError;
-use crate::residues::Residues;
+use crate::residues::{Moduli, Residues};
 use std::alloc::Global;
 use std::collections::{BTreeMap, BTreeSet};
 
@@ -33,7 +33,7 @@ const NUMBERS: u64 = 1 << 32;
 // The row without a state, and its part.
 fn without(alloc: Global, row: &Row, state: u64) -> Result<(Row, Residues), SettleError> {
     let mut others = Vec::with_capacity(alloc, row.len())?;
-    let mut part = Residues::of_number(0);
+    let mut part = Residues::zero();
     for (to, f) in row {
         if *to == state {
             part = *f;
@@ -130,6 +130,7 @@ impl Left {
     fn joined(
         &mut self,
         alloc: Global,
+        moduli: &Moduli,
         source: u64,
         row: &Row,
         factor: &Residues,
@@ -139,10 +140,10 @@ impl Left {
         let mut at = 0;
         for (to, part) in other {
             at = copied_below(row, at, *to, &mut all)?;
-            let more = factor.times(part);
+            let more = moduli.product(factor, part);
             match row.get(at) {
                 Some(entry) if entry.0 == *to => {
-                    all.push((*to, entry.1.plus(&more)))?;
+                    all.push((*to, moduli.sum(&entry.1, &more)))?;
                     at = at.saturating_add(1);
                 }
                 _ => {
@@ -156,26 +157,24 @@ impl Left {
     }
 
     // What a state is entered with grows.
-    fn enter(&mut self, state: u64, part: &Residues) -> Result<(), SettleError> {
+    fn enter(&mut self, moduli: &Moduli, state: u64, part: &Residues) -> Result<(), SettleError> {
         let sum = match self.entered.get(&state) {
-            Some(old) => old.plus(part),
+            Some(old) => moduli.sum(old, part),
             None => *part,
         };
         self.entered.insert(state, sum)?;
         Ok(())
     }
 
-    // The state is replaced by what it leads to.
-    fn eliminate(&mut self, alloc: Global, state: u64) -> Result<Pivot, SettleError> {
-        let (row, back) = self.take(alloc, state)?;
-        let leaves = Residues::of_number(1).less(&back).inverse();
-        let entered = match self.entered.get(&state) {
-            Some(part) => part.times(&leaves),
-            None => Residues::of_number(0),
-        };
-        for (to, part) in &row {
-            self.enter(*to, &entered.times(part))?;
-        }
+    // In the rows of the states that lead to it the state is replaced by what it leads to, so many times; and its parts there.
+    fn replace(
+        &mut self,
+        alloc: Global,
+        moduli: &Moduli,
+        state: u64,
+        leaves: &Residues,
+        row: &Row,
+    ) -> Result<Row, SettleError> {
         let sources = match self.into.remove(&state) {
             Some(sources) => sources,
             None => BTreeSet::new(alloc),
@@ -184,12 +183,34 @@ impl Left {
         for source in sources {
             if let Some(old) = self.out.remove(&source) {
                 let (others, weight) = without(alloc, &old, state)?;
-                let next = self.joined(alloc, source, &others, &weight.times(&leaves), &row)?;
+                let factor = moduli.product(&weight, leaves);
+                let next = self.joined(alloc, moduli, source, &others, &factor, row)?;
                 self.out.insert(source, next)?;
                 from.push((source, weight))?;
                 self.rank(source)?;
             }
         }
+        Ok(from)
+    }
+
+    // The state is replaced by what it leads to.
+    fn eliminate(
+        &mut self,
+        alloc: Global,
+        moduli: &mut Moduli,
+        state: u64,
+    ) -> Result<Pivot, SettleError> {
+        let (row, back) = self.take(alloc, state)?;
+        let pivot = moduli.difference(&moduli.of_number(1), &back);
+        let leaves = moduli.inverse(&pivot);
+        let entered = match self.entered.get(&state) {
+            Some(part) => moduli.product(part, &leaves),
+            None => Residues::zero(),
+        };
+        for (to, part) in &row {
+            self.enter(moduli, *to, &moduli.product(&entered, part))?;
+        }
+        let from = self.replace(alloc, moduli, state, &leaves, &row)?;
         for (to, _) in &row {
             self.rank(*to)?;
         }
@@ -205,6 +226,7 @@ impl Left {
 /// `parts` the probability that one turn leads from one state to another.
 pub fn solved(
     alloc: Global,
+    moduli: &mut Moduli,
     entered: BTreeMap<u64, Residues>,
     parts: &BTreeMap<(u64, u64), Residues>,
     states: &Vec<u64>,
@@ -227,15 +249,16 @@ pub fn solved(
         let Some(rank) = left.order.pop_first() else {
             break;
         };
-        pivots.push(left.eliminate(alloc, rank % NUMBERS)?)?;
+        pivots.push(left.eliminate(alloc, moduli, rank % NUMBERS)?)?;
     }
-    visits_by(alloc, pivots, &left.entered)
+    visits_by(alloc, moduli, pivots, &left.entered)
 }
 
 // The visits of each state: the weight with which it is entered, and what the states that were eliminated after it lead to it,
 // over what leaves it.
 fn visits_by(
     alloc: Global,
+    moduli: &Moduli,
     pivots: Vec<Pivot>,
     entered: &BTreeMap<u64, Residues>,
 ) -> Result<BTreeMap<u64, Residues>, SettleError> {
@@ -247,14 +270,14 @@ fn visits_by(
         };
         let mut sum = match entered.get(&pivot.state) {
             Some(part) => *part,
-            None => Residues::of_number(0),
+            None => Residues::zero(),
         };
         for (source, part) in &pivot.from {
             if let Some(visited) = visits.get(source) {
-                sum = sum.plus(&part.times(visited));
+                sum = moduli.sum(&sum, &moduli.product(part, visited));
             }
         }
-        visits.insert(pivot.state, sum.times(&pivot.leaves))?;
+        visits.insert(pivot.state, moduli.product(&sum, &pivot.leaves))?;
     }
     Ok(visits)
 }
