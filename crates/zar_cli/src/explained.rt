@@ -137,13 +137,13 @@ right: choice 1/",
         ]],
     ),
     (
-        "an exact fraction has a number of more than ",
+        "a fraction, or a number on the way to one, is wider than ",
         &[&[
             ("", Some(u128::BITS as u64)),
             (
                 " bits
 
-mend: allow fewer turns, or fewer attempts, rounds and flips where given; zar exact limits nothing, and may fit; zar tally counts runs
+mend: zar enclose is never too wide; or allow fewer turns, attempts, rounds and flips where given; zar exact may fit; zar tally counts runs
 ",
                 None,
             ),
