@@ -3,13 +3,13 @@
 use crate::calls::{call_marked, row_of, wrong_word};
 use gcl_core::refusals::BAD_WORDS;
 use std::alloc::{AllocError, Global};
-use std::fs;
 use std::fs::OpenFile;
 use std::io::Eprint;
-use std::rt::Files;
+use std::{fs, rt};
 use terminal::excerpt::{excerpt, shown};
 use terminal::find_wrong;
 use zar_cli::{Form, REFUSALS};
+use zar_io::{Files, HostFiles, OpenError};
 
 // The code of a refusal and its place, if its line has them.
 fn refusal_in(line: &str) -> Option<(u8, Option<usize>)> {
@@ -64,7 +64,7 @@ fn page_front(alloc: Global, code: u8) -> Result<String, AllocError> {
 }
 
 // The text of a file that can be read twice.
-fn text_of<R: Files + AllocGlobal>(rt: &R, name: &str) -> Option<Vec<u8>> {
+fn text_of<R: rt::Files + AllocGlobal>(rt: &R, name: &str) -> Option<Vec<u8>> {
     let file = fs::open(rt, name).ok()?;
     if file.metadata().ok()?.is_file() {
         fs::read(rt, name).ok()
@@ -95,7 +95,7 @@ fn of_place(
 }
 
 // What is wrong with a text, or with masses.
-fn of_text<R: Files + AllocGlobal>(
+fn of_text<R: rt::Files + AllocGlobal>(
     rt: &R,
     words: &[String],
     code: u8,
@@ -124,36 +124,46 @@ fn of_words(alloc: Global, words: &[String], at: usize) -> Result<String, AllocE
     }
 }
 
-// The first file that the words name and that cannot be opened.
-fn missing_file<'w, R: Files>(rt: &R, words: &'w [String]) -> Option<&'w str> {
+// The first file that the words name and whose opening fails so.
+fn unopened<'w, R: rt::Files>(rt: &R, words: &'w [String], why: OpenError) -> Option<&'w str> {
     let names_program = matches!(row_of(words), Some((_, Form::Name, _, _)));
+    let mut files = HostFiles::new(rt);
     for (i, word) in words.iter().enumerate().skip(1) {
         let is_name = match i {
             1 => names_program,
             _ => words.get(i.saturating_sub(1))?.as_str() == "--bits",
         };
-        if is_name && fs::open(rt, word.as_str()).is_err() {
+        if is_name && files.open(word.as_str()) == Err(why) {
             return Some(word.as_str());
         }
     }
     None
 }
 
-fn of_file<R: Files + AllocGlobal>(rt: &R, words: &[String]) -> Result<String, AllocError> {
-    match missing_file(rt, words) {
+// Which file is missing.
+fn of_missing<R: rt::Files + AllocGlobal>(rt: &R, words: &[String]) -> Result<String, AllocError> {
+    match unopened(rt, words, OpenError::Missing) {
         Some("-") => String::from_str(
             rt.alloc(),
             "  there is no file '-'; standard input is /dev/stdin\n",
         ),
-        Some(name) => {
-            format!(in rt.alloc(); "  there is no file '{name}' here, or it may not be read\n")
-        }
+        Some(name) => format!(in rt.alloc(); "  there is no file '{name}' here\n"),
         None => Ok(String::new(rt.alloc())),
     }
 }
 
+// Which file the system does not open, and why.
+fn of_unopened<R: rt::Files + AllocGlobal>(rt: &R, words: &[String]) -> Result<String, AllocError> {
+    if let Some(name) = unopened(rt, words, OpenError::Failed) {
+        if let Err(error) = fs::open(rt, name) {
+            return format!(in rt.alloc(); "  '{name}' does not open: {error}\n");
+        }
+    }
+    Ok(String::new(rt.alloc()))
+}
+
 // What is said behind this line.
-fn explanation<R: Files + AllocGlobal>(
+fn explanation<R: rt::Files + AllocGlobal>(
     rt: &R,
     words: &[String],
     line: &str,
@@ -161,7 +171,8 @@ fn explanation<R: Files + AllocGlobal>(
     match refusal_in(line) {
         Some((BAD_WORDS, Some(at))) => of_words(rt.alloc(), words, at),
         Some((code, place)) => of_text(rt, words, code, place),
-        None if line == "error no file" => of_file(rt, words),
+        None if line == "error no file" => of_missing(rt, words),
+        None if line == "error read fault" => of_unopened(rt, words),
         None => Ok(String::new(rt.alloc())),
     }
 }
@@ -176,7 +187,7 @@ fn printable(alloc: Global, said: &str) -> Result<String, AllocError> {
 }
 
 /// Shows on standard error what the line of a refusal means, which was written there. What cannot be worked out is left out.
-pub fn explain<R: Files + AllocGlobal + Eprint>(rt: &R, words: &[String], line: &[u8]) {
+pub fn explain<R: rt::Files + AllocGlobal + Eprint>(rt: &R, words: &[String], line: &[u8]) {
     if let Ok(line) = str::from_utf8(line) {
         if let Ok(said) = explanation(rt, words, line.trim_end()) {
             if let Ok(printed) = printable(rt.alloc(), said.as_str()) {
