@@ -1,16 +1,19 @@
 //! The outside in memory: a writer over a vector, and files with their bytes.
 
-ghost use Rattle.std.specs.Prelude.{◌≡◌, ◌<◌, ◌∷◌, [], Some, IfOk, codes};
+ghost use Rattle.std.specs.Prelude.{◌≡◌, ◌<◌, ◌-◌, ◌∷◌, [], Some, IfOk, codes, drop, length, vec_len};
+ghost use Rattle.zar_io.specs.HostSink.{writer_of};
 ghost use Rattle.zar_io.specs.MemFiles.{named_file, files_answered, files_step, files_fails, files_number};
 ghost use Rattle.zar_io.specs.Trace.{written};
 
 use std::alloc::{AllocError, Global};
 use zar_io::{Failed, HostSink, MemFiles, Sink, put};
 
-/// Appends a piece to what a vector holds, by a writer over it, and answers that: what the writer took is the piece. `Failed`
-/// comes only where memory runs out.
+/// Appends a piece to what a vector holds, by a writer over it, and answers that: what was written is the piece, and the vector
+/// ends with it. `Failed` comes only where memory runs out.
 pub fn put_on_a_vector(bytes: Vec<u8>, piece: &[u8]) -> Result<HostSink<Vec<u8>>, Failed>
-    ensures { IfOk result (λ sink. written (⟦<HostSink<Vec<u8>> as Sink>⟧.answered sink) ≡ piece.now) }
+    ensures written { IfOk result (λ sink. written (⟦<HostSink<Vec<u8>> as Sink>⟧.answered sink) ≡ piece.now) }
+    ensures held { IfOk result (λ sink.
+        drop (vec_len (writer_of sink) - length piece.now) (writer_of sink).items ≡ piece.now) }
 {
     let mut sink = HostSink::new(bytes);
     put(&mut sink, piece)?;

@@ -209,6 +209,7 @@ fn writers_in_memory_tell_their_bytes(rt: HostRuntime) -> Result<(), Fail> {
     let mut sink = HostSink::new(&mut bytes);
     put(&mut sink, b" 1")?;
     put(&mut sink, b"\n")?;
+    drop(sink);
     assert_eq!(rt; bytes.as_slice(), b"value 1\n".as_slice());
     put_on_a_vector(bytes, b"end")?;
     Ok(())

@@ -1,3 +1,4 @@
 pub mod AgreesOnce
+pub mod AppendsOnce
 pub mod Orderly
 pub mod Fronts
