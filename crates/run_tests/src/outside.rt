@@ -4,6 +4,7 @@ use crate::in_memory::{put_on_a_vector, two_files};
 use std::fs;
 use std::process::Abort;
 use std::test::Fail;
+use terminal::KeepingSink;
 use zar_io::{
     Bits, Failed, FaultyBits, FileBits, Files, Gate, HostFiles, HostSink, MemFiles, MemSink,
     NullSink, OneFile, Open, OpenError, Ready, Sink, SourceError, StreamBits, put, read_source,
@@ -220,6 +221,38 @@ fn a_write_that_takes_nothing_is_a_fault(rt: HostRuntime) {
     let mut room = [0; 3];
     let mut sink = HostSink::new(room.as_mut_slice());
     assert_eq!(rt; put(&mut sink, b"abcd"), Err(Failed));
+}
+
+#[test]
+fn a_keeping_sink_keeps_the_front_of_what_is_written(rt: HostRuntime) -> Result<(), Fail> {
+    let line: &[u8] = b"error E5 at 0";
+    let table: [(usize, &[u64], &str); 4] = [
+        (4, &[], "error E5 at 0"),
+        (1, &[], "error E5 at 0"),
+        (4, &[2], "error E5"),
+        (4, &[0], ""),
+    ];
+    for (step, fails, want) in table {
+        assert!(rt; step > 0);
+        let mut sink = KeepingSink::new(MemSink::new(rt.alloc(), step, 65_536, fails)?);
+        assert_eq!(rt;
+            put(&mut sink, line).is_ok(),
+            fails.is_empty(),
+            "for {want}"
+        );
+        assert_eq!(rt; sink.kept(), want.as_bytes(), "for {want}");
+    }
+    Ok(())
+}
+
+#[test]
+fn a_keeping_sink_keeps_64_bytes(rt: HostRuntime) -> Result<(), Fail> {
+    let text = [b'x'; 70];
+    let mut sink = KeepingSink::new(NullSink::new());
+    put(&mut sink, &text[..60])?;
+    put(&mut sink, &text[60..])?;
+    assert_eq!(rt; sink.kept(), &text[..64]);
+    Ok(())
 }
 
 #[test]
