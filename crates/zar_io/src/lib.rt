@@ -42,5 +42,5 @@ pub use one_file::OneFile;
 pub use outside::{Bits, Failed, Files, OpenError, Ready, Sink};
 pub use source::{MOST_BYTES, SourceError, read_source};
 pub use stream_bits::{MOST_BUDGET, StreamBits, streams_begin_as_published};
-pub use trace::{Event, Note, Trace};
+pub use trace::Event;
 pub use writing::put;

@@ -24,7 +24,7 @@ pub enum Event {
 
 /// An answer that is to be recorded.
 #[derive(Clone, Copy, Drop)]
-pub enum Note<'a> {
+pub(crate) enum Note<'a> {
     Opened(&'a str),
     Missed(&'a str),
     OpenFailed(&'a str),
@@ -35,7 +35,7 @@ pub enum Note<'a> {
 
 /// What was answered so far, the newest first.
 #[derive(Drop)]
-pub struct Trace {
+pub(crate) struct Trace {
     pub ghost events: { List Event },
 }
 
@@ -48,7 +48,7 @@ impl Trace {
 
     /// Nothing was answered.
     #[inline(always)]
-    pub fn new() -> Trace
+    pub(crate) fn new() -> Trace
         ensures { result.events ≡ [] }
     {
         Trace {}
@@ -56,7 +56,7 @@ impl Trace {
 
     /// That, and then this answer.
     #[inline(always)]
-    pub fn then(&self, _note: &Note<'_>) -> Trace
+    pub(crate) fn then(&self, _note: &Note<'_>) -> Trace
         ensures { result.events ≡ noted _note.now ∷ self.now.events }
     {
         Trace {}
