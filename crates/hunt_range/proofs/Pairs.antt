@@ -14,6 +14,7 @@ use Rattle.least_board.specs.declared.pass.LeastBoard.{LeastBoard}
 use Rattle.least_board.specs.declared.pass.LeastPass.{LeastPass}
 use Rattle.least_board.specs.Board as least
 use Rattle.hunt_range.specs.declared.hunter.Hunter.{Hunter}
+use Rattle.zar_io.specs.declared.visits.Visits.{Visits}
 use Rattle.hunt_range.specs.inner.Hunters.{IsReadyHunter, HasWorked, AreAll}
 
 -- how often x is the number of a pass, and of a hunter's
@@ -41,10 +42,10 @@ pub record Pairing (b : Board) (l : LeastBoard) (ps : List Pass) (qs : List Leas
   pub each_bid : (x : ℕ) → in_bids x qs + bids_in x hs ≡ once_below x (least.workers_of l)
 
 module _ (b : Board) (l : LeastBoard) where
-  pub pairing_more : (ps ps' : List Pass) (qs qs' : List LeastPass) (hs hs' : List Hunter) (p : Pass) (q : LeastPass) → Pairing b l ps qs hs → ps ≡ ps' ++ p ∷ [] → qs ≡ qs' ++ q ∷ [] →
-      hs' ≡ hs ++ record { pass = p; bid = q; done = Ok tt } ∷ [] → Pairing b l ps' qs' hs'
-  pairing_more ps ps' qs qs' hs hs' p q i pp qq hh =
-      let h : Hunter = record { pass = p; bid = q; done = Ok tt } in
+  pub pairing_more : (ps ps' : List Pass) (qs qs' : List LeastPass) (hs hs' : List Hunter) (p : Pass) (q : LeastPass) (v : Visits) → Pairing b l ps qs hs → ps ≡ ps' ++ p ∷ [] → qs ≡ qs' ++ q ∷ [] →
+      hs' ≡ hs ++ record { pass = p; bid = q; visits = v; done = Ok tt } ∷ [] → Pairing b l ps' qs' hs'
+  pairing_more ps ps' qs qs' hs hs' p q v i pp qq hh =
+      let h : Hunter = record { pass = p; bid = q; visits = v; done = Ok tt } in
       let a = all_pop (claim.IsPassOf b) ps ps' p pp i.passes in
       let n = all_pop claim.IsNew ps ps' p pp i.new_passes in
       let c = all_pop (least.IsPassOf l) qs qs' q qq i.bids in

@@ -22,7 +22,10 @@ use Rattle.least_board.specs.Board as least
 use Rattle.hunt_range.specs.declared.hunter.Hunter.{Hunter}
 use Rattle.hunt_range.specs.Sought.{Sought, sought_of, NoneWanted}
 use Rattle.hunt_range.specs.inner.Blocks.{block_start, FirstWanted}
-use Rattle.hunt_range.specs.inner.Hunters.{Covers, AreWanted, Searched, HasHunted, IsSameHunter}
+use Rattle.zar_io.specs.declared.visits.Visits.{Visits}
+use Rattle.zar_io.specs.Visits.{blocks_told}
+use Rattle.stream_runs.proofs.Told.{one_told}
+use Rattle.hunt_range.specs.inner.Hunters.{told_by, Covers, AreWanted, Searched, HasHunted, IsSameHunter}
 
 -- what was searched of the runs of the code
 abbrev pub HasSearched : Assembled → Limits → SeedRange → TallyKey → Pass → LeastPass → Type 0
@@ -35,6 +38,7 @@ pub record Hunting (b : Board) (l : LeastBoard) (Has : Pass → LeastPass → Ty
   pub same : IsSameHunter start now
   pub on : claim.had_none now.pass ≡ false
   pub low : top (claim.dealt_to now.pass) ≤ claim.blocks_of b
+  pub told : told_by now ≡ told_by start ++ claim.dealt_to now.pass
   pub searched : Has now.pass now.bid
 
 listed_more : (j x : ℕ) (xs : List ℕ) → 0 < times j (xs ++ x ∷ []) → (0 < times j xs) ⊎ (j ≡ x)
@@ -118,14 +122,15 @@ pub still_low : (blocks block : ℕ) (xs ys : List ℕ) → is_above block xs �
 still_low blocks block xs ys above lt is = let le = top_above block xs above in let t : top ys ≡ max (top xs) (block + 1) = ap top is ∙ top-snoc block xs in omega arith
 
 -- the worker is between two blocks again
-pub hunts_on : (b : Board) (l : LeastBoard) (Has : Pass → LeastPass → Type 0) (start h : Hunter) (p' : Pass) (q' : LeastPass) (block : ℕ) (done : Result (Unit {0}) AllocError) → Hunting b l Has start h →
+pub hunts_on : (b : Board) (l : LeastBoard) (Has : Pass → LeastPass → Type 0) (start h : Hunter) (p' : Pass) (q' : LeastPass) (v' : Visits) (block : ℕ) (done : Result (Unit {0}) AllocError) → Hunting b l Has start h →
     claim.IsSamePass h.pass p' → least.IsSamePass h.bid q' → block < claim.blocks_of b → is_above block (claim.dealt_to h.pass) ≡ true → claim.dealt_to p' ≡ claim.dealt_to h.pass ++ block ∷ [] →
-    claim.had_none p' ≡ false → Has p' q' → Hunting b l Has start (record { pass = p'; bid = q'; done = done })
-hunts_on b l Has start h p' q' block done i same bid lt above is on searched = record {
+    claim.had_none p' ≡ false → blocks_told v' ≡ told_by h ++ block ∷ [] → Has p' q' → Hunting b l Has start (record { pass = p'; bid = q'; visits = v'; done = done })
+hunts_on b l Has start h p' q' v' block done i same bid lt above is on told searched = record {
   pass = (same.0 ∙ i.pass.0, same.1 ∙ i.pass.1);
   bid = bid.0 ∙ i.bid;
   same = ((same.0 ∙ i.same.0.0, same.1 ∙ i.same.0.1, same.2 ∙ i.same.0.2), (bid.0 ∙ i.same.1.0, bid.1 ∙ i.same.1.1));
   on = on;
   low = still_low (claim.blocks_of b) block (claim.dealt_to h.pass) (claim.dealt_to p') above lt is;
+  told = one_told (told_by start) (told_by h) (blocks_told v') (claim.dealt_to h.pass) (claim.dealt_to p') block i.told told is;
   searched = searched;
 }

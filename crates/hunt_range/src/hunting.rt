@@ -19,7 +19,7 @@ use sampler_run::Sampler;
 use std::alloc::{AllocError, Global};
 use std::thread::Threads;
 use stream_runs::{Job, STREAMS_OF_A_BLOCK, SeedRange};
-use zar_io::Gate;
+use zar_io::{Gate, Visits};
 
 // A hunter for each two passes.
 fn hunters_of(
@@ -43,6 +43,7 @@ fn hunters_of(
         hunters.push(Hunter {
             pass,
             bid,
+            visits: Visits::new(),
             done: Ok(()),
         })?;
     }
@@ -69,7 +70,12 @@ fn close_both<G: Gate>(
     let mut passes = Vec::with_capacity(alloc, hunters.len())?;
     let mut bids = Vec::with_capacity(alloc, hunters.len())?;
     while let Some(hunter) = hunters.pop() {
-        let Hunter { pass, bid, done } = hunter;
+        let Hunter {
+            pass,
+            bid,
+            visits: _,
+            done,
+        } = hunter;
         done?;
         passes.push(pass)?;
         bids.push(bid)?;

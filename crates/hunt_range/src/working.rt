@@ -1,8 +1,9 @@
 //! The workers of a hunt.
-ghost use Rattle.std.specs.Prelude.{All, IfOk};
+ghost use Rattle.std.specs.Prelude.{◌≡◌, ◌++◌, All, IfOk};
 ghost use Rattle.std.specs.List.{AllZip};
+ghost use Rattle.claim_board.specs.Board.{dealt_to};
 ghost use Rattle.stream_runs.specs.Jobs.{IsReadyJob};
-ghost use Rattle.hunt_range.specs.inner.Hunters.{BelongTogether, IsReadyHunter, IsSameHunter, HasHuntedRuns, HasWorked};
+ghost use Rattle.hunt_range.specs.inner.Hunters.{BelongTogether, IsReadyHunter, IsSameHunter, told_by, HasHuntedRuns, HasWorked};
 
 use crate::hunter::Hunter;
 use crate::streams::first_wanted;
@@ -16,7 +17,7 @@ use zar_io::Gate;
 
 /// Claims blocks, and offers of each the first stream that is wanted. It stops where no block is left, or where the block that
 /// was claimed last begins at the least stream that was found, or behind it. The gate is told of each block before its first
-/// stream. An error comes only where memory runs out.
+/// stream, whatever the answer. An error comes only where memory runs out.
 pub fn work<G: Gate>(
     alloc: Global,
     board: &Board,
@@ -29,13 +30,14 @@ pub fn work<G: Gate>(
     requires fits { BelongTogether board.now least.now job.now.range.now }
     requires ready { IsReadyHunter board.now least.now hunter.old }
     ensures same { IsSameHunter hunter.old hunter.new }
+    ensures entered { told_by hunter.new ≡ told_by hunter.old ++ dealt_to hunter.new.pass }
     ensures hunted { IfOk result
         (λ _. HasHuntedRuns job.now.sampler.now job.now.limits.now job.now.range.now want.now hunter.new.pass hunter.new.bid) }
 {
     let home = job.sampler.start(alloc, job.limits)?;
     let mut state = home.fork(alloc)?;
     while let Some(block) = board.claim(&mut hunter.pass) {
-        job.gate.entered(block);
+        hunter.visits.enter(job.gate, block);
         let first = job.range.first_stream(block);
         if least.look(&mut hunter.bid) <= first {
             return Ok(());

@@ -1,2 +1,3 @@
 -- Words of proofs and of private contracts. No public definition or clause cites one.
+pub mod Begun
 pub mod Rounds

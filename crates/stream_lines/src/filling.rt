@@ -1,14 +1,16 @@
 // The lines of batches.
 
-ghost use Rattle.std.specs.Prelude.{◌≡◌, ◌+◌, ◌-◌, ◌*◌, ◌<◌, ◌≤◌, Bool, List, All, IfOk, length};
+ghost use Rattle.std.specs.Prelude.{◌≡◌, ◌+◌, ◌-◌, ◌*◌, ◌<◌, ◌≤◌, ◌++◌, Bool, List, All, IfOk, length};
 ghost use Rattle.gcl_core.specs.declared.answers.Answer.{Answer};
 ghost use Rattle.sampler_run.specs.Held.{IsRestOf, set_back};
 ghost use Rattle.stream_lines.specs.Lines.{lines_over};
-ghost use Rattle.stream_lines.specs.inner.Rounds.{batch_start, IsWorkerOf, HasBatch, HaveRound};
+ghost use Rattle.stream_lines.specs.inner.Rounds.{batch_start, IsWorkerOf, told_by, HasBatch, HaveRound};
+ghost use Rattle.stream_lines.specs.inner.Begun.{block_at, blocks_begun};
 ghost use Rattle.stream_lines.specs.declared.batch.TheConstants.{STREAMS_OF_A_BATCH};
 ghost use Rattle.stream_runs.specs.declared.range.TheConstants.{MOST_WORKERS};
 ghost use Rattle.stream_runs.specs.Homes.{IsHome};
 ghost use Rattle.stream_runs.specs.Jobs.{IsReadyJob};
+ghost use Rattle.zar_io.specs.Visits.{blocks_told};
 
 use crate::batch::{Batch, STREAMS_OF_A_BATCH};
 use crate::worker::Worker;
@@ -17,7 +19,7 @@ use sampler_run::State;
 use std::alloc::{AllocError, Global};
 use std::thread::{Threads, for_each_mut};
 use stream_runs::{Job, MOST_WORKERS, STREAMS_OF_A_BLOCK, answer_on_stream};
-use zar_io::{Gate, StreamBits};
+use zar_io::{Gate, StreamBits, Visits};
 
 // A worker that begins as `home` does. An error comes only where memory runs out.
 fn worker_of<'s>(alloc: Global, home: &State<'s>) -> Result<Worker<'s>, AllocError>
@@ -27,6 +29,7 @@ fn worker_of<'s>(alloc: Global, home: &State<'s>) -> Result<Worker<'s>, AllocErr
     Ok(Worker {
         state: home.fork(alloc)?,
         batch: Batch::new(alloc)?,
+        visits: Visits::new(),
         apart: [0; 16],
     })
 }
@@ -52,16 +55,18 @@ pub(crate) fn workers_of<'s>(
 
 // Tells the gate of the block that begins with this stream, if one does.
 #[inline]
-fn enter<G: Gate>(job: &Job<'_, G>, stream: u64)
+fn enter<G: Gate>(job: &Job<'_, G>, visits: &mut Visits, stream: u64)
     requires { job.now.range.now.from ≤ stream }
+    ensures { blocks_told visits.new ≡ blocks_told visits.old ++ block_at job.now.range.now.from stream }
 {
     let before = stream - job.range.from;
     if before % STREAMS_OF_A_BLOCK == 0 {
-        job.gate.entered(before / STREAMS_OF_A_BLOCK);
+        visits.enter(job.gate, before / STREAMS_OF_A_BLOCK);
     }
 }
 
-// Runs on some streams that follow one another, and keeps their lines in the batch, in the place of what it held.
+// Runs on some streams that follow one another, and keeps their lines in the batch, in the place of what it held. The gate is told
+// of each block before its first stream.
 fn fill<'s, G: Gate>(
     job: &Job<'_, G>,
     home: &State<'s>,
@@ -69,6 +74,7 @@ fn fill<'s, G: Gate>(
     end: u64,
     state: &mut State<'s>,
     batch: &mut Batch,
+    visits: &mut Visits,
 )
     requires job { IsReadyJob job.now.limits.now job.now.range.now }
     requires home { IsHome home.now state.old }
@@ -77,13 +83,14 @@ fn fill<'s, G: Gate>(
     requires few { end - first ≤ STREAMS_OF_A_BATCH }
     ensures lines { (run : List Bool → Answer) → IsRestOf (set_back state.old) run →
         batch.new ≡ lines_over run job.now.range.now.seed job.now.range.now.budget first end }
+    ensures entered { blocks_told visits.new ≡ blocks_told visits.old ++ blocks_begun job.now.range.now.from first end }
     ensures same_start { set_back state.new ≡ set_back state.old }
 {
     batch.clear();
     let mut bits = StreamBits::new(job.range.seed, first, job.range.budget);
     let mut at = first;
     while at < end {
-        enter(job, at);
+        enter(job, visits, at);
         let answer = answer_on_stream(state, home, &mut bits, job.range.seed, at, job.range.budget);
         batch.push(sample_line(&answer).bytes());
         at += 1;
@@ -112,12 +119,20 @@ fn fill_batch<'s, G: Gate>(
     requires from { job.now.range.now.from ≤ first }
     requires order { first ≤ job.now.range.now.to }
     requires number { number < MOST_WORKERS }
-    ensures { HasBatch home.now job.now.range.now first number worker.new }
+    ensures { HasBatch home.now job.now.range.now first number (told_by worker.old) worker.new }
 {
     let to = job.range.to;
     let start = batch_start(first, to, number as u64);
     let end = batch_start(first, to, number as u64 + 1);
-    fill(job, home, start, end, &mut worker.state, &mut worker.batch);
+    fill(
+        job,
+        home,
+        start,
+        end,
+        &mut worker.state,
+        &mut worker.batch,
+        &mut worker.visits,
+    );
 }
 
 // The lines of a round that begins with this stream, a batch for each worker, one behind the other. Each worker works in a thread
@@ -143,7 +158,7 @@ pub(crate) fn fill_round<'s, R: Threads + Sync, G: Gate>(
         &|number, w: &mut Worker<'_>|
             requires { IsReadyJob job.now.limits.now job.now.range.now × IsWorkerOf home.now w.now
                 × (job.now.range.now.from ≤ first) × (first ≤ job.now.range.now.to) × (number < MOST_WORKERS) }
-            ensures { HasBatch home.entry.now job.entry.now.range.now first number w.exit.now }
+            ensures { HasBatch home.entry.now job.entry.now.range.now first number (told_by w.entry.now) w.exit.now }
         { fill_batch(job, home, first, number, w) },
     );
 }

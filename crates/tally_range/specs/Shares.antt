@@ -1,5 +1,5 @@
 -- What clauses say of the shares of workers.
-use Rattle.std.specs.Prelude.{◌≡◌, Bool, true, List, []}
+use Rattle.std.specs.Prelude.{◌≡◌, ℕ, Bool, true, List, []}
 use Rattle.gcl_core.specs.declared.answers.Answer.{Answer}
 use Rattle.gcl_core.specs.declared.answers.Limits.{Limits}
 use Rattle.gcl_core.specs.declared.answers.TallyKey.{TallyKey}
@@ -14,12 +14,17 @@ use Rattle.tally_range.specs.Rows.{Rows}
 use Rattle.tally_range.specs.Sums.{count_in}
 use Rattle.stream_runs.specs.Blocks.{blocks_over}
 use Rattle.tally_range.specs.Blocks.{count_block}
+use Rattle.zar_io.specs.Visits.{blocks_told}
 
 abbrev pub pass_of : Share → Pass
 pass_of s = s.pass
 
 abbrev pub table_of : Share → Rows
 table_of s = s.table
+
+-- the blocks that the gate was told of
+abbrev pub told_by : Share → List ℕ
+told_by s = blocks_told s.visits
 
 -- a board for the blocks of the range, a pass of it that was dealt nothing yet, and an empty table
 pub record IsReady (b : Board) (r : SeedRange) (s : Share) : Type 0 where

@@ -5,23 +5,26 @@ ghost use Rattle.gcl_core.specs.declared.answers.TallyKey.{TallyKey};
 ghost use Rattle.passes.specs.Total.{total};
 ghost use Rattle.tally_range.specs.Rows.{IsTally};
 ghost use Rattle.tally_range.specs.Sums.{count_in};
-ghost use Rattle.tally_range.specs.Shares.{pass_of, table_of};
+ghost use Rattle.tally_range.specs.Shares.{pass_of, table_of, told_by};
 ghost use Rattle.tally_range.specs.inner.Worked.{entry_pass, entry_table};
 
 use crate::share::{Entry, Share};
 use crate::table::Tally;
 use claim_board::Pass;
 use std::alloc::{AllocError, Global};
+use zar_io::Visits;
 
 impl Share {
-    /// This pass, and no counts. It takes no memory.
+    /// This pass, no counts, and no block that the gate was told of. It takes no memory.
     pub fn new(alloc: Global, pass: Pass) -> Share
         ensures pass { pass_of result ≡ pass }
         ensures empty { table_of result ≡ [] }
+        ensures untold { told_by result ≡ [] }
     {
         Share {
             pass,
             table: Tally::new(alloc),
+            visits: Visits::new(),
             alloc,
         }
     }
@@ -34,6 +37,7 @@ impl Share {
         let Share {
             pass,
             table,
+            visits: _visits,
             alloc: _alloc,
         } = self;
         (pass, table)

@@ -1,12 +1,12 @@
 // The workers.
 
-ghost use Rattle.std.specs.Prelude.{All, OnOk};
+ghost use Rattle.std.specs.Prelude.{◌≡◌, ◌++◌, All, OnOk};
 ghost use Rattle.std.specs.List.{AllZip};
 ghost use Rattle.gcl_core.specs.meaning.LimitRange.{InRange};
-ghost use Rattle.claim_board.specs.Board.{IsPassOf, IsSamePass};
+ghost use Rattle.claim_board.specs.Board.{dealt_to, IsPassOf, IsSamePass};
 ghost use Rattle.stream_runs.specs.Jobs.{IsReadyJob};
 ghost use Rattle.stream_runs.specs.Ranges.{IsRange};
-ghost use Rattle.tally_range.specs.Shares.{IsReady, IsCounted, pass_of};
+ghost use Rattle.tally_range.specs.Shares.{IsReady, IsCounted, pass_of, told_by};
 ghost use Rattle.tally_range.specs.inner.Worked.{IsWorked};
 
 use crate::share::{Entry, Share};
@@ -22,7 +22,8 @@ use zar_io::Gate;
 
 /// Claims blocks of streams, the last of which may be shorter, until there is none left, runs the sampler on the streams of each,
 /// and counts how the runs end. The gate is told of each block before its first stream. Whatever the answer, the share holds the
-/// same pass of the same board. An error comes only where memory runs out, and nothing is promised of the table then.
+/// same pass of the same board, and the gate was told of the blocks dealt to it. An error comes only where memory runs out, and
+/// nothing is promised of the table then.
 pub fn work<G: Gate>(
     board: &Board,
     share: &mut Share,
@@ -36,13 +37,14 @@ pub fn work<G: Gate>(
     requires ready { IsReady board.now range.now share.old }
     ensures pass { IsSamePass (pass_of share.old) (pass_of share.new) }
     ensures board { IsPassOf board.now (pass_of share.new) }
+    ensures entered { told_by share.new ≡ told_by share.old ++ dealt_to (pass_of share.new) }
     ensures counted { OnOk result (IsCounted s.now l.now range.now share.new) }
 {
     let home = s.start(share.alloc, l)?;
     let mut state = home.fork(share.alloc)?;
     let mut small = SmallCounts::new();
     while let Some(block) = board.claim(&mut share.pass) {
-        gate.entered(block);
+        share.visits.enter(gate, block);
         count_block(
             &mut state,
             &home,

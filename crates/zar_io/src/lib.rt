@@ -28,6 +28,7 @@ mod outside;
 mod source;
 mod stream_bits;
 mod trace;
+mod visits;
 mod writing;
 
 pub use faulty_bits::FaultyBits;
@@ -43,4 +44,5 @@ pub use outside::{Bits, Failed, Files, OpenError, Ready, Sink};
 pub use source::{MOST_BYTES, SourceError, read_source};
 pub use stream_bits::{MOST_BUDGET, StreamBits, streams_begin_as_published};
 pub use trace::Event;
+pub use visits::Visits;
 pub use writing::put;

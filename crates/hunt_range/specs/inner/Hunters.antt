@@ -1,5 +1,5 @@
 -- What a worker's passes say before and after its work.
-use Rattle.std.specs.Prelude.{ℕ, ◌<◌, ◌≤◌, ◌≡◌, ◌⊎◌, ◌+◌, true, Ok, Bool, List, [], All}
+use Rattle.std.specs.Prelude.{ℕ, ◌<◌, ◌≤◌, ◌≡◌, ◌⊎◌, ◌+◌, ◌++◌, true, Ok, Bool, List, [], All}
 use Rattle.passes.specs.Numbers.{times, EachOnce}
 use Rattle.claim_board.specs.declared.pass.Board.{Board}
 use Rattle.claim_board.specs.declared.pass.Pass.{Pass}
@@ -10,6 +10,7 @@ use Rattle.least_board.specs.declared.pass.LeastPass.{LeastPass}
 use Rattle.least_board.specs.Board as least
 use Rattle.least_board.specs.Board.{offers_of, seen_by}
 use Rattle.hunt_range.specs.declared.hunter.Hunter.{Hunter}
+use Rattle.zar_io.specs.Visits.{blocks_told}
 use Rattle.gcl_core.specs.declared.answers.Answer.{Answer}
 use Rattle.gcl_core.specs.declared.answers.Limits.{Limits}
 use Rattle.gcl_core.specs.declared.answers.TallyKey.{TallyKey}
@@ -57,12 +58,17 @@ HasHunted s p q = Searched s p q × HasStopped s p q
 abbrev pub HasHuntedRuns : Assembled → Limits → SeedRange → TallyKey → Pass → LeastPass → Type 0
 HasHuntedRuns c l r want p q = (run : List Bool → Answer) → IsRunOf c l run → HasHunted (sought_of run r want) p q
 
+-- the blocks that the gate was told of
+abbrev pub told_by : Hunter → List ℕ
+told_by h = blocks_told h.visits
+
 abbrev pub IsSameHunter : Hunter → Hunter → Type 0
 IsSameHunter h k = claim.IsSamePass h.pass k.pass × least.IsSamePass h.bid k.bid
 
--- the same passes, and where memory did not run out the worker has hunted
+-- the same passes, of whose blocks the gate was told, and where memory did not run out the worker has hunted
 pub record HasWorked (Hunted : Pass → LeastPass → Type 0) (h k : Hunter) : Type 0 where
   pub same : IsSameHunter h k
+  pub entered : told_by k ≡ told_by h ++ dealt_to k.pass
   pub hunted : k.done ≡ Ok tt → Hunted k.pass k.bid
 
 -- all passes of both boards, each once

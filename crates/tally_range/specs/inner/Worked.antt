@@ -1,5 +1,5 @@
 -- What is left of a share by the thread that worked on it.
-use Rattle.std.specs.Prelude.{◌≡◌, Ok, Bool, List}
+use Rattle.std.specs.Prelude.{◌≡◌, ◌++◌, Ok, Bool, List}
 use Rattle.gcl_core.specs.declared.answers.Answer.{Answer}
 use Rattle.gcl_core.specs.declared.answers.Limits.{Limits}
 use Rattle.gcl_core.specs.declared.answers.TallyKey.{TallyKey}
@@ -12,7 +12,7 @@ use Rattle.tally_range.specs.declared.share.Entry.{Entry}
 use Rattle.tally_range.specs.Rows.{Rows}
 use Rattle.tally_range.specs.Sums.{count_in}
 use Rattle.tally_range.specs.Blocks.{count_block}
-use Rattle.tally_range.specs.Shares.{pass_of, table_of, IsCounted}
+use Rattle.tally_range.specs.Shares.{pass_of, table_of, told_by, IsCounted}
 
 abbrev pub entry_pass : Entry → Pass
 entry_pass e = pass_of e.share
@@ -20,9 +20,10 @@ entry_pass e = pass_of e.share
 abbrev pub entry_table : Entry → Rows
 entry_table e = table_of e.share
 
--- the same pass, and where memory did not run out its blocks are counted
+-- the same pass, of whose blocks the gate was told, and where memory did not run out they are counted
 pub record IsWorked (c : Assembled) (l : Limits) (r : SeedRange) (e f : Entry) : Type 0 where
   pub pass : IsSamePass (pass_of e.share) (pass_of f.share)
+  pub entered : told_by f.share ≡ told_by e.share ++ dealt_to (pass_of f.share)
   pub counted : f.done ≡ Ok tt → IsCounted c l r f.share
 
 -- what the tables count together is what the blocks that were dealt to the passes count

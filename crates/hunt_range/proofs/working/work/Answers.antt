@@ -28,8 +28,8 @@ loop-block-preserved-in-Some-first_wanted g c =
     let e = c.look.ensures in
     let o = c.offer.ensures in
     let f = c.in-Some-first_wanted.ensures in (
-      hunts_on c.args.board.now c.args.least.now (HasSearched c.args.job.now.sampler.now c.args.job.now.limits.now c.args.job.now.range.now c.args.want.now) c.args.hunter.now c.loop-block.hunter c.claim.new.pass c.offer.new.pass c.in-Some.block c.loop-block.hunter.done i c.in-Some.ensures.pass
-          (o.pass.0 ∙ e.pass.0, o.pass.1 ∙ e.pass.1) some.0 some.1 some.2 some.3
+      hunts_on c.args.board.now c.args.least.now (HasSearched c.args.job.now.sampler.now c.args.job.now.limits.now c.args.job.now.range.now c.args.want.now) c.args.hunter.now c.loop-block.hunter c.claim.new.pass c.offer.new.pass c.enter.new.self c.in-Some.block c.loop-block.hunter.done i c.in-Some.ensures.pass
+          (o.pass.0 ∙ e.pass.0, o.pass.1 ∙ e.pass.1) some.0 some.1 some.2 some.3 c.enter.ensures
           (λ run is. offers (sought_of run c.args.job.now.range.now c.args.want.now) c.loop-block.hunter.pass c.claim.new.pass c.loop-block.hunter.bid c.offer.new.pass c.in-Some.block (i.searched run is) some.2 (omega (arith, o.seen.0, e.seen, e.below.0))
           c.in-Some-first_wanted.stream (o.offers ∙ ap (λ l. l ++ c.in-Some-first_wanted.stream ∷ []) e.offers) o.seen.1
           (subst (λ n. FirstWanted (sought_of run c.args.job.now.range.now c.args.want.now) n c.args.job.now.range.now.to (Some c.in-Some-first_wanted.stream)) c.first_stream-first.ensures.first
@@ -47,8 +47,8 @@ loop-block-preserved g c =
     let e = c.look.ensures in
     let f = c.in_default-first_wanted.ensures in (
       hunts_on c.args.board.now c.args.least.now (HasSearched c.args.job.now.sampler.now c.args.job.now.limits.now c.args.job.now.range.now c.args.want.now)
-          c.args.hunter.now c.loop-block.hunter c.claim.new.pass c.look.new.pass c.in-Some.block c.loop-block.hunter.done i c.in-Some.ensures.pass e.pass
-          some.0 some.1 some.2 some.3
+          c.args.hunter.now c.loop-block.hunter c.claim.new.pass c.look.new.pass c.enter.new.self c.in-Some.block c.loop-block.hunter.done i c.in-Some.ensures.pass e.pass
+          some.0 some.1 some.2 some.3 c.enter.ensures
           (λ run is. goes_on (sought_of run c.args.job.now.range.now c.args.want.now) c.loop-block.hunter.pass c.claim.new.pass c.loop-block.hunter.bid c.look.new.pass c.in-Some.block (i.searched run is) some.2 (omega (arith, e.seen, e.below.0)) e.offers
           (subst (λ n. FirstWanted (sought_of run c.args.job.now.range.now c.args.want.now) n c.args.job.now.range.now.to None) c.first_stream-first.ensures.first
           (f.first run (subst (λ (h : Held). IsRestOf h run) (sym c.loop-block.invariant.1) is)))),

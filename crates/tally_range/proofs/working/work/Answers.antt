@@ -6,7 +6,9 @@ use Rattle.passes.proofs.Totals.{total_snoc}
 use Rattle.claim_board.specs.Board.{dealt_to}
 use Rattle.sampler_run.specs.Held.{Held, IsRestOf, StandsAfter}
 use Rattle.tally_range.specs.Blocks.{count_block}
-use Rattle.tally_range.specs.Shares.{pass_of}
+use Rattle.tally_range.specs.Shares.{pass_of, told_by}
+use Rattle.zar_io.specs.Visits.{blocks_told}
+use Rattle.stream_runs.proofs.Told.{one_told}
 use Rattle.tally_range.proofs.working.work.Goals as goal
 
 pub count_block-requires-clause-home : goal.count_block-requires-clause-home
@@ -33,4 +35,5 @@ loop-block-preserved g c = let s = c.in-Some.ensures.some in let i = c.loop-bloc
           ap (total (count_block run c.args.range.now key)) s.2 ∙ total_snoc (count_block run c.args.range.now key) old block in
           let before = i.5 run is key in omega arith,
       λ key. let few = counted.few key in let before = i.6 key in omega arith,
+      one_told (told_by c.args.share.now) (told_by c.loop-block.share) (blocks_told c.enter.new.self) old (dealt_to c.claim.new.pass) block i.7 c.enter.ensures s.2,
     )
