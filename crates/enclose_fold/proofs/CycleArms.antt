@@ -9,8 +9,6 @@ use Rattle.gcl_core.specs.meaning.Bounds.{BlockIsWeighed}
 use Rattle.gcl_core.specs.meaning.Syntax.{Choose, Statements, ArmList, no_arm, arm}
 use Rattle.gcl_core.specs.meaning.Blocks.{End, limit}
 use Rattle.gcl_core.specs.meaning.Value.{State}
-use Rattle.mass_fold.specs.declared.error.MassError.{MassError}
-use Rattle.mass_fold.specs.declared.error.MassError.TheVariants.{OutOfMemory}
 use Rattle.mass_tables.proofs.Draws.{each_part, no_part, all_parts, parts_add_up, all_parts_pos}
 use Rattle.rounding_law.specs.Down.{down}
 use Rattle.rounding_law.specs.Flows.{statement_units, block_units, arms_units}
@@ -21,6 +19,8 @@ use Rattle.rounding_law.proofs.Downs.{rounds_down}
 use Rattle.rounding_law.proofs.Held.{held_append, from_left}
 use Rattle.rounding_law.proofs.Losses.{class_total, rest_total, end_total}
 use Rattle.rounding_law.proofs.Merging.{held_merged}
+use Rattle.enclose_fold.specs.declared.error.EncloseError.{EncloseError}
+use Rattle.enclose_fold.specs.declared.error.EncloseError.TheVariants.{OutOfMemory}
 use Rattle.enclose_fold.specs.declared.ended.Ended.{Ended}
 use Rattle.enclose_fold.specs.inner.Ended.{units_of, EndsWith}
 use Rattle.enclose_fold.specs.inner.Folding.{Gives, FlowRefused, StepRefused, all_sides}
@@ -54,7 +54,7 @@ module _ (n : ℕ) (r : Option ℕ) (b : ℕ) (whole : ArmList) (J : Units State
     ended = λ G. let a = h.ended G in omega arith;
   }
 
-  pub side_fails : (e : MassError) → e ≡ OutOfMemory → StepRefused (arms_units down n r b whole J) e
+  pub side_fails : (e : EncloseError) → e ≡ OutOfMemory → StepRefused (arms_units down n r b whole J) e
   side_fails e p L few k = no_memory e L p
 
   module _ (q : ℕ) (a : Statements) (rest : ArmList) (out : Units State) (F : Ended) (h : ArmsAt (arm q a rest) out F) (first : Units State) (is : first ≡ merged (class_units down b r q J)) where
@@ -73,7 +73,7 @@ module _ (n : ℕ) (r : Option ℕ) (b : ℕ) (whole : ArmList) (J : Units State
     pub arm_room : total first + total (units_of F) ≤ ALL
     arm_room = let a = h.within in let b = side_total in let c = sides_apart in omega arith
 
-    pub block_fails : (e : MassError) → FlowRefused (block_units down n r a first) e → StepRefused (arms_units down n r b whole J) e
+    pub block_fails : (e : EncloseError) → FlowRefused (block_units down n r a first) e → StepRefused (arms_units down n r b whole J) e
     block_fails e x L few k =
         x L (subst (λ f. Few L f.tables) (sym same) (few_left L (block_units down n r a side).tables (arms_units down n r b rest J).tables (h.few L few)))
 
@@ -81,7 +81,7 @@ module _ (n : ℕ) (r : Option ℕ) (b : ℕ) (whole : ArmList) (J : Units State
       left_holds : (G : State → ℕ) → held G left ≡ held G (block_units down n r a side).next
       left_holds G = ap (held G) g.next ∙ held_merged (block_units down n r a first).next G ∙ ap (λ f. held G f.next) same
 
-      pub merge_fails : (e : MassError) → RefusedAt (out ++ left) e → StepRefused (arms_units down n r b whole J) e
+      pub merge_fails : (e : EncloseError) → RefusedAt (out ++ left) e → StepRefused (arms_units down n r b whole J) e
       merge_fails e x L few k =
           let g = arms_units down n r b rest J in
           let w = wider (out ++ left) g.next (arms_units down n r b whole J).next

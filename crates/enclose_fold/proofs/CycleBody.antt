@@ -5,7 +5,6 @@ use Rattle.gcl_core.specs.meaning.Bounds.{BlockIsWeighed}
 use Rattle.gcl_core.specs.meaning.Outcomes.{zeros}
 use Rattle.gcl_core.specs.meaning.Syntax.{SourceProgram}
 use Rattle.gcl_core.specs.meaning.Value.{State}
-use Rattle.mass_fold.specs.declared.error.MassError.{MassError}
 use Rattle.mass_tables.specs.Tables.{peak_of}
 use Rattle.rounding_law.specs.Down.{down}
 use Rattle.rounding_law.specs.Flows.{block_units}
@@ -15,6 +14,7 @@ use Rattle.rounding_law.specs.Units.{Units, held, total}
 use Rattle.rounding_law.proofs.Downs.{rounds_down}
 use Rattle.rounding_law.proofs.Merging.{merged_again}
 use Rattle.rounding_law.proofs.Rounds.{round_below}
+use Rattle.enclose_fold.specs.declared.error.EncloseError.{EncloseError}
 use Rattle.enclose_fold.specs.declared.ended.Ended.{Ended}
 use Rattle.enclose_fold.specs.inner.Body.{BodyGives}
 use Rattle.enclose_fold.specs.inner.Ended.{units_of, IsNone}
@@ -37,5 +37,5 @@ module _ (p : SourceProgram) (n : ℕ) (r : Option ℕ) (es : Units State) (E : 
         omega arith;
   }
 
-  pub body_refused : BlockIsWeighed p.body → (e : MassError) → FlowRefused (block_units down n r p.body es) e → Refuses e (peak_of p n r)
+  pub body_refused : BlockIsWeighed p.body → (e : EncloseError) → FlowRefused (block_units down n r p.body es) e → Refuses e (peak_of p n r)
   body_refused w e h = subst (λ es. FlowRefused (block_units down n r p.body es) e) one h (peak_of p n r) (round_below down rounds_down p n r w).few

@@ -5,7 +5,6 @@ use Rattle.gcl_core.specs.meaning.Bounds.{StatementIsWeighed, BlockIsWeighed}
 use Rattle.gcl_core.specs.meaning.Syntax.{Statement, Statements, done, ◌▸◌}
 use Rattle.gcl_core.specs.meaning.Value.{State}
 use Rattle.gcl_core.specs.meaning.Blocks.{End}
-use Rattle.mass_fold.specs.declared.error.MassError.{MassError}
 use Rattle.rounding_law.specs.Down.{down}
 use Rattle.rounding_law.specs.Flows.{UnitFlow, both_units, statement_units, block_units}
 use Rattle.rounding_law.specs.Merged.{merged, IsMerged}
@@ -14,6 +13,7 @@ use Rattle.rounding_law.proofs.Downs.{rounds_down}
 use Rattle.rounding_law.proofs.Held.{held_append}
 use Rattle.rounding_law.proofs.Merging.{held_merged, merged_once, merged_again, merged_same}
 use Rattle.rounding_law.proofs.Spent.{none_made}
+use Rattle.enclose_fold.specs.declared.error.EncloseError.{EncloseError}
 use Rattle.enclose_fold.specs.declared.ended.Ended.{Ended}
 use Rattle.enclose_fold.specs.inner.Ended.{units_of, EndsWith}
 use Rattle.enclose_fold.specs.inner.Folding.{Gives, FlowRefused, StepRefused}
@@ -137,7 +137,7 @@ module _ (n : ℕ) (r : Option ℕ) where
               omega arith;
         }
 
-    pub goes_fails : (e : MassError) → StepRefused (statement_units down n r st es) e → FlowRefused (block_units down n r b J) e
+    pub goes_fails : (e : EncloseError) → StepRefused (statement_units down n r st es) e → FlowRefused (block_units down n r b J) e
     goes_fails e s L k = let f = few_after L k in s L f.0 (first_few L rest (statement_units down n r st es).next f.1)
 
   pub goes_end : (b : Statements) (J : Units State) (E : Ended) (es : Units State) (F : Ended) → IsMerged es → Goes b J E done es F → Gives (block_units down n r b J) E es F
@@ -169,15 +169,15 @@ module _ (n : ℕ) (r : Option ℕ) where
               omega arith;
         }
 
-    pub first_refused : (e : MassError) → FlowRefused (block_units down n r a first) e → StepRefused (both_units x (block_units down n r a A) (block_units down n r c C)) e
+    pub first_refused : (e : EncloseError) → FlowRefused (block_units down n r a first) e → StepRefused (both_units x (block_units down n r a A) (block_units down n r c C)) e
     first_refused e h L few k =
         h L (subst (λ f. Few L f.tables) (sym (block_merged a first A e1)) (few_left L (block_units down n r a A).tables (block_units down n r c C).tables few))
 
-    pub second_refused : (e : MassError) → FlowRefused (block_units down n r c second) e → StepRefused (both_units x (block_units down n r a A) (block_units down n r c C)) e
+    pub second_refused : (e : EncloseError) → FlowRefused (block_units down n r c second) e → StepRefused (both_units x (block_units down n r a A) (block_units down n r c C)) e
     second_refused e h L few k =
         h L (subst (λ f. Few L f.tables) (sym (block_merged c second C e2)) (few_right L (block_units down n r a A).tables (block_units down n r c C).tables few))
 
-    pub merge_refused : (e : MassError) (F F1 F2 : Ended) → Gives (block_units down n r a first) F left F1 → Gives (block_units down n r c second) F1 right F2 → RefusedAt (left ++ right) e →
+    pub merge_refused : (e : EncloseError) (F F1 F2 : Ended) → Gives (block_units down n r a first) F left F1 → Gives (block_units down n r c second) F1 right F2 → RefusedAt (left ++ right) e →
         StepRefused (both_units x (block_units down n r a A) (block_units down n r c C)) e
     merge_refused e F F1 F2 g k h L few l =
         let f1 = block_units down n r a A in

@@ -6,8 +6,6 @@ use Rattle.gcl_core.specs.meaning.Bounds.{BlockIsWeighed}
 use Rattle.gcl_core.specs.meaning.Syntax.{Statements}
 use Rattle.gcl_core.specs.meaning.Blocks.{End, limit}
 use Rattle.gcl_core.specs.meaning.Value.{State, Value}
-use Rattle.mass_fold.specs.declared.error.MassError.{MassError}
-use Rattle.mass_fold.specs.declared.error.MassError.TheVariants.{OutOfMemory}
 use Rattle.mass_tables.specs.Tables.{holds, fails}
 use Rattle.rounding_law.specs.Down.{down}
 use Rattle.rounding_law.specs.Flows.{UnitFlow, loop_units, block_units}
@@ -18,6 +16,8 @@ use Rattle.rounding_law.proofs.Held.{held_append}
 use Rattle.rounding_law.proofs.Losses.{guard_total, end_total}
 use Rattle.rounding_law.proofs.Merging.{held_merged, merged_again}
 use Rattle.rounding_law.proofs.Spent.{none_made}
+use Rattle.enclose_fold.specs.declared.error.EncloseError.{EncloseError}
+use Rattle.enclose_fold.specs.declared.error.EncloseError.TheVariants.{OutOfMemory}
 use Rattle.enclose_fold.specs.declared.ended.Ended.{Ended}
 use Rattle.enclose_fold.specs.inner.Ended.{units_of, EndsWith}
 use Rattle.enclose_fold.specs.inner.Folding.{Gives, FlowRefused, StepRefused}
@@ -81,7 +81,7 @@ module _ (n : ℕ) (r : Option ℕ) (v : State → Value) (b : Statements) where
           ended = λ G. let a = h.ended G in let k = nothing G (turns t now).ended (omega arith) in omega arith;
         }
 
-    pub loop_fails : (e : MassError) → e ≡ OutOfMemory → StepRefused (turns n J) e
+    pub loop_fails : (e : EncloseError) → e ≡ OutOfMemory → StepRefused (turns n J) e
     loop_fails e p L few k = no_memory e L p
 
     module _ (now exits : Units State) (F : Ended) (first second : Units State) (F1 : Ended)
@@ -101,7 +101,7 @@ module _ (n : ℕ) (r : Option ℕ) (v : State → Value) (b : Statements) where
           let c = s (λ x. 1) in
           omega (arith, w)
 
-      pub exits_fail : (t : ℕ) → LoopAt t now exits F → (e : MassError) → RefusedAt (exits ++ second) e → StepRefused (turns n J) e
+      pub exits_fail : (t : ℕ) → LoopAt t now exits F → (e : EncloseError) → RefusedAt (exits ++ second) e → StepRefused (turns n J) e
       exits_fail zero h e x L few k =
           let w = wider (exits ++ second) [] (turns n J).next
           (λ G. let u = h.going G in let d = held_append G exits second in let l = second_holds G in omega arith) in
@@ -116,7 +116,7 @@ module _ (n : ℕ) (r : Option ℕ) (v : State → Value) (b : Statements) where
       same = block_merged n r b first (only_units (holds v) now) p
 
       module _ (t : ℕ) (h : LoopAt (suc t) now exits F) where
-        pub body_fails : (e : MassError) → FlowRefused (body first) e → StepRefused (turns n J) e
+        pub body_fails : (e : EncloseError) → FlowRefused (body first) e → StepRefused (turns n J) e
         body_fails e x L few k =
             let f = body (only_units (holds v) now) in
             x L (subst (λ f. Few L f.tables) (sym same) (few_left L f.tables (turns t f.next).tables (h.few L few)))

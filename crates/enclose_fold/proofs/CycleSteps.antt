@@ -9,8 +9,6 @@ use Rattle.gcl_core.specs.meaning.Bounds.{IsWeight}
 use Rattle.gcl_core.specs.meaning.Syntax.{Expression, Statement, Skip, Set, Choice, Uniform, Observe, Statements, done}
 use Rattle.gcl_core.specs.meaning.Value.{State, Value, value_of}
 use Rattle.gcl_core.specs.meaning.Views.{list_of}
-use Rattle.mass_fold.specs.declared.error.MassError.{MassError}
-use Rattle.mass_fold.specs.declared.error.MassError.TheVariants.{OutOfMemory}
 use Rattle.mass_tables.specs.Tables.{holds, fails}
 use Rattle.rounding_law.specs.Down.{down}
 use Rattle.rounding_law.specs.Flows.{statement_units, block_units}
@@ -20,6 +18,8 @@ use Rattle.rounding_law.specs.Units.{Units, held, total, only_units, fault_units
 use Rattle.rounding_law.proofs.Held.{held_append}
 use Rattle.rounding_law.proofs.Losses.{guard_total}
 use Rattle.rounding_law.proofs.Merging.{held_merged, merged_again}
+use Rattle.enclose_fold.specs.declared.error.EncloseError.{EncloseError}
+use Rattle.enclose_fold.specs.declared.error.EncloseError.TheVariants.{OutOfMemory}
 use Rattle.enclose_fold.specs.declared.ended.Ended.{Ended}
 use Rattle.enclose_fold.specs.inner.Ended.{units_of, EndsWith}
 use Rattle.enclose_fold.specs.inner.Folding.{Gives, StepRefused}
@@ -51,7 +51,7 @@ module _ (n : ℕ) (r : Option ℕ) where
   pub gives_as : (st st' : Statement) (es fs : Units State) (E F : Ended) → st ≡ st' → Gives (statement_units down n r st' es) E fs F → Gives (statement_units down n r st es) E fs F
   gives_as st st' es fs E F p h = subst (λ st. Gives (statement_units down n r st es) E fs F) (sym p) h
 
-  pub refused_as : (st st' : Statement) (es : Units State) (e : MassError) → st ≡ st' → StepRefused (statement_units down n r st' es) e → StepRefused (statement_units down n r st es) e
+  pub refused_as : (st st' : Statement) (es : Units State) (e : EncloseError) → st ≡ st' → StepRefused (statement_units down n r st' es) e → StepRefused (statement_units down n r st es) e
   refused_as st st' es e p h = subst (λ st. StepRefused (statement_units down n r st es) e) (sym p) h
 
   pub goes_as : (b rest rest' : Statements) (J es : Units State) (E F : Ended) → rest ≡ rest' → Goes n r b J E rest es F → Goes n r b J E rest' es F
@@ -64,10 +64,10 @@ module _ (n : ℕ) (r : Option ℕ) where
       subst (λ z. Gives (block_units down n r (list_of z) J) E es F) p (goes_end n r (list_of xs) J E es F m k)
 
   -- ---- refusals
-  pub memory_refused : (st : Statement) (es : Units State) (e : MassError) → e ≡ OutOfMemory → StepRefused (statement_units down n r st es) e
+  pub memory_refused : (st : Statement) (es : Units State) (e : EncloseError) → e ≡ OutOfMemory → StepRefused (statement_units down n r st es) e
   memory_refused st es e p L few k = no_memory e L p
 
-  pub draw_refused : (x : ℕ) (e : Expression) (es : Units State) (error : MassError) → RefusedAt (drawn_units down x (value_of e) r es) error → StepRefused (statement_units down n r (Uniform x e) es) error
+  pub draw_refused : (x : ℕ) (e : Expression) (es : Units State) (error : EncloseError) → RefusedAt (drawn_units down x (value_of e) r es) error → StepRefused (statement_units down n r (Uniform x e) es) error
   draw_refused x e es error h L few k = refused_more error (length (merged (drawn_units down x (value_of e) r es))) L k h
 
   -- ---- statements

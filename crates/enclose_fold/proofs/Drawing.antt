@@ -2,13 +2,13 @@
 use Rattle.std.proofs.Common.{◌≡◌, ℕ, ◌+◌, ◌≤◌, Option, [], ◌∷◌, ◌++◌, ap, arith}
 use Rattle.fixed_point.specs.declared.TheConstants.{ALL}
 use Rattle.gcl_core.specs.meaning.Value.{State, Value}
-use Rattle.mass_fold.specs.declared.error.MassError.{MassError}
 use Rattle.rounding_law.specs.Down.{down}
 use Rattle.rounding_law.specs.Merged.{merged, IsMerged}
 use Rattle.rounding_law.specs.Rounding.{drawn_units, undrawn_units}
 use Rattle.rounding_law.specs.Units.{Units, held, total}
 use Rattle.rounding_law.proofs.Held.{held_append}
 use Rattle.rounding_law.proofs.Merging.{held_merged}
+use Rattle.enclose_fold.specs.declared.error.EncloseError.{EncloseError}
 use Rattle.enclose_fold.specs.declared.ended.Ended.{Ended}
 use Rattle.enclose_fold.specs.inner.Ended.{units_of, EndsWith}
 use Rattle.enclose_fold.specs.inner.Refusals.{RefusedAt}
@@ -39,7 +39,7 @@ module _ (x : ℕ) (v : State → Value) (r : Option ℕ) (es : Units State) whe
         let f = both_hold fs (drawn ((s, w) ∷ [])) fs' p G in
         omega arith
 
-    pub draws_refused : (e : MassError) → RefusedAt (fs ++ drawn ((s, w) ∷ [])) e → RefusedAt (drawn es) e
+    pub draws_refused : (e : EncloseError) → RefusedAt (fs ++ drawn ((s, w) ∷ [])) e → RefusedAt (drawn es) e
     draws_refused e = refused_in e (fs ++ drawn ((s, w) ∷ [])) (drawn rest) (drawn es)
         (λ G. let a = h G in let b = ap (λ J. held G (drawn J)) q in let d = (each_drawn x v r).more (s, w) rest G in let f = held_append G fs (drawn ((s, w) ∷ [])) in omega arith)
 

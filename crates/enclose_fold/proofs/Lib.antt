@@ -10,6 +10,7 @@ pub mod Enclosed
 pub mod Ending
 pub mod Listed
 pub mod ManyRounds
+pub mod NonePass
 pub mod Passing
 pub mod Putting
 pub mod RoundOf

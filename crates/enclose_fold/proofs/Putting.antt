@@ -9,14 +9,14 @@ use Rattle.std.proofs.lemmas.Map.{lookup-none}
 use Rattle.std.proofs.lemmas.Map.Entries.{none_below_head}
 use Rattle.std.proofs.lemmas.Map.Keys.{sorted_tail}
 use Rattle.gcl_core.specs.meaning.Value.{State}
-use Rattle.mass_fold.specs.declared.error.MassError.{MassError}
-use Rattle.mass_fold.specs.declared.error.MassError.TheVariants.{TooWide, TooManyStates, AllFailed, OutOfMemory}
 use Rattle.mass_fold.specs.declared.table.TheConstants.{MOST_STATES}
 use Rattle.rounding_law.specs.Merged.{order, put, units_at, merged, IsMerged}
 use Rattle.rounding_law.specs.Units.{Units, held, total}
 use Rattle.rounding_law.proofs.States.{order_total}
 use Rattle.rounding_law.proofs.Held.{held_append}
 use Rattle.rounding_law.proofs.Merging.{held_put, put_merged, merged_again, merged_same, merged_longer}
+use Rattle.enclose_fold.specs.declared.error.EncloseError.{EncloseError}
+use Rattle.enclose_fold.specs.declared.error.EncloseError.TheVariants.{TooManyStates, AllFailed, TooUnlikely, OutOfMemory}
 use Rattle.enclose_fold.specs.inner.Refusals.{Refuses, RefusedAt}
 
 -- a merged table that holds what a list does is the list, merged
@@ -48,29 +48,29 @@ put_some es s (suc w) p = refl
 
 -- ---- refusals
 
-pub refused_more : (e : MassError) (l m : ℕ) → l ≤ m → Refuses e l → Refuses e m
-refused_more TooWide l m h r = r
+pub refused_more : (e : EncloseError) (l m : ℕ) → l ≤ m → Refuses e l → Refuses e m
 refused_more TooManyStates l m h r = omega (arith, h, r)
 refused_more AllFailed l m h r = r
+refused_more TooUnlikely l m h r = r
 refused_more OutOfMemory l m h r = r
 
-pub never_many : (e : MassError) (l : ℕ) → l ≤ MOST_STATES → Refuses e l → e ≡ OutOfMemory
-never_many TooWide l h r = absurd r
+pub never_many : (e : EncloseError) (l : ℕ) → l ≤ MOST_STATES → Refuses e l → e ≡ OutOfMemory
 never_many TooManyStates l h r = absurd (omega (arith, h, r))
 never_many AllFailed l h r = absurd r
+never_many TooUnlikely l h r = absurd r
 never_many OutOfMemory l h r = refl
 
-pub no_memory : (e : MassError) (l : ℕ) → e ≡ OutOfMemory → Refuses e l
+pub no_memory : (e : EncloseError) (l : ℕ) → e ≡ OutOfMemory → Refuses e l
 no_memory e l p = subst (λ e. Refuses e l) (sym p) tt
 
 -- a list that holds K besides has no fewer states
 pub wider : (J K C : Units State) → ((G : State → ℕ) → held G J + held G K ≡ held G C) → length (merged J) ≤ length (merged C)
 wider J K C h = subst (λ z. length (merged J) ≤ length z) (merged_same (J ++ K) C (λ G. held_append G J K ∙ h G)) (merged_longer J K)
 
-pub refused_in : (e : MassError) (J K C : Units State) → ((G : State → ℕ) → held G J + held G K ≡ held G C) → RefusedAt J e → RefusedAt C e
+pub refused_in : (e : EncloseError) (J K C : Units State) → ((G : State → ℕ) → held G J + held G K ≡ held G C) → RefusedAt J e → RefusedAt C e
 refused_in e J K C h r = refused_more e (length (merged J)) (length (merged C)) (wider J K C h) r
 
-pub put_refused : (e : MassError) (es : Units State) (s : State) (w : ℕ) → IsMerged es → Refuses e (length (put es s w)) → RefusedAt (es ++ (s, w) ∷ []) e
+pub put_refused : (e : EncloseError) (es : Units State) (s : State) (w : ℕ) → IsMerged es → Refuses e (length (put es s w)) → RefusedAt (es ++ (s, w) ∷ []) e
 put_refused e es s w m r = subst (λ z. Refuses e (length z)) (put_is es s w m) r
 
 -- ---- a table after a put
@@ -83,7 +83,7 @@ module _ (fs fs' : Units State) (t : State) (w : ℕ) (p : fs' ≡ put fs t w) w
   put_short = let a = ap length p in let b = put_few fs t w in omega arith
 
 -- where there is room for one state more, only memory is refused
-pub put_fits : (e : MassError) (fs : Units State) (t : State) (w : ℕ) → length fs + 1 ≤ MOST_STATES → Refuses e (length (put fs t w)) → e ≡ OutOfMemory
+pub put_fits : (e : EncloseError) (fs : Units State) (t : State) (w : ℕ) → length fs + 1 ≤ MOST_STATES → Refuses e (length (put fs t w)) → e ≡ OutOfMemory
 put_fits e fs t w l r = never_many e (length (put fs t w)) (let a = put_few fs t w in omega (arith, l)) r
 
 -- ---- how many states there are once an entry is inserted

@@ -7,13 +7,13 @@ use Rattle.gcl_core.specs.declared.answers.Fault.TheVariants.{BadBound}
 use Rattle.gcl_core.specs.declared.answers.Limit.TheVariants.{Attempts}
 use Rattle.gcl_core.specs.meaning.Value.{State, Value}
 use Rattle.gcl_core.specs.meaning.Blocks.{End, fault, limit, by_value, by_bound}
-use Rattle.mass_fold.specs.declared.error.MassError.{MassError}
 use Rattle.mass_fold.proofs.Bounds.{unsigned, IsBound}
 use Rattle.rounding_law.specs.Down.{share_of, rest_of}
 use Rattle.rounding_law.specs.Merged.{merged, IsMerged}
 use Rattle.rounding_law.specs.Units.{Units, held, total, below_units}
 use Rattle.rounding_law.proofs.Held.{held_append}
 use Rattle.rounding_law.proofs.Merging.{merged_same}
+use Rattle.enclose_fold.specs.declared.error.EncloseError.{EncloseError}
 use Rattle.enclose_fold.specs.declared.ended.Ended.{Ended}
 use Rattle.enclose_fold.specs.inner.Ended.{EndsWith}
 use Rattle.enclose_fold.specs.inner.Refusals.{RefusedAt}
@@ -58,7 +58,7 @@ number_more x i s t h bs fs fs' q p r G =
     let f = ap (λ t. h * G t) q in
     omega arith
 
-pub numbers_refused : (e : MassError) (x i m : ℕ) (s t : State) (h : ℕ) (bs fs : Units State) → i < m → t ≡ slice_set s x (pos i) →
+pub numbers_refused : (e : EncloseError) (x i m : ℕ) (s t : State) (h : ℕ) (bs fs : Units State) → i < m → t ≡ slice_set s x (pos i) →
     ((G : State → ℕ) → held G fs ≡ held G bs + held G (below_units x i s h)) → RefusedAt (fs ++ (t, h) ∷ []) e → RefusedAt (bs ++ below_units x m s h) e
 numbers_refused e x i m s t h bs fs l q p r =
     let n = numbers_after x s h i m l in
@@ -144,7 +144,7 @@ module _ (x : ℕ) (r : Option ℕ) (s : State) (w : ℕ) where
         let k : EndsWith F ((limit Attempts, rest_of (suc b.less) r w) ∷ []) F' = subst (λ n. EndsWith F ((limit Attempts, rest_of n r w) ∷ []) F') b.cast a in
         subst (λ o. StoppedAt o F F') is_value k
 
-    pub draw_refused : (fs : Units State) (error : MassError) → RefusedAt (fs ++ below_units x (unsigned z) s (share_of (unsigned z) r 1 w)) error → RefusedAt (fs ++ drawn_at o) error
+    pub draw_refused : (fs : Units State) (error : EncloseError) → RefusedAt (fs ++ below_units x (unsigned z) s (share_of (unsigned z) r 1 w)) error → RefusedAt (fs ++ drawn_at o) error
     draw_refused fs error a =
         let k : RefusedAt (fs ++ below_units x (suc b.less) s (share_of (suc b.less) r 1 w)) error = subst (λ n. RefusedAt (fs ++ below_units x n s (share_of n r 1 w)) error) b.cast a in
         subst (λ o. RefusedAt (fs ++ drawn_at o) error) is_value

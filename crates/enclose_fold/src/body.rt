@@ -7,10 +7,10 @@ ghost use Rattle.enclose_fold.specs.inner.Body.{BodyGives};
 ghost use Rattle.enclose_fold.specs.inner.Refusals.{Refuses};
 
 use crate::ended::Ended;
+use crate::error::EncloseError;
 use crate::fold::Fold;
 use crate::table::Table;
 use gcl_core::Checked;
-use mass_fold::MassError;
 use std::alloc::Global;
 
 /// The states after the body of a program, each with its units, and the units of what ended, under a limit of turns for each entry
@@ -20,7 +20,7 @@ pub fn fold_body(
     p: &Checked,
     turns: u64,
     attempts: Option<u64>,
-) -> Result<(Table, Ended), MassError>
+) -> Result<(Table, Ended), EncloseError>
     ensures ok { IfOk result (λ t. BodyGives (source_of p.now) turns attempts t.0.states.entries t.1) }
     ensures vars { IfOk result (λ t. t.0.vars ≡ length (source_of p.now).names) }
     ensures cause { IfErr result (λ e. Refuses e (peak_of (source_of p.now) turns attempts)) }

@@ -4,17 +4,17 @@ ghost use Rattle.std.specs.Prelude.{◌≡◌, ◌≤◌, ◌+◌, ◌-◌, IfOk
 ghost use Rattle.fixed_point.specs.declared.TheConstants.{ALL};
 ghost use Rattle.gcl_core.specs.declared.answers.Limit.TheVariants.{Attempts};
 ghost use Rattle.gcl_core.specs.meaning.Blocks.{limit};
-ghost use Rattle.mass_fold.specs.declared.error.MassError.TheVariants.{OutOfMemory};
 ghost use Rattle.rounding_law.specs.Down.{down};
 ghost use Rattle.rounding_law.specs.Merged.{merged};
 ghost use Rattle.rounding_law.specs.Rounding.{class_units, rest_units};
 ghost use Rattle.rounding_law.specs.Units.{total, end_units};
+ghost use Rattle.enclose_fold.specs.declared.error.EncloseError.TheVariants.{OutOfMemory};
 ghost use Rattle.enclose_fold.specs.inner.Ended.{units_of, EndsWith};
 
 use crate::ended::Ended;
+use crate::error::EncloseError;
 use crate::odds::Odds;
 use crate::table::Table;
-use mass_fold::MassError;
 use std::alloc::Global;
 
 /// What no attempt of a draw decides has ended.
@@ -28,7 +28,7 @@ pub fn undecided(odds: Odds, table: &Table, ended: &mut Ended)
 }
 
 /// The table with what `count` of the numbers of a draw get of the units of each state.
-pub fn side(alloc: Global, odds: Odds, count: u64, table: &Table) -> Result<Table, MassError>
+pub fn side(alloc: Global, odds: Odds, count: u64, table: &Table) -> Result<Table, EncloseError>
     requires part { count ≤ odds.bound }
     requires within { total table.now.states.entries ≤ ALL }
     ensures next { IfOk result

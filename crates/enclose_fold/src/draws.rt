@@ -14,11 +14,12 @@ ghost use Rattle.enclose_fold.specs.inner.Ended.{units_of, EndsWith};
 ghost use Rattle.enclose_fold.specs.inner.Refusals.{RefusedAt};
 
 use crate::ended::Ended;
+use crate::error::EncloseError;
 use crate::fold::Fold;
 use crate::odds::Odds;
 use crate::table::Table;
 use gcl_core::{Expr, Fault, eval};
-use mass_fold::{MassError, State};
+use mass_fold::State;
 use std::alloc::Global;
 
 // The state with x set to each number below a bound, each with h units. Where h is 0 nothing is added.
@@ -29,7 +30,7 @@ fn spread(
     s: &State,
     h: u128,
     next: &mut Table,
-) -> Result<(), MassError>
+) -> Result<(), EncloseError>
     requires sized { length s.now ≡ next.old.vars }
     requires place { x < length s.now }
     requires most { bound < 2 ^ 63 }
@@ -59,7 +60,7 @@ impl Fold {
         w: u128,
         next: &mut Table,
         ended: &mut Ended,
-    ) -> Result<(), MassError>
+    ) -> Result<(), EncloseError>
         requires sized { length s.now ≡ next.old.vars }
         requires place { x < length s.now }
         requires least { 1 ≤ bound }
@@ -87,7 +88,7 @@ impl Fold {
         w: u128,
         next: &mut Table,
         ended: &mut Ended,
-    ) -> Result<(), MassError>
+    ) -> Result<(), EncloseError>
         requires sized { length s.now ≡ next.old.vars }
         requires place { x < length s.now }
         requires reads { ExpressionBelow (expression_of e.now) (length s.now) }
@@ -116,7 +117,13 @@ impl Fold {
     }
 
     /// The table after a uniform draw of a variable.
-    pub fn draw(self, x: u32, e: &Expr, table: Table, ended: &mut Ended) -> Result<Table, MassError>
+    pub fn draw(
+        self,
+        x: u32,
+        e: &Expr,
+        table: Table,
+        ended: &mut Ended,
+    ) -> Result<Table, EncloseError>
         requires place { x < table.vars }
         requires reads { ExpressionBelow (expression_of e.now) table.vars }
         requires within { total table.states.entries + total (units_of ended.old) ≤ ALL }

@@ -1,25 +1,29 @@
 // Bounds of the masses of a program.
 
-ghost use Rattle.std.specs.Prelude.{◌≡◌, ◌≤◌, ℕ, IfOk, IfErr, IfSome, IfNone};
+ghost use Rattle.std.specs.Prelude.{◌≡◌, ◌≤◌, ◌<◌, ℕ, IfOk, IfErr, IfSome, IfNone};
+ghost use Rattle.fixed_point.specs.declared.TheConstants.{ALL};
 ghost use Rattle.gcl_core.specs.declared.rules.TheConstants.{MOST_LIMIT};
 ghost use Rattle.gcl_core.specs.meaning.Views.{source_of};
 ghost use Rattle.gcl_core.specs.weighing.Fractions.{IsBelowOne};
 ghost use Rattle.gcl_core.specs.weighing.Mass.{failed_mass};
 ghost use Rattle.mass_fold.specs.Refused.{IsLimit};
 ghost use Rattle.mass_tables.specs.Tables.{peak_of};
-ghost use Rattle.enclosure_law.specs.Enclosures.{AreEnclosures, upper_of_others};
+ghost use Rattle.enclosure_law.specs.Enclosures.{AreEnclosures, SomePasses, upper_of_others};
 ghost use Rattle.enclosure_law.specs.Holding.{IsFor, MayEnd, Enclose, AreClose, most_apart};
+ghost use Rattle.enclose_fold.specs.declared.error.EncloseError.TheVariants.{AllFailed, TooUnlikely};
 ghost use Rattle.enclose_fold.specs.Refused.{EncloseRefused};
 ghost use Rattle.enclose_fold.specs.inner.Outcomes.{RoundGives};
 ghost use Rattle.enclose_fold.specs.inner.Refusals.{Refuses};
 
 use crate::body::fold_body;
 use crate::bounding::Round;
+use crate::error::EncloseError;
 use crate::outcomes::{all_units, outcome_units, passing};
 use crate::rows::bound_rows;
 use enclosure_law::{bounds_are_as_wide_as_what_is_lost, masses_lie_between};
+use fixed_point::ALL;
 use gcl_core::{Checked, Outcome, outcomes_are_ordered};
-use mass_fold::{MassError, is_ordered};
+use mass_fold::is_ordered;
 use posterior_bounds::Bounds;
 use rounding_law::{products_are_rounded_down, units_are_lost_by_rounding};
 use std::alloc::Global;
@@ -40,7 +44,7 @@ fn one_round(
     turns: u64,
     attempts: Option<u64>,
     all_turns: bool,
-) -> Result<Given, MassError>
+) -> Result<Given, EncloseError>
     ensures ok { IfOk result (λ g. RoundGives (source_of p.now) turns attempts all_turns g.units.entries g.failed g.passing) }
     ensures cause { IfErr result (λ e. Refuses e (peak_of (source_of p.now) turns attempts)) }
 {
@@ -60,6 +64,18 @@ fn one_round(
     })
 }
 
+// Why there are no bounds where no unit of a round passes, of which so many fail.
+fn none_passes(failed: u128) -> EncloseError
+    ensures all { failed ≡ ALL → result ≡ AllFailed }
+    ensures some { failed < ALL → result ≡ TooUnlikely }
+{
+    if failed < ALL {
+        EncloseError::TooUnlikely
+    } else {
+        EncloseError::AllFailed
+    }
+}
+
 /// Two bounds of the mass of each outcome, and one for all outcomes without a row together, from one round whose products are
 /// rounded down to units of 2^-120. Each bound is a multiple of 2^-120.
 ///
@@ -70,8 +86,10 @@ fn one_round(
 /// What is lost in a round is at most a unit for each product, and at most six with a limit of attempts. Without a limit of rounds
 /// it is divided by what does not fail, so the bounds of a program that nearly always fails are wide.
 ///
-/// `TooManyStates` comes only where some point of the program is reached with more than 65,536 states. `AllFailed` comes only where
-/// rounds have no limit and no unit of a round passes. `OutOfMemory` comes where memory runs out, and `TooWide` never.
+/// `TooManyStates` comes only where some point of the program is reached with more than 65,536 states. Where rounds have no limit and no
+/// unit of a round passes, there are no bounds: `AllFailed` comes only where all units of a round fail, and so the whole round does, and
+/// `TooUnlikely` only where some unit was lost, so that a round may pass with a probability that is not seen. `OutOfMemory` comes where
+/// memory runs out.
 pub fn enclose(
     alloc: Global,
     p: &Checked,
@@ -79,12 +97,13 @@ pub fn enclose(
     attempts: Option<u64>,
     rounds: Option<u64>,
     all_turns: bool,
-) -> Result<Bounds, MassError>
+) -> Result<Bounds, EncloseError>
     requires turns { turns ≤ MOST_LIMIT }
     requires attempts { IfSome attempts IsLimit }
     requires rounds { IfSome rounds IsLimit }
     ensures rows { IfOk result (λ b. AreEnclosures (source_of p.now) turns attempts rounds all_turns b.rows) }
     ensures other { IfOk result (λ b. b.other ≡ upper_of_others (source_of p.now) turns attempts rounds all_turns) }
+    ensures some { IfOk result (λ b. IfNone rounds (SomePasses (source_of p.now) turns attempts)) }
     ensures passes { IfOk result (λ b. IfNone rounds (IsBelowOne (failed_mass (source_of p.now) turns attempts))) }
     ensures enclose { IfOk result
         (λ b. (n : ℕ) → IsFor all_turns turns n → MayEnd (source_of p.now) n attempts rounds → Enclose (source_of p.now) n attempts rounds b.rows b.other) }
@@ -96,7 +115,7 @@ pub fn enclose(
     bounds_are_as_wide_as_what_is_lost();
     let given = one_round(alloc, p, turns, attempts, all_turns)?;
     if rounds.is_none() && given.passing == 0 {
-        return Err(MassError::AllFailed);
+        return Err(none_passes(given.failed));
     }
     let round = Round {
         rounds,

@@ -15,11 +15,11 @@ ghost use Rattle.enclose_fold.specs.inner.Folding.{LoopGives, LoopRefused, ArmsG
 
 use crate::choosing::{side, undecided};
 use crate::ended::Ended;
+use crate::error::EncloseError;
 use crate::odds::Odds;
 use crate::steps::{all_of, assign, merge, split};
 use crate::table::Table;
 use gcl_core::{Arms, Block, Expr, Stmt};
-use mass_fold::MassError;
 use std::alloc::Global;
 
 /// How tables go through blocks: where their memory comes from, the most turns for each entry of a loop, and the most attempts
@@ -34,7 +34,7 @@ pub struct Fold {
 impl Fold {
     /// The table after a block.
     #[cycle(fold)]
-    pub fn block(self, b: &Block, table: Table, ended: &mut Ended) -> Result<Table, MassError>
+    pub fn block(self, b: &Block, table: Table, ended: &mut Ended) -> Result<Table, EncloseError>
         requires below { BlockBelow table.vars (statements_of b.now) }
         requires weights { BlockIsWeighed (statements_of b.now) }
         requires within { total table.states.entries + total (units_of ended.old) ≤ ALL }
@@ -51,7 +51,7 @@ impl Fold {
 
     #[cycle(fold)]
     #[tactic(auto, using(gcl_core::proofs::ViewLemmas::views))]
-    fn stmt(self, s: &Stmt, table: Table, ended: &mut Ended) -> Result<Table, MassError>
+    fn stmt(self, s: &Stmt, table: Table, ended: &mut Ended) -> Result<Table, EncloseError>
         requires below { StatementBelow table.vars (statement_of s.now) }
         requires weights { StatementIsWeighed (statement_of s.now) }
         requires within { total table.states.entries + total (units_of ended.old) ≤ ALL }
@@ -105,7 +105,7 @@ impl Fold {
         odds: Odds,
         table: &Table,
         ended: &mut Ended,
-    ) -> Result<Table, MassError>
+    ) -> Result<Table, EncloseError>
         requires below { ArmsBelow table.now.vars (list_of_arms arms.now) }
         requires weights { ArmsAreWeighed (list_of_arms arms.now) }
         requires bound { odds.bound ≡ sum (parts_of (list_of_arms arms.now)) }
@@ -132,7 +132,7 @@ impl Fold {
         e: &Expr,
         table: Table,
         ended: &mut Ended,
-    ) -> Result<Table, MassError>
+    ) -> Result<Table, EncloseError>
         requires reads { ExpressionBelow (expression_of e.now) table.vars }
         requires below { BlockBelow table.vars (statements_of body.now) }
         requires weights { BlockIsWeighed (statements_of body.now) }

@@ -16,6 +16,7 @@ mod choosing;
 mod draws;
 mod enclosing;
 mod ended;
+mod error;
 mod fold;
 mod odds;
 mod outcomes;
@@ -25,3 +26,4 @@ mod steps;
 mod table;
 
 pub use enclosing::enclose;
+pub use error::EncloseError;

@@ -4,16 +4,17 @@ ghost use Rattle.std.specs.Prelude.{◌≡◌, ◌≤◌, ◌+◌, IfOk, OnOk, I
 ghost use Rattle.fixed_point.specs.declared.TheConstants.{ALL};
 ghost use Rattle.gcl_core.specs.meaning.Value.{ExpressionBelow};
 ghost use Rattle.gcl_core.specs.meaning.Views.{expression_of};
-ghost use Rattle.mass_fold.specs.declared.error.MassError.TheVariants.{OutOfMemory};
 ghost use Rattle.rounding_law.specs.Units.{total};
+ghost use Rattle.enclose_fold.specs.declared.error.EncloseError.TheVariants.{OutOfMemory};
 ghost use Rattle.enclose_fold.specs.inner.Ended.{units_of};
 ghost use Rattle.enclose_fold.specs.inner.Outcomes.{found, Adds, AddsResults, AreOutcomes};
 
 use crate::ended::Ended;
+use crate::error::EncloseError;
 use crate::steps::all_of;
 use crate::table::Table;
 use gcl_core::{Expr, Fault, Limit, Outcome, outcomes_are_ordered};
-use mass_fold::{MassError, outcome};
+use mass_fold::outcome;
 use std::alloc::Global;
 use std::collections::BTreeMap;
 
@@ -28,7 +29,7 @@ fn sum_at(units: &BTreeMap<Outcome, u128>, x: &Outcome, w: u128) -> u128
     }
 }
 
-fn add(units: &mut BTreeMap<Outcome, u128>, x: Outcome, w: u128) -> Result<(), MassError>
+fn add(units: &mut BTreeMap<Outcome, u128>, x: Outcome, w: u128) -> Result<(), EncloseError>
     requires { total units.old.entries + w ≤ ALL }
     ensures ok { OnOk result (Adds units.old.entries x w units.new.entries) }
     ensures all { OnOk result (total units.new.entries ≡ total units.old.entries + w) }
@@ -45,7 +46,7 @@ fn add_results(
     e: &Expr,
     table: &Table,
     units: &mut BTreeMap<Outcome, u128>,
-) -> Result<(), MassError>
+) -> Result<(), EncloseError>
     requires reads { ExpressionBelow (expression_of e.now) table.now.vars }
     requires within { total units.old.entries + total table.now.states.entries ≤ ALL }
     ensures ok { OnOk result (AddsResults (expression_of e.now) units.old.entries table.now.states.entries units.new.entries) }
@@ -73,7 +74,7 @@ pub fn outcome_units(
     all_turns: bool,
     table: &Table,
     ended: &Ended,
-) -> Result<BTreeMap<Outcome, u128>, MassError>
+) -> Result<BTreeMap<Outcome, u128>, EncloseError>
     requires reads { ExpressionBelow (expression_of e.now) table.now.vars }
     requires within { total table.now.states.entries + total (units_of ended.now) ≤ ALL }
     ensures ok { IfOk result (λ units. AreOutcomes (expression_of e.now) all_turns table.now.states.entries ended.now units.entries) }

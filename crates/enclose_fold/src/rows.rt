@@ -1,14 +1,14 @@
 // The rows of bounds.
 
 ghost use Rattle.std.specs.Prelude.{◌≡◌, ◌++◌, [], IfOk, OnOk, IfErr};
-ghost use Rattle.mass_fold.specs.declared.error.MassError.TheVariants.{OutOfMemory};
 ghost use Rattle.rounding_law.specs.Units.{total};
+ghost use Rattle.enclose_fold.specs.declared.error.EncloseError.TheVariants.{OutOfMemory};
 ghost use Rattle.enclose_fold.specs.inner.Rows.{with_row, rows_of};
 
 use crate::bounding::Round;
+use crate::error::EncloseError;
 use frac128::Frac;
 use gcl_core::Outcome;
-use mass_fold::MassError;
 use posterior_bounds::BoundRows;
 use std::alloc::Global;
 use std::collections::BTreeMap;
@@ -18,7 +18,7 @@ fn add_row(
     rows: &mut Vec<(Outcome, Frac, Frac)>,
     x: Outcome,
     bounds: Option<(Frac, Frac)>,
-) -> Result<(), MassError>
+) -> Result<(), EncloseError>
     ensures ok { OnOk result (rows.new.items ≡ rows.old.items ++ with_row x bounds []) }
     ensures cause { IfErr result (λ e. e ≡ OutOfMemory) }
 {
@@ -34,7 +34,7 @@ pub fn bound_rows(
     alloc: Global,
     round: Round,
     units: BTreeMap<Outcome, u128>,
-) -> Result<BoundRows, MassError>
+) -> Result<BoundRows, EncloseError>
     requires { total units.entries ≡ round.all }
     ensures rows { IfOk result (λ rows. rows ≡ rows_of round.rounds round.failed round.all units.entries) }
     ensures cause { IfErr result (λ e. e ≡ OutOfMemory) }

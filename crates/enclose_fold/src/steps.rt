@@ -4,17 +4,17 @@ ghost use Rattle.std.specs.Prelude.{◌≡◌, ◌≤◌, ◌<◌, ◌+◌, ◌+
 ghost use Rattle.fixed_point.specs.declared.TheConstants.{ALL};
 ghost use Rattle.gcl_core.specs.meaning.Views.{expression_of};
 ghost use Rattle.gcl_core.specs.meaning.Value.{value_of, ExpressionBelow};
-ghost use Rattle.mass_fold.specs.declared.error.MassError.TheVariants.{OutOfMemory};
 ghost use Rattle.mass_tables.specs.Tables.{holds, fails};
 ghost use Rattle.rounding_law.specs.Merged.{merged};
 ghost use Rattle.rounding_law.specs.Units.{total, set_units, only_units, fault_units};
+ghost use Rattle.enclose_fold.specs.declared.error.EncloseError.TheVariants.{OutOfMemory};
 ghost use Rattle.enclose_fold.specs.inner.Ended.{units_of, EndsWith};
 ghost use Rattle.enclose_fold.specs.inner.Refusals.{RefusedAt};
 
 use crate::ended::Ended;
+use crate::error::EncloseError;
 use crate::table::Table;
 use gcl_core::{Expr, eval};
-use mass_fold::MassError;
 use std::alloc::Global;
 
 /// An assignment.
@@ -24,7 +24,7 @@ pub fn assign(
     e: &Expr,
     table: Table,
     ended: &mut Ended,
-) -> Result<Table, MassError>
+) -> Result<Table, EncloseError>
     requires place { x < table.vars }
     requires reads { ExpressionBelow (expression_of e.now) table.vars }
     requires within { total table.states.entries + total (units_of ended.old) ≤ ALL }
@@ -52,7 +52,7 @@ pub fn split(
     e: &Expr,
     table: Table,
     ended: &mut Ended,
-) -> Result<(Table, Table), MassError>
+) -> Result<(Table, Table), EncloseError>
     requires reads { ExpressionBelow (expression_of e.now) table.vars }
     requires within { total table.states.entries + total (units_of ended.old) ≤ ALL }
     ensures first { IfOk result (λ t. t.0.states.entries ≡ merged (only_units (holds (value_of (expression_of e.now))) table.states.entries)) }
@@ -91,7 +91,7 @@ pub fn all_of(table: &Table) -> u128
 }
 
 /// All entries of one table come into another.
-pub fn merge(into: &mut Table, table: Table) -> Result<(), MassError>
+pub fn merge(into: &mut Table, table: Table) -> Result<(), EncloseError>
     requires vars { table.vars ≡ into.old.vars }
     requires within { total into.old.states.entries + total table.states.entries ≤ ALL }
     ensures ok { OnOk result (into.new.states.entries ≡ merged (into.old.states.entries ++ table.states.entries)) }

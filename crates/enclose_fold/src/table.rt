@@ -5,14 +5,15 @@ ghost use Rattle.std.specs.BTreeMap.{keys};
 ghost use Rattle.std.proofs.Props.{props};
 ghost use Rattle.fixed_point.specs.declared.TheConstants.{ALL};
 ghost use Rattle.gcl_core.specs.meaning.Outcomes.{zeros};
-ghost use Rattle.mass_fold.specs.declared.error.MassError.TheVariants.{OutOfMemory};
 ghost use Rattle.mass_fold.specs.declared.table.TheConstants.{MOST_STATES};
 ghost use Rattle.rounding_law.specs.Merged.{IsMerged, put};
 ghost use Rattle.rounding_law.specs.Units.{total};
+ghost use Rattle.enclose_fold.specs.declared.error.EncloseError.TheVariants.{OutOfMemory};
 ghost use Rattle.enclose_fold.specs.inner.Refusals.{Refuses};
 
+use crate::error::EncloseError;
 use fixed_point::ALL;
-use mass_fold::{MOST_STATES, MassError, State};
+use mass_fold::{MOST_STATES, State};
 use std::alloc::Global;
 use std::collections::BTreeMap;
 use std::collections::btree_map::Entry;
@@ -30,7 +31,7 @@ pub struct Table {
 }
 
 // Adds units of a state, which is looked for once where there is room for one more.
-fn put(states: &mut BTreeMap<State, u128>, s: State, w: u128) -> Result<(), MassError>
+fn put(states: &mut BTreeMap<State, u128>, s: State, w: u128) -> Result<(), EncloseError>
     requires some { 1 ≤ w }
     requires within { total states.old.entries + w ≤ ALL }
     requires once { IsMerged states.old.entries }
@@ -41,7 +42,7 @@ fn put(states: &mut BTreeMap<State, u128>, s: State, w: u128) -> Result<(), Mass
     ensures cause { IfErr result (λ e. Refuses e (length (put states.old.entries s w))) }
 {
     if states.len() >= MOST_STATES && states.get(&s).is_none() {
-        return Err(MassError::TooManyStates);
+        return Err(EncloseError::TooManyStates);
     }
     match states.entry(s)? {
         Entry::Occupied(mut at) => {
@@ -68,7 +69,7 @@ impl Table {
     }
 
     /// One state, of `vars` variables that are 0, with all units.
-    pub fn start(alloc: Global, vars: u32) -> Result<Table, MassError>
+    pub fn start(alloc: Global, vars: u32) -> Result<Table, EncloseError>
         ensures one { IfOk result (λ t. t.states.entries ≡ (zeros vars, ALL) ∷ []) }
         ensures vars { IfOk result (λ t. t.vars ≡ vars) }
         ensures cause { IfErr result (λ e. e ≡ OutOfMemory) }
@@ -80,7 +81,7 @@ impl Table {
     }
 
     /// Adds units of a state; 0 units add nothing.
-    pub fn put(&mut self, s: State, w: u128) -> Result<(), MassError>
+    pub fn put(&mut self, s: State, w: u128) -> Result<(), EncloseError>
         requires sized { length s ≡ self.old.vars }
         requires within { total self.old.states.entries + w ≤ ALL }
         ensures ok { OnOk result (self.new.states.entries ≡ put self.old.states.entries s w) }

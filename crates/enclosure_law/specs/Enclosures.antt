@@ -24,6 +24,10 @@ units_of p n r meant = meant_units p meant (round_units down p n r)
 abbrev pub NothingPasses : SourceProgram → ℕ → Option ℕ → Type 0
 NothingPasses p n r = units_of p n r (λ x. true) ≡ 0
 
+-- or some other unit
+abbrev pub SomePasses : SourceProgram → ℕ → Option ℕ → Type 0
+SomePasses p n r = 0 < units_of p n r (λ x. true)
+
 -- for all greater limits of turns, what ran out of turns counts for no outcome
 abbrev pub counts : Bool → Outcome → Bool
 counts all_turns x = not (all_turns && same_outcome (outcome.Limit Turns) x)

@@ -17,7 +17,7 @@ ghost use Rattle.fixed_point.specs.declared.TheConstants.{ALL};
 ghost use Rattle.gcl_core.specs.declared.answers.Outcome.{Outcome};
 ghost use Rattle.gcl_core.specs.meaning.Keeping.{IsChecked};
 ghost use Rattle.gcl_core.specs.meaning.Syntax.{SourceProgram};
-ghost use Rattle.gcl_core.specs.weighing.Fractions.{Fraction, times, power, power_sum, IsBelowOne};
+ghost use Rattle.gcl_core.specs.weighing.Fractions.{Fraction, times, power, power_sum, IsBelowOne, IsOne};
 ghost use Rattle.gcl_core.specs.weighing.Mass.{failed_mass};
 ghost use Rattle.posterior_bounds.specs.Rows.{Rows};
 ghost use Rattle.rounding_law.specs.Down.{down};
@@ -25,7 +25,7 @@ ghost use Rattle.rounding_law.specs.Rounding.{LosesFew};
 ghost use Rattle.rounding_law.specs.Roundings.{round_roundings};
 ghost use Rattle.rounding_law.specs.Rounds.{StandsBelow};
 ghost use Rattle.enclosure_law.specs.SomeRounds.{InRounds, in_rounds};
-ghost use Rattle.enclosure_law.specs.Enclosures.{units_of, lost_units, upper_of_others, AreEnclosures};
+ghost use Rattle.enclosure_law.specs.Enclosures.{fails_in, lost_units, upper_of_others, SomePasses, AreEnclosures};
 ghost use Rattle.enclosure_law.specs.Holding.{IsFor, MayEnd, IsBetween, Enclose, most_apart, AreClose};
 
 /// It does nothing: its clauses say that the units of R rounds, worked out by the binary digits of R, are at most the exact weights:
@@ -39,15 +39,16 @@ pub fn some_rounds_stay_below()
 /// It does nothing: its clauses say that the masses of a program lie between the bounds that one round gives, rounded down, for every
 /// checked program, all limits, and for all turns every greater limit of turns at which a round fails with probability below 1, where
 /// there is no limit of rounds. So it is for every set of outcomes, and for each row; outcomes without a row have together at most the
-/// bound of the others. Where the round has a unit that does not fail, it fails with probability below 1.
+/// bound of the others. Where the round has a unit that does not fail, it fails with probability below 1; where all units fail, with
+/// probability 1.
 pub fn masses_lie_between()
     ensures events { (p : SourceProgram) (n n' : ℕ) (r R : Option ℕ) (all_turns : Bool) → IsChecked p → IsFor all_turns n n' → MayEnd p n' r R →
         (meant : Outcome → Bool) → IsBetween p n n' r R all_turns meant }
     ensures rows { (p : SourceProgram) (n n' : ℕ) (r R : Option ℕ) (all_turns : Bool) → IsChecked p → IsFor all_turns n n' → MayEnd p n' r R →
         (rows : Rows) (other : Fraction) → AreEnclosures p n r R all_turns rows → other ≡ upper_of_others p n r R all_turns →
         Enclose p n' r R rows other }
-    ensures passes { (p : SourceProgram) (n : ℕ) (r : Option ℕ) → IsChecked p → 0 < units_of p n r (λ x. true) →
-        IsBelowOne (failed_mass p n r) }
+    ensures passes { (p : SourceProgram) (n : ℕ) (r : Option ℕ) → IsChecked p → SomePasses p n r → IsBelowOne (failed_mass p n r) }
+    ensures fails { (p : SourceProgram) (n : ℕ) (r : Option ℕ) → IsChecked p → fails_in p n r ≡ ALL → IsOne (failed_mass p n r) }
 {}
 
 /// It does nothing: its clauses say how far apart the bounds are: no further than the bound of the others, but for a unit, and with a

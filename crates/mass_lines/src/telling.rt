@@ -16,7 +16,7 @@ ghost use Rattle.mass_lines.specs.MassLines.{AreMassLines};
 
 use crate::rows::{bit_line, bound_lines, exact_lines, mass_rows_text};
 use cost_fold::{CostError, cost};
-use enclose_fold::enclose;
+use enclose_fold::{EncloseError, enclose};
 use exact_fold::{ExactError, exact};
 use gcl_core::{Checked, Limits};
 use gcl_print::Text;
@@ -61,7 +61,7 @@ pub fn enclosed_text(
     attempts: Option<u64>,
     rounds: Option<u64>,
     all_turns: bool,
-) -> Result<Text, MassError>
+) -> Result<Text, EncloseError>
     requires turns { turns ≤ MOST_LIMIT }
     requires attempts { IfSome attempts IsLimit }
     requires rounds { IfSome rounds IsLimit }

@@ -3,11 +3,10 @@
 ghost use Rattle.std.specs.Prelude.{◌≡◌, true, IfSome};
 ghost use Rattle.mass_fold.specs.Refused.{IsLimit};
 
-use enclose_fold::enclose;
+use enclose_fold::{EncloseError, enclose};
 use frac128::Frac;
 use gcl_core::{Limit, Outcome};
 use gcl_text::check_text;
-use mass_fold::MassError;
 use posterior_bounds::BoundRows;
 use std::alloc::Global;
 
@@ -19,6 +18,11 @@ const GEOMETRIC: &str =
     "go := 1; while go = 1 { choice 1/2 { x := x + 1; } or { go := 0; } } return x;";
 
 const IMPOSSIBLE: &str = "observe 1 = 2; return 0;";
+
+const A_THIRD_IS_LOST: &str = "x ~ uniform(3); observe x = 3; return x;";
+
+const UNLIKELY: &str =
+    "x := 1; while n < 121 and x = 1 { n := n + 1; x ~ uniform(2); } observe x = 1; return n;";
 
 const DIE_GIVEN_EVEN: &str = "x ~ uniform(6); x := x + 1; observe x % 2 = 0; return x;";
 
@@ -48,12 +52,13 @@ struct Case {
     attempts: Option<u64>,
     rounds: Option<u64>,
     all_turns: bool,
-    want: Result<(Rows, Pair), MassError>,
+    want: Result<(Rows, Pair), EncloseError>,
 }
 
 // A side of a die has q units, 2^120 = 6q + 4, and the whole is 3q + 4, so 4 units are lost. Of two coins a round fails with 1/4. An
-// attempt at 2/3 decides with 3/4. The components lose 91 units in their 13 turns.
-const CASES: [Case; 9] = [
+// attempt at 2/3 decides with 3/4. The components lose 91 units in their 13 turns. Of three thirds a unit is lost, and so is the half of a
+// unit with which 121 coins are all heads.
+const CASES: [Case; 12] = [
     Case {
         text: DIE_GIVEN_EVEN,
         turns: 30,
@@ -105,7 +110,31 @@ const CASES: [Case; 9] = [
         attempts: None,
         rounds: None,
         all_turns: false,
-        want: Err(MassError::AllFailed),
+        want: Err(EncloseError::AllFailed),
+    },
+    Case {
+        text: A_THIRD_IS_LOST,
+        turns: 30,
+        attempts: None,
+        rounds: None,
+        all_turns: false,
+        want: Err(EncloseError::TooUnlikely),
+    },
+    Case {
+        text: UNLIKELY,
+        turns: 121,
+        attempts: None,
+        rounds: None,
+        all_turns: false,
+        want: Err(EncloseError::TooUnlikely),
+    },
+    Case {
+        text: UNLIKELY,
+        turns: 120,
+        attempts: None,
+        rounds: None,
+        all_turns: false,
+        want: Ok((&[(Outcome::Limit(Limit::Turns), (1, 1), (1, 1))], (0, 1))),
     },
     Case {
         text: IMPOSSIBLE,

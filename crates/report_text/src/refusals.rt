@@ -35,7 +35,7 @@ impl From<AllocError> for Refusal {
 // The words of a code. A number that is no code has none.
 fn code_words(code: u8) -> &'static str
     ensures words { result.now ≡ code_words code }
-    ensures within { length result.now ≤ 20 }
+    ensures within { length result.now ≤ 25 }
 {
     let at = usize::from(code);
     if at < CODE_WORDS.len() {
@@ -47,7 +47,7 @@ fn code_words(code: u8) -> &'static str
 
 fn code_line(code: u8) -> Line
     ensures text { result ≡ code_text code }
-    ensures within { length result ≤ 70 }
+    ensures within { length result ≤ 75 }
 {
     let mut line = Line::new();
     line.push(b"error E");

@@ -48,7 +48,7 @@ fn answers_have_their_lines(rt: HostRuntime) {
 
 #[test]
 fn refusals_have_their_lines(rt: HostRuntime) {
-    let table: [(Refusal, &str); 9] = [
+    let table: [(Refusal, &str); 10] = [
         (Refusal::Coded(1, None), "error E1 text too long\n"),
         (Refusal::Coded(5, Some(0)), "error E5 unexpected at 0\n"),
         (
@@ -57,6 +57,10 @@ fn refusals_have_their_lines(rt: HostRuntime) {
         ),
         (Refusal::Coded(15, None), "error E15 every round fails\n"),
         (Refusal::Coded(16, Some(4)), "error E16 bad words at 4\n"),
+        (
+            Refusal::Coded(17, None),
+            "error E17 too unlikely to enclose\n",
+        ),
         (Refusal::Read, "error read fault\n"),
         (Refusal::Write, "error write fault\n"),
         (Refusal::Memory, "error out of memory\n"),

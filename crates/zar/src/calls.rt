@@ -112,7 +112,7 @@ fn of_topic(alloc: Global, words: &[String], at: usize) -> Result<String, AllocE
         nearest = nearest.offer(alloc, name)?;
     }
     let question = nearest.question(alloc)?;
-    format!(in alloc; "'{word}' is no command, and no code from E1 to E16{question}")
+    format!(in alloc; "'{word}' is no command, and no code from E1 to E17{question}")
 }
 
 // The word behind a command is missing, or of another form.

@@ -1,5 +1,5 @@
 -- Why each status comes, from what is said and how it is shown.
-use Rattle.std.proofs.Common.{◌≡◌, ℕ, ◌<◌, ◌==◌, nat_lt, Bool, true, false, ◌||◌, IsTrue, List, [], Option, Some, Result, Ok, Err, ◌⊎◌, inl, inr, refl, sym, ◌∙◌, ap, subst, arith, if◌then◌else◌}
+use Rattle.std.proofs.Common.{◌≡◌, ◌≢◌, ℕ, ◌<◌, ◌==◌, nat_lt, Bool, true, false, ◌||◌, IsTrue, List, [], Option, Some, Result, Ok, Err, ◌⊎◌, inl, inr, refl, sym, ◌∙◌, ap, subst, arith, if◌then◌else◌}
 use Rattle.std.proofs.lemmas.Bool.Decides.{nat_tests}
 use Rattle.dice_roll.specs.declared.answers.Roll.{Roll}
 use Rattle.dice_roll.specs.declared.answers.Roll.TheVariants as rolled
@@ -83,9 +83,9 @@ never_written : (c : Command) → Fits c (Err Write) → ⊥
 never_written c (inl may) = may
 never_written c (inr is) = output_codes Write is.0 c is.1
 
-few_codes : (c : Command) (code : ℕ) (at : Option ℕ) → Fits c (Err (Coded code at)) → code < BAD_WORDS
-few_codes c code at (inl may) = absurd may
-few_codes c code at (inr is) = output_codes (Coded code at) is.0 c is.1
+other_codes : (c : Command) (code : ℕ) (at : Option ℕ) → Fits c (Err (Coded code at)) → code ≢ BAD_WORDS
+other_codes c code at (inl may) = absurd may
+other_codes c code at (inr is) = output_codes (Coded code at) is.0 c is.1
 
 -- ---- outputs
 
@@ -147,7 +147,7 @@ words_status (Err at) o fits e = refl
 words_status (Ok c) (Ok s) fits e = absurd (said_apart (said_status s) (said_statuses s) (inl e))
 words_status (Ok c) (Err (Coded code at)) fits e =
     let is = coded_words (code == BAD_WORDS) (nat_lt TOO_FINE code) e in
-    let few = few_codes c code at fits in
+    let other = other_codes c code at fits in
     absurd (grind (arith, nat_tests))
 words_status (Ok c) (Err Read) fits e = absurd (omega arith)
 words_status (Ok c) (Err Write) fits e = absurd (never_written c fits)

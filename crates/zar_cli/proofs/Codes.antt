@@ -1,5 +1,5 @@
 -- By which refusals a command may end: a code of texts or of work, or the outside, and never a failed write.
-use Rattle.std.proofs.Common.{◌≡◌, ℕ, ◌<◌, Bool, List, Option, Some, None, Ok, Err, ◌⊎◌, inl, inr, sym, subst, arith}
+use Rattle.std.proofs.Common.{◌≡◌, ◌≢◌, ℕ, ◌<◌, Bool, List, Option, Some, None, Ok, Err, ◌⊎◌, inl, inr, sym, subst, arith}
 use Rattle.dice_roll.specs.FastRoll.{fast_roll}
 use Rattle.gcl_core.specs.declared.answers.Limits.{Limits}
 use Rattle.gcl_core.specs.declared.refusals.TheConstants.{BAD_WORDS}
@@ -35,7 +35,7 @@ use Rattle.zar_cli.specs.Rolls.{weights_text, weights_said}
 use Rattle.zar_cli.specs.WeightedRolls.{labels_text}
 
 abbrev pub IsRefusal : Refusal → Type 0
-IsRefusal (Coded code at) = code < BAD_WORDS
+IsRefusal (Coded code at) = code ≢ BAD_WORDS
 IsRefusal Read = Unit {0}
 IsRefusal Write = ⊥
 IsRefusal Memory = Unit {0}
@@ -66,6 +66,10 @@ spelled_codes : (text : List ℕ) (code : ℕ) (at : Option ℕ) → SpellsNone 
 spelled_codes text code at (as_text h) = text_codes text code at h
 spelled_codes text code at (as_program {p = p} {places = places} written h) = program_codes p places code at h
 
+-- these stand below that of words
+apart : (code : ℕ) → code < BAD_WORDS → code ≢ BAD_WORDS
+apart code below = λ same. omega (arith, below, same)
+
 -- ---- work
 
 masses_codes : (p : SourceProgram) (turns : ℕ) (attempts rounds : Option ℕ) (e : Refusal) → SaysMasses p turns attempts rounds (Err e) → IsRefusal e
@@ -91,6 +95,7 @@ enclosure_codes : (p : SourceProgram) (turns : ℕ) (attempts rounds : Option �
     → SaysEnclosure p turns attempts rounds all_turns (Err e) → IsRefusal e
 enclosure_codes p turns attempts rounds all_turns _ (enclosures.too_many_states h) = omega arith
 enclosure_codes p turns attempts rounds all_turns _ (enclosures.all_failed h) = omega arith
+enclosure_codes p turns attempts rounds all_turns _ (enclosures.too_unlikely h) = omega arith
 
 -- ---- commands
 
@@ -119,7 +124,7 @@ module _ (e : Refusal) where
       (h : (p : SourceProgram) → go p (Err e) → IsRefusal e) where
     of_either : ((p : SourceProgram) × Has p × go p (Err e)) ⊎ ((code : ℕ) × (at : Option ℕ) × Refuses code at × (◌≡◌ {A = Output} (Err e) (Err (Coded code at)))) → IsRefusal e
     of_either (inl is) = h is.0 is.2
-    of_either (inr is) = is_refusal (Coded is.0 is.1) is.3 (codes is.0 is.1 is.2)
+    of_either (inr is) = is_refusal (Coded is.0 is.1) is.3 (apart is.0 (codes is.0 is.1 is.2))
 
     of_program : HasOrRefuses Has Refuses go (Err e) → IsRefusal e
     of_program is = of_either is.right

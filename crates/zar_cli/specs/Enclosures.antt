@@ -1,10 +1,10 @@
 -- What is said of the fractions between which the masses of a program lie: their lines, or why they are refused. They are never
 -- too wide.
 use Rattle.std.specs.Prelude.{ℕ, Bool, List, Option, None, Result, Ok, Err}
+use Rattle.enclose_fold.specs.declared.error.EncloseError.TheVariants.{TooManyStates, AllFailed, TooUnlikely}
 use Rattle.enclose_fold.specs.Refused.{EncloseRefused}
-use Rattle.gcl_core.specs.declared.refusals.TheConstants.{TOO_MANY_STATES, ALL_FAILED}
+use Rattle.gcl_core.specs.declared.refusals.TheConstants.{TOO_MANY_STATES, ALL_FAILED, TOO_UNLIKELY}
 use Rattle.gcl_core.specs.meaning.Syntax.{SourceProgram}
-use Rattle.mass_fold.specs.declared.error.MassError.TheVariants.{TooManyStates, AllFailed}
 use Rattle.mass_lines.specs.EnclosedLines.{AreEnclosedLines}
 use Rattle.report_text.specs.declared.refusals.Refusal.{Refusal}
 use Rattle.report_text.specs.declared.refusals.Refusal.TheVariants.{Coded}
@@ -19,3 +19,5 @@ pub data SaysEnclosure (p : SourceProgram) (turns : ℕ) (attempts rounds : Opti
       → SaysEnclosure p turns attempts rounds all_turns (Err (Coded TOO_MANY_STATES None))
   all_failed : EncloseRefused AllFailed p turns attempts rounds
       → SaysEnclosure p turns attempts rounds all_turns (Err (Coded ALL_FAILED None))
+  too_unlikely : EncloseRefused TooUnlikely p turns attempts rounds
+      → SaysEnclosure p turns attempts rounds all_turns (Err (Coded TOO_UNLIKELY None))

@@ -7,7 +7,7 @@ ghost use Rattle.mass_fold.specs.Refused.{IsLimit};
 ghost use Rattle.zar_cli.specs.declared.command.Work.TheVariants.{Enclose};
 ghost use Rattle.zar_cli.specs.inner.Works.{WorksAlone};
 
-use crate::refusing::mass_refusal;
+use crate::refusing::enclose_refusal;
 use crate::said::Said;
 use gcl_core::Checked;
 use mass_lines::enclosed_text;
@@ -30,6 +30,6 @@ pub fn enclosed_of(
 {
     match enclosed_text(alloc, program, turns, attempts, rounds, all_turns) {
         Ok(lines) => Ok(Said::Shown(lines)),
-        Err(error) => Err(mass_refusal(error)),
+        Err(error) => Err(enclose_refusal(error)),
     }
 }

@@ -9,7 +9,7 @@ use mass_fold::MOST_STATES;
 
 /// What each refusal means, at the number of its code: a sentence, and then what is wrong and what would be right.
 /// There is no code 0.
-pub const REFUSALS: [Page; 17] = [
+pub const REFUSALS: [Page; 18] = [
     ("", &[]),
     (
         "the text has more than ",
@@ -177,6 +177,13 @@ wrong: zar mass die.gcl --turn 5
 right: zar mass die.gcl --turns 5
 
 zar help lists the commands, and zar help COMMAND the options of one
+",
+        &[],
+    ),
+    (
+        "no run passes the observations, or too few to be seen in weights of 120 bits, and nothing limits the rounds
+
+mend: observe less in one round, or limit the rounds by --rounds; zar mass and zar exact round nothing, and tell which it is where they answer
 ",
         &[],
     ),

@@ -11,7 +11,7 @@ use crate::settings::{
 };
 use audit_walk::MOST_DEPTH;
 use dice_roll::{LEAST_LABELS, MOST_FLIPS, MOST_LABELS};
-use gcl_core::refusals::BAD_WORDS;
+use gcl_core::refusals::TOO_UNLIKELY;
 use gcl_core::{MOST_LIMIT, number_in};
 use generated_program::GREATEST_NUMBER;
 use report_text::VERSION_LINE;
@@ -180,7 +180,7 @@ zar roll W,W,..
 zar help COMMAND
     print the options of a command
 zar help CODE
-    say what a refusal means, by its code, E1 to E16
+    say what a refusal means, by its code, E1 to E17
 zar --version
     print the version
 ",
@@ -372,7 +372,7 @@ fn code_named(word: &str) -> Option<u8>
     ensures { result ≡ code_named word.now }
 {
     match word.strip_prefix('E') {
-        Some(digits) => Some(number_in(1, u64::from(BAD_WORDS), digits)? as u8),
+        Some(digits) => Some(number_in(1, u64::from(TOO_UNLIKELY), digits)? as u8),
         None => None,
     }
 }

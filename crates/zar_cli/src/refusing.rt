@@ -1,8 +1,9 @@
 // Why work on a program is refused.
 
 ghost use Rattle.std.specs.Prelude.{◌≡◌};
-ghost use Rattle.zar_cli.specs.inner.Readings.{exact_code, mass_code};
+ghost use Rattle.zar_cli.specs.inner.Readings.{enclose_code, exact_code, mass_code};
 
+use enclose_fold::EncloseError;
 use exact_fold::ExactError;
 use gcl_core::refusals;
 use mass_fold::MassError;
@@ -17,6 +18,18 @@ pub fn mass_refusal(error: MassError) -> Refusal
         MassError::TooManyStates => Refusal::Coded(refusals::TOO_MANY_STATES, None),
         MassError::AllFailed => Refusal::Coded(refusals::ALL_FAILED, None),
         MassError::OutOfMemory => Refusal::Memory,
+    }
+}
+
+/// Why there are no bounds between which masses lie, as a refusal.
+pub fn enclose_refusal(error: EncloseError) -> Refusal
+    ensures { result ≡ enclose_code error }
+{
+    match error {
+        EncloseError::TooManyStates => Refusal::Coded(refusals::TOO_MANY_STATES, None),
+        EncloseError::AllFailed => Refusal::Coded(refusals::ALL_FAILED, None),
+        EncloseError::TooUnlikely => Refusal::Coded(refusals::TOO_UNLIKELY, None),
+        EncloseError::OutOfMemory => Refusal::Memory,
     }
 }
 

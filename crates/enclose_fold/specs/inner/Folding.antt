@@ -6,12 +6,12 @@ use Rattle.fixed_point.specs.declared.TheConstants.{ALL}
 use Rattle.gcl_core.specs.meaning.Arms.{parts_of}
 use Rattle.gcl_core.specs.meaning.Syntax.{Expression, Statement, Statements, ArmList, no_arm, arm}
 use Rattle.gcl_core.specs.meaning.Value.{State, value_of}
-use Rattle.mass_fold.specs.declared.error.MassError.{MassError}
 use Rattle.rounding_law.specs.Down.{down}
 use Rattle.rounding_law.specs.Flows.{UnitFlow, statement_units, block_units, arms_units, loop_units}
 use Rattle.rounding_law.specs.Merged.{merged}
 use Rattle.rounding_law.specs.Rounding.{class_units}
 use Rattle.rounding_law.specs.Units.{Units, total}
+use Rattle.enclose_fold.specs.declared.error.EncloseError.{EncloseError}
 use Rattle.enclose_fold.specs.declared.ended.Ended.{Ended}
 use Rattle.enclose_fold.specs.declared.fold.Fold.{Fold}
 use Rattle.enclose_fold.specs.declared.table.Table.{Table}
@@ -24,11 +24,11 @@ pub record Gives (f : UnitFlow) (E : Ended) (fs : Units State) (F : Ended) : Typ
   pub ended : EndsWith E f.ended F
 
 -- refused where no table on the way has more states
-abbrev pub FlowRefused : UnitFlow → MassError → Type 0
+abbrev pub FlowRefused : UnitFlow → EncloseError → Type 0
 FlowRefused f e = (L : ℕ) → All (λ J. length J ≤ L) f.tables → Refuses e L
 
 -- nor the one after it
-abbrev pub StepRefused : UnitFlow → MassError → Type 0
+abbrev pub StepRefused : UnitFlow → EncloseError → Type 0
 StepRefused f e = (L : ℕ) → All (λ J. length J ≤ L) f.tables → length (merged f.next) ≤ L → Refuses e L
 
 -- ---- a block
@@ -36,7 +36,7 @@ StepRefused f e = (L : ℕ) → All (λ J. length J ≤ L) f.tables → length (
 abbrev pub BlockGives : Fold → Statements → Table → Ended → Table → Ended → Type 0
 BlockGives f b t E t' E' = Gives (block_units down f.turns f.attempts b t.states.entries) E t'.states.entries E'
 
-abbrev pub BlockRefused : Fold → Statements → Table → MassError → Type 0
+abbrev pub BlockRefused : Fold → Statements → Table → EncloseError → Type 0
 BlockRefused f b t = FlowRefused (block_units down f.turns f.attempts b t.states.entries)
 
 -- ---- a statement
@@ -44,7 +44,7 @@ BlockRefused f b t = FlowRefused (block_units down f.turns f.attempts b t.states
 abbrev pub StatementGives : Fold → Statement → Table → Ended → Table → Ended → Type 0
 StatementGives f s t E t' E' = Gives (statement_units down f.turns f.attempts s t.states.entries) E t'.states.entries E'
 
-abbrev pub StatementRefused : Fold → Statement → Table → MassError → Type 0
+abbrev pub StatementRefused : Fold → Statement → Table → EncloseError → Type 0
 StatementRefused f s t = StepRefused (statement_units down f.turns f.attempts s t.states.entries)
 
 -- ---- a loop
@@ -55,7 +55,7 @@ turns_units f e b = loop_units (value_of e) (block_units down f.turns f.attempts
 abbrev pub LoopGives : Fold → Expression → Statements → Table → Ended → Table → Ended → Type 0
 LoopGives f e b t E t' E' = Gives (turns_units f e b t.states.entries) E t'.states.entries E'
 
-abbrev pub LoopRefused : Fold → Expression → Statements → Table → MassError → Type 0
+abbrev pub LoopRefused : Fold → Expression → Statements → Table → EncloseError → Type 0
 LoopRefused f e b t = StepRefused (turns_units f e b t.states.entries)
 
 -- ---- the arms of a choice among several
@@ -66,7 +66,7 @@ each_arm f arms t = arms_units down f.turns f.attempts (sum (parts_of arms)) arm
 abbrev pub ArmsGive : Fold → ArmList → Table → Ended → Table → Ended → Type 0
 ArmsGive f arms t E t' E' = Gives (each_arm f arms t) E t'.states.entries E'
 
-abbrev pub ArmsRefused : Fold → ArmList → Table → MassError → Type 0
+abbrev pub ArmsRefused : Fold → ArmList → Table → EncloseError → Type 0
 ArmsRefused f arms t = StepRefused (each_arm f arms t)
 
 -- what all of them get

@@ -1,5 +1,5 @@
 use Rattle.std.specs.Prelude.{true}
-use Rattle.enclosure_law.proofs.InARound.{units_below, fails_below}
+use Rattle.enclosure_law.proofs.InARound.{units_below, fails_below, all_fail}
 use Rattle.enclosure_law.proofs.Given.{is_between, failing_below}
 use Rattle.enclosure_law.proofs.RowsHold.{some_whole, rows_enclose}
 use Rattle.enclosure_law.proofs.Widths.{passes}
@@ -15,3 +15,6 @@ returns-clause-rows c p n n' r R all_turns ok is ends rows other are same =
 
 pub returns-clause-passes : goal.returns-clause-passes
 returns-clause-passes c p n r ok some = passes p ok n r (units_below p ok n r (λ x. true)) some
+
+pub returns-clause-fails : goal.returns-clause-fails
+returns-clause-fails c p n r ok all = all_fail p ok n r all

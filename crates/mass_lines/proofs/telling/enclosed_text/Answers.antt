@@ -11,6 +11,7 @@ returns-clause-lines c =
       others = b.other;
       narrow = text.narrow;
       narrow_others = text.narrow_others;
+      some = b.some;
       passes = b.passes;
       enclose = b.enclose;
       close = b.close;

@@ -1,7 +1,7 @@
 use Rattle.std.proofs.Common.{◌≡◌, ◌≢◌, [], ◌∷◌, None, refl, sym, ap, arith, if◌then◌else◌}
 use Rattle.std.proofs.lemmas.Bool.{ne_eqb}
 use Rattle.std.proofs.lemmas.Str.Pattern.{strip_prefix_char}
-use Rattle.gcl_core.specs.declared.refusals.TheConstants.{BAD_WORDS}
+use Rattle.gcl_core.specs.declared.refusals.TheConstants.{TOO_UNLIKELY}
 use Rattle.gcl_core.specs.text.Numbers.{number_in}
 use Rattle.zar_cli.specs.Forms.{CallWord}
 use Rattle.zar_cli.specs.Words.{code_named}
@@ -11,7 +11,7 @@ without_letter : (word : CallWord) → ((rest : CallWord) → word ≢ 69 ∷ re
 without_letter [] none = refl
 without_letter (b ∷ bs) none =
     let other = ne_eqb b 69 (λ is. none bs (ap (λ x. x ∷ bs) is)) in
-    sym (ap (λ letter. if letter then number_in 1 BAD_WORDS bs else None) other)
+    sym (ap (λ letter. if letter then number_in 1 TOO_UNLIKELY bs else None) other)
 
 pub returns-in-None : goal.returns-in-None
 returns-in-None c = without_letter c.args.word.now (strip_prefix_char 69 c.args.word.now None c.in-None.ensures.cases (omega arith))

@@ -1,0 +1,24 @@
+-- Why there are no bounds where no unit of a round passes.
+use Rattle.std.proofs.Common.{◌≡◌, ◌⊎◌, inl, inr, ℕ, ◌≤◌, ◌<◌, Option, None, sym, subst, arith}
+use Rattle.std.proofs.lemmas.Bool.{cases_lt}
+use Rattle.fixed_point.specs.declared.TheConstants.{ALL}
+use Rattle.gcl_core.specs.meaning.Syntax.{SourceProgram}
+use Rattle.gcl_core.specs.weighing.Fractions.{IsOne}
+use Rattle.gcl_core.specs.weighing.Mass.{failed_mass}
+use Rattle.enclosure_law.specs.Enclosures.{fails_in, NothingPasses}
+use Rattle.enclose_fold.specs.declared.error.EncloseError.{EncloseError}
+use Rattle.enclose_fold.specs.declared.error.EncloseError.TheVariants.{AllFailed, TooUnlikely}
+use Rattle.enclose_fold.specs.Refused.{EncloseRefused}
+
+module _ (p : SourceProgram) (n : ℕ) (r : Option ℕ) where
+  -- where so many units fail, of which all are told by one cause and fewer by the other
+  module _ (failing : ℕ) (same : failing ≡ fails_in p n r) (most : failing ≤ ALL) (one : fails_in p n r ≡ ALL → IsOne (failed_mass p n r)) (nothing : NothingPasses p n r) (R : Option ℕ) (none : R ≡ None) where
+    pub none_pass : (e : EncloseError) → (failing ≡ ALL → e ≡ AllFailed) → (failing < ALL → e ≡ TooUnlikely) → EncloseRefused e p n r R
+    none_pass e all some = by (cases_lt failing ALL)
+      where
+        by : (failing < ALL) ⊎ (ALL ≤ failing) → EncloseRefused e p n r R
+        by (inl less) = subst (λ e. EncloseRefused e p n r R) (sym (some less)) (none, subst (λ f. f < ALL) same less, nothing)
+        by (inr more) =
+            let is : failing ≡ ALL = omega (arith, most, more) in
+            let fails : fails_in p n r ≡ ALL = subst (λ f. f ≡ ALL) same is in
+            subst (λ e. EncloseRefused e p n r R) (sym (all is)) (none, fails, one fails)
