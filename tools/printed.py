@@ -2,6 +2,8 @@
 import pathlib
 import sys
 
-sys.path.insert(0, str(pathlib.Path(__file__).resolve().parent.parent / "python"))
+# The package stands beside the tools in a checkout, and where it is installed below the folder of share/doc/zar/tools.
+TOP = pathlib.Path(__file__).resolve().parent.parent
+sys.path[:0] = [str(it) for it in (TOP / "python", *(it / "lib/python3/dist-packages" for it in TOP.parents[2:3])) if (it / "zar").is_dir()]
 from zar.printed import Limit, Rest, bits, bounds, order, row, rows, words
 from zar.refusals import placed
