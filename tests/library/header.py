@@ -6,7 +6,7 @@ import source
 
 HEADER = source.ROOT / "include" / "zar.h"
 EXPORTS = source.ROOT / "crates" / "zar_c" / "src"
-ENDS = [source.ROOT / "crates" / crate / "src" / "ends.rt" for crate in ("stream_draws", "stream_rolls")]
+ENDS = [source.ROOT / "crates" / crate / "src" / "ends.rt" for crate in ("stream_runs", "stream_rolls")]
 
 # The types of fields and of numbers, in the sources and in C.
 NUMBERS = {"u8": "uint8_t", "u32": "uint32_t", "u64": "uint64_t", "bool": "bool"}

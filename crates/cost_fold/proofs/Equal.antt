@@ -5,11 +5,11 @@ use Rattle.gcl_core.specs.meaning.Blocks.{End, on, failed, fault, limit, by_valu
 use Rattle.gcl_core.specs.weighing.Fractions.{Fraction, zero_share, plus, times}
 use Rattle.gcl_core.specs.weighing.WeightedEnds.{Weighted, scaled, taken_on}
 use Rattle.cost_law.specs.ExpectedBits.{on_average}
-use Rattle.frac128.specs.Fraction.{IsEqual}
-use Rattle.frac128.proofs.Divisors.{product_pos}
-use Rattle.mass_tables.specs.Tables.{Table, going_on, holds, fails, only}
-use Rattle.mass_tables.proofs.Positive.{Positive}
-use Rattle.mass_tables.proofs.EqualFractions.{equal_plus, equal_times}
+use Rattle.numbers.specs.Fraction.{IsEqual}
+use Rattle.numbers.proofs.Divisors.{product_pos}
+use Rattle.table_flow.specs.Tables.{Table, going_on, holds, fails, only}
+use Rattle.table_flow.proofs.Positive.{Positive}
+use Rattle.table_flow.proofs.EqualFractions.{equal_plus, equal_times}
 
 -- ---- fractions
 pair_is : (a b c d : ℕ) → a ≡ c → b ≡ d → ◌≡◌ {A = Fraction} (a, b) (c, d)

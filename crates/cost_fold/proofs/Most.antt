@@ -21,11 +21,11 @@ use Rattle.gcl_core.proofs.EqualClasses.{last_of_equal}
 use Rattle.weighing_law.proofs.BlockMatching.{statement_matches}
 use Rattle.weighing_law.proofs.WeightedLists.{EachEntry, each-append, each-scaled, each_taken_on}
 use Rattle.cost_law.specs.ExpectedBits.{number_bits}
-use Rattle.mass_tables.specs.Tables.{Table, going_on, holds, fails, only, faults, all_end, both, loop_flow, statement_flow, block_flow, arms_flow, draws_each, draw_weights}
-use Rattle.mass_tables.specs.Reached.{ReachedDraws, drawn_each, drawn_bound, loop_draws, statement_draws, block_draws, arms_draws}
-use Rattle.mass_tables.specs.Scale.{whole, amount, weight, Wholes, Within}
-use Rattle.mass_tables.proofs.Amounts.{amount_append, both_first, both_second, all_second, tables_first, tables_second, ends_first, ends_second, all_first}
-use Rattle.mass_tables.proofs.Kept.{guard_weight, ends_whole, choice_kept, head_whole, arms_weight, choose_inside, first_arm, other_arms, arms_kept, kept_one, kept_all}
+use Rattle.table_flow.specs.Tables.{Table, going_on, holds, fails, only, faults, all_end, both, loop_flow, statement_flow, block_flow, arms_flow, draws_each, draw_weights}
+use Rattle.table_flow.specs.Reached.{ReachedDraws, drawn_each, drawn_bound, loop_draws, statement_draws, block_draws, arms_draws}
+use Rattle.table_flow.specs.Scale.{whole, amount, weight, Wholes, Within}
+use Rattle.table_flow.proofs.Amounts.{amount_append, both_first, both_second, all_second, tables_first, tables_second, ends_first, ends_second, all_first}
+use Rattle.table_flow.proofs.Kept.{guard_weight, ends_whole, choice_kept, head_whole, arms_weight, choose_inside, first_arm, other_arms, arms_kept, kept_one, kept_all}
 use Rattle.mass_fold.specs.Metering.{Priced, price}
 use Rattle.mass_fold.proofs.MeterFolds.{priced_first, priced_second}
 use Rattle.cost_fold.proofs.Prices.{price_most}

@@ -20,14 +20,14 @@ use Rattle.gcl_core.proofs.Plays.{Play, ended, drawing, block_play}
 use Rattle.cost_law.specs.ExpectedBits.{draw_bits, on_average, Bits, end_bits, then_bits, class_bits, block_bits}
 use Rattle.cost_law.proofs.BlockCosts.{play_bits, play_block}
 use Rattle.cost_law.proofs.DrawBits.{draw_bits_pos}
-use Rattle.frac128.specs.Fraction.{IsEqual}
-use Rattle.frac128.proofs.Divisors.{product_pos, equal_trans}
-use Rattle.mass_tables.specs.Tables.{Table, going_on, holds, fails, only, loop_flow, statement_flow, block_flow, arms_flow}
-use Rattle.mass_tables.specs.Reached.{ReachedDraws, drawn_each, drawn_bound, loop_draws, statement_draws, block_draws, arms_draws}
-use Rattle.mass_tables.proofs.Draws.{class_pos, no_class_pos}
-use Rattle.mass_tables.proofs.Paths.{statement_positive}
-use Rattle.mass_tables.proofs.Positive.{Positive, p_taken, p_going, p_scaled, p_only, p_one, p_all}
-use Rattle.mass_tables.proofs.EqualFractions.{equal_plus, equal_times}
+use Rattle.numbers.specs.Fraction.{IsEqual}
+use Rattle.numbers.proofs.Divisors.{product_pos, equal_trans}
+use Rattle.table_flow.specs.Tables.{Table, going_on, holds, fails, only, loop_flow, statement_flow, block_flow, arms_flow}
+use Rattle.table_flow.specs.Reached.{ReachedDraws, drawn_each, drawn_bound, loop_draws, statement_draws, block_draws, arms_draws}
+use Rattle.table_flow.proofs.Draws.{class_pos, no_class_pos}
+use Rattle.table_flow.proofs.Paths.{statement_positive}
+use Rattle.table_flow.proofs.Positive.{Positive, p_taken, p_going, p_scaled, p_only, p_one, p_all}
+use Rattle.table_flow.proofs.EqualFractions.{equal_plus, equal_times}
 use Rattle.weighing_law.proofs.Shares.{factor_pos}
 use Rattle.cost_fold.proofs.Equal.{plus_assoc, nothing_plus, average_positive, average_append, average_equal, average_nothing, average_scaled, average_within, average_taken, average_sum, average_going, average_guard}
 

@@ -3,7 +3,7 @@ use Rattle.std.proofs.Common.{◌≡◌, ℕ, ◌+◌, ◌*◌, [], ◌∷◌, a
 use Rattle.gcl_core.specs.weighing.Fractions.{Fraction}
 use Rattle.gcl_core.specs.weighing.WeightedEnds.{Weighted}
 use Rattle.cost_law.specs.ExpectedBits.{on_average}
-use Rattle.mass_tables.specs.Scale.{whole, Wholes, amount}
+use Rattle.table_flow.specs.Scale.{whole, Wholes, amount}
 
 -- so many of M parts are the share that each entry goes on to
 abbrev pub EachShare : {A : Type 0} → ℕ → (A → Fraction) → (A → ℕ) → Weighted A → Type 0

@@ -6,7 +6,7 @@ use Rattle.gcl_core.specs.declared.answers.Answer.{Answer}
 use Rattle.gcl_core.specs.declared.answers.Limits.{Limits}
 use Rattle.gcl_core.specs.meaning.Bounds.{BlockIsWeighed}
 use Rattle.gcl_core.specs.weighing.Fractions.{Fraction, zero_share, one, times, power_sum}
-use Rattle.gcl_core.specs.meaning.Keeping.{IsChecked}
+use Rattle.gcl_core.specs.meaning.Checked.{IsChecked}
 use Rattle.gcl_core.specs.weighing.LongestReading.{longest}
 use Rattle.gcl_core.specs.weighing.Mass.{is_failed, failed_mass}
 use Rattle.gcl_core.specs.meaning.Runs.{run_on}
@@ -19,15 +19,15 @@ use Rattle.cost_law.specs.Costing.{CostsExactly}
 use Rattle.cost_law.specs.ExpectedBits.{on_average, block_bits, expected_bits}
 use Rattle.cost_law.proofs.CostLaw.{costs_exactly, expected_pos}
 use Rattle.cost_law.proofs.DrawBits.{draw_bits_pos}
-use Rattle.frac128.specs.Fraction.{InLowest, IsEqual, lowest}
-use Rattle.frac128.proofs.Divisors.{product_pos, lowest_equal, lowest_in_lowest, cancel}
-use Rattle.mass_tables.specs.Reached.{ReachedDraws, draws_of}
-use Rattle.mass_tables.specs.Scale.{whole, Whole, Wholes, amount, weight}
-use Rattle.mass_tables.specs.Tables.{Table, peak_of}
-use Rattle.mass_tables.specs.Width.{round_width, denominator}
-use Rattle.mass_tables.proofs.AtWidth.{at_width}
-use Rattle.mass_tables.proofs.Positive.{Positive}
-use Rattle.mass_tables.proofs.Wholes.{whole_from, whole_multiple}
+use Rattle.numbers.specs.Fraction.{InLowest, IsEqual, lowest}
+use Rattle.numbers.proofs.Divisors.{product_pos, lowest_equal, lowest_in_lowest, cancel}
+use Rattle.table_flow.specs.Reached.{ReachedDraws, draws_of}
+use Rattle.table_flow.specs.Scale.{whole, Whole, Wholes, amount, weight}
+use Rattle.table_flow.specs.Tables.{Table, peak_of}
+use Rattle.table_flow.specs.Width.{round_width, denominator}
+use Rattle.table_flow.proofs.AtWidth.{at_width}
+use Rattle.table_flow.proofs.Positive.{Positive}
+use Rattle.table_flow.proofs.Wholes.{whole_from, whole_multiple}
 use Rattle.mass_fold.specs.Body.{RoundBits, IsMass}
 use Rattle.mass_fold.specs.Metering.{Priced, price}
 use Rattle.mass_fold.specs.Rounds.{geometric, scale_of, IsRepeated, RepeatBlames}

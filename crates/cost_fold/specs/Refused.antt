@@ -2,12 +2,12 @@
 use Rattle.std.specs.Prelude.{◌<◌, Some}
 use Rattle.gcl_core.specs.declared.answers.Limits.{Limits}
 use Rattle.gcl_core.specs.meaning.Syntax.{SourceProgram}
-use Rattle.mass_tables.specs.Tables.{peak_of}
+use Rattle.table_flow.specs.Tables.{peak_of}
 use Rattle.cost_fold.specs.declared.error.CostError.{CostError}
 use Rattle.cost_fold.specs.declared.error.CostError.TheVariants.{TooWide, TooManyStates, OutOfMemory}
 use Rattle.cost_fold.specs.Spread.{spread}
 use Rattle.mass_fold.specs.declared.table.TheConstants.{MOST_STATES}
-use Rattle.frac128.specs.Fraction.{Overfills}
+use Rattle.numbers.specs.Fraction.{Overfills}
 
 abbrev pub CostRefused : CostError → SourceProgram → Limits → Type 0
 CostRefused TooWide p l = Overfills (spread p l)

@@ -1,8 +1,8 @@
 // The expected number of bits.
 
 ghost use Rattle.std.specs.Prelude.{◌≡◌, ◌≢◌, Some, IfOk, IfErr};
-ghost use Rattle.frac128.specs.Fraction.{lowest};
-ghost use Rattle.gcl_core.specs.meaning.Keeping.{IsChecked};
+ghost use Rattle.numbers.specs.Fraction.{lowest};
+ghost use Rattle.gcl_core.specs.meaning.Checked.{IsChecked};
 ghost use Rattle.gcl_core.specs.meaning.Runs.{run_on};
 ghost use Rattle.gcl_core.specs.meaning.LimitRange.{InRange};
 ghost use Rattle.gcl_core.specs.meaning.Views.{source_of};
@@ -14,7 +14,7 @@ ghost use Rattle.gcl_core.specs.declared.answers.Limits.{Limits};
 ghost use Rattle.gcl_core.specs.meaning.Syntax.{SourceProgram};
 
 use crate::error::CostError;
-use frac128::Frac;
+use numbers::Frac;
 use gcl_core::{Checked, Limits};
 use mass_fold::{MassError, repeated, round_bits};
 use std::alloc::Global;

@@ -6,7 +6,7 @@ use Rattle.gcl_core.specs.declared.answers.Limits.{Limits}
 use Rattle.gcl_core.specs.declared.answers.Outcome.{Outcome}
 use Rattle.gcl_core.specs.meaning.Blocks.{block_on}
 use Rattle.gcl_core.specs.meaning.Draw.{bits_for, last_end, attempt_on, draw_on}
-use Rattle.gcl_core.specs.meaning.Keeping.{IsChecked}
+use Rattle.gcl_core.specs.meaning.Checked.{IsChecked}
 use Rattle.gcl_core.specs.weighing.Mass.{is_failed, failed_mass}
 use Rattle.gcl_core.specs.weighing.OneDraw.{Ascends}
 use Rattle.gcl_core.specs.meaning.Runs.{rounds_on, answer_of, run_on}

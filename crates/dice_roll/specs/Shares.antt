@@ -1,6 +1,6 @@
 -- The weights of a draw as fractions.
 use Rattle.std.specs.Prelude.{ℕ, ◌-◌, ◌*◌, ◌^◌, Option, Some, None, nat_le, if◌then◌else◌}
-use Rattle.frac128.specs.Fraction.{Fraction, lowest}
+use Rattle.numbers.specs.Fraction.{Fraction, lowest}
 use Rattle.dice_roll.specs.FastRoll.{quota}
 use Rattle.dice_roll.specs.declared.rules.TheConstants.{MOST_WEIGHED_FLIPS}
 

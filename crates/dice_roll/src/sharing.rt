@@ -5,7 +5,7 @@ ghost use Rattle.dice_roll.specs.Fair.{IsFair};
 ghost use Rattle.dice_roll.specs.Shares.{shares_of};
 
 use crate::rules::MOST_WEIGHED_FLIPS;
-use frac128::Frac;
+use numbers::Frac;
 
 /// The weight of each of `m` labels within `flips` bits, and the weight that is left to the limit, as fractions in
 /// lowest terms. `None` comes exactly where there are more bits than [`MOST_WEIGHED_FLIPS`].

@@ -2,23 +2,23 @@
 use Rattle.std.proofs.Common.{◌≡◌, ℕ, ◌+◌, ◌*◌, ◌≤◌, ◌<◌, [], ◌++◌, length, Option, refl, ap, ◌∙◌, subst, sym, arith}
 use Rattle.std.specs.List.{sum}
 use Rattle.std.proofs.lemmas.List.Sums.{sum_by-cons}
-use Rattle.fixed_point.specs.declared.TheConstants.{ALL}
+use Rattle.numbers.specs.declared.units.TheConstants.{ALL}
 use Rattle.gcl_core.specs.declared.answers.Limit.TheVariants.{Attempts}
 use Rattle.gcl_core.specs.meaning.Arms.{parts_of}
 use Rattle.gcl_core.specs.meaning.Bounds.{BlockIsWeighed}
 use Rattle.gcl_core.specs.meaning.Syntax.{Choose, Statements, ArmList, no_arm, arm}
 use Rattle.gcl_core.specs.meaning.Blocks.{End, limit}
 use Rattle.gcl_core.specs.meaning.Value.{State}
-use Rattle.mass_tables.proofs.Draws.{each_part, no_part, all_parts, parts_add_up, all_parts_pos}
-use Rattle.rounding_law.specs.Down.{down}
-use Rattle.rounding_law.specs.Flows.{statement_units, block_units, arms_units}
-use Rattle.rounding_law.specs.Merged.{merged, IsMerged}
-use Rattle.rounding_law.specs.Rounding.{class_units, rest_units}
-use Rattle.rounding_law.specs.Units.{Units, held, total, end_units}
-use Rattle.rounding_law.proofs.Downs.{rounds_down}
-use Rattle.rounding_law.proofs.Held.{held_append, from_left}
-use Rattle.rounding_law.proofs.Losses.{class_total, rest_total, end_total}
-use Rattle.rounding_law.proofs.Merging.{held_merged}
+use Rattle.table_flow.proofs.Draws.{each_part, no_part, all_parts, parts_add_up, all_parts_pos}
+use Rattle.units_law.specs.Down.{down}
+use Rattle.units_law.specs.Flows.{statement_units, block_units, arms_units}
+use Rattle.units_law.specs.Merged.{merged, IsMerged}
+use Rattle.units_law.specs.Rounding.{class_units, rest_units}
+use Rattle.units_law.specs.Units.{Units, held, total, end_units}
+use Rattle.units_law.proofs.Downs.{rounds_down}
+use Rattle.units_law.proofs.Held.{held_append, from_left}
+use Rattle.units_law.proofs.Losses.{class_total, rest_total, end_total}
+use Rattle.units_law.proofs.Merging.{held_merged}
 use Rattle.enclose_fold.specs.declared.error.EncloseError.{EncloseError}
 use Rattle.enclose_fold.specs.declared.error.EncloseError.TheVariants.{OutOfMemory}
 use Rattle.enclose_fold.specs.declared.ended.Ended.{Ended}

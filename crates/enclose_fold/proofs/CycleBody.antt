@@ -1,19 +1,19 @@
 -- The body of a program, from all units at the state of zeros.
 use Rattle.std.proofs.Common.{◌≡◌, ℕ, ◌+◌, ◌≤◌, [], ◌∷◌, length, Option, ap, ◌∙◌, subst, arith}
-use Rattle.fixed_point.specs.declared.TheConstants.{ALL}
+use Rattle.numbers.specs.declared.units.TheConstants.{ALL}
 use Rattle.gcl_core.specs.meaning.Bounds.{BlockIsWeighed}
 use Rattle.gcl_core.specs.meaning.Outcomes.{zeros}
 use Rattle.gcl_core.specs.meaning.Syntax.{SourceProgram}
 use Rattle.gcl_core.specs.meaning.Value.{State}
-use Rattle.mass_tables.specs.Tables.{peak_of}
-use Rattle.rounding_law.specs.Down.{down}
-use Rattle.rounding_law.specs.Flows.{block_units}
-use Rattle.rounding_law.specs.Merged.{merged}
-use Rattle.rounding_law.specs.Rounds.{round_units}
-use Rattle.rounding_law.specs.Units.{Units, held, total}
-use Rattle.rounding_law.proofs.Downs.{rounds_down}
-use Rattle.rounding_law.proofs.Merging.{merged_again}
-use Rattle.rounding_law.proofs.Rounds.{round_below}
+use Rattle.table_flow.specs.Tables.{peak_of}
+use Rattle.units_law.specs.Down.{down}
+use Rattle.units_law.specs.Flows.{block_units}
+use Rattle.units_law.specs.Merged.{merged}
+use Rattle.units_law.specs.Rounds.{round_units}
+use Rattle.units_law.specs.Units.{Units, held, total}
+use Rattle.units_law.proofs.Downs.{rounds_down}
+use Rattle.units_law.proofs.Merging.{merged_again}
+use Rattle.units_law.proofs.Rounds.{round_below}
 use Rattle.enclose_fold.specs.declared.error.EncloseError.{EncloseError}
 use Rattle.enclose_fold.specs.declared.ended.Ended.{Ended}
 use Rattle.enclose_fold.specs.inner.Body.{BodyGives}

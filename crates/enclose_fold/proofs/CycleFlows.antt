@@ -5,14 +5,14 @@ use Rattle.gcl_core.specs.meaning.Bounds.{StatementIsWeighed, BlockIsWeighed}
 use Rattle.gcl_core.specs.meaning.Syntax.{Statement, Statements, done, ◌▸◌}
 use Rattle.gcl_core.specs.meaning.Value.{State}
 use Rattle.gcl_core.specs.meaning.Blocks.{End}
-use Rattle.rounding_law.specs.Down.{down}
-use Rattle.rounding_law.specs.Flows.{UnitFlow, both_units, statement_units, block_units}
-use Rattle.rounding_law.specs.Merged.{merged, IsMerged}
-use Rattle.rounding_law.specs.Units.{Units, held, total}
-use Rattle.rounding_law.proofs.Downs.{rounds_down}
-use Rattle.rounding_law.proofs.Held.{held_append}
-use Rattle.rounding_law.proofs.Merging.{held_merged, merged_once, merged_again, merged_same}
-use Rattle.rounding_law.proofs.Spent.{none_made}
+use Rattle.units_law.specs.Down.{down}
+use Rattle.units_law.specs.Flows.{UnitFlow, both_units, statement_units, block_units}
+use Rattle.units_law.specs.Merged.{merged, IsMerged}
+use Rattle.units_law.specs.Units.{Units, held, total}
+use Rattle.units_law.proofs.Downs.{rounds_down}
+use Rattle.units_law.proofs.Held.{held_append}
+use Rattle.units_law.proofs.Merging.{held_merged, merged_once, merged_again, merged_same}
+use Rattle.units_law.proofs.Spent.{none_made}
 use Rattle.enclose_fold.specs.declared.error.EncloseError.{EncloseError}
 use Rattle.enclose_fold.specs.declared.ended.Ended.{Ended}
 use Rattle.enclose_fold.specs.inner.Ended.{units_of, EndsWith}

@@ -1,21 +1,21 @@
 -- A loop, turn by turn: what is left of it from the table at hand makes up for what the whole makes.
 use Rattle.std.proofs.Common.{◌≡◌, ℕ, zero, suc, ◌+◌, ◌*◌, ◌≤◌, [], ◌∷◌, ◌++◌, length, Option, refl, ap, ◌∙◌, subst, sym, arith}
-use Rattle.fixed_point.specs.declared.TheConstants.{ALL}
+use Rattle.numbers.specs.declared.units.TheConstants.{ALL}
 use Rattle.gcl_core.specs.declared.answers.Limit.TheVariants.{Turns}
 use Rattle.gcl_core.specs.meaning.Bounds.{BlockIsWeighed}
 use Rattle.gcl_core.specs.meaning.Syntax.{Statements}
 use Rattle.gcl_core.specs.meaning.Blocks.{End, limit}
 use Rattle.gcl_core.specs.meaning.Value.{State, Value}
-use Rattle.mass_tables.specs.Tables.{holds, fails}
-use Rattle.rounding_law.specs.Down.{down}
-use Rattle.rounding_law.specs.Flows.{UnitFlow, loop_units, block_units}
-use Rattle.rounding_law.specs.Merged.{merged, IsMerged}
-use Rattle.rounding_law.specs.Units.{Units, held, total, only_units, fault_units, end_units}
-use Rattle.rounding_law.proofs.Downs.{rounds_down}
-use Rattle.rounding_law.proofs.Held.{held_append}
-use Rattle.rounding_law.proofs.Losses.{guard_total, end_total}
-use Rattle.rounding_law.proofs.Merging.{held_merged, merged_again}
-use Rattle.rounding_law.proofs.Spent.{none_made}
+use Rattle.table_flow.specs.Tables.{holds, fails}
+use Rattle.units_law.specs.Down.{down}
+use Rattle.units_law.specs.Flows.{UnitFlow, loop_units, block_units}
+use Rattle.units_law.specs.Merged.{merged, IsMerged}
+use Rattle.units_law.specs.Units.{Units, held, total, only_units, fault_units, end_units}
+use Rattle.units_law.proofs.Downs.{rounds_down}
+use Rattle.units_law.proofs.Held.{held_append}
+use Rattle.units_law.proofs.Losses.{guard_total, end_total}
+use Rattle.units_law.proofs.Merging.{held_merged, merged_again}
+use Rattle.units_law.proofs.Spent.{none_made}
 use Rattle.enclose_fold.specs.declared.error.EncloseError.{EncloseError}
 use Rattle.enclose_fold.specs.declared.error.EncloseError.TheVariants.{OutOfMemory}
 use Rattle.enclose_fold.specs.declared.ended.Ended.{Ended}

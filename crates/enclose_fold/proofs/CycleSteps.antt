@@ -9,15 +9,15 @@ use Rattle.gcl_core.specs.meaning.Bounds.{IsWeight}
 use Rattle.gcl_core.specs.meaning.Syntax.{Expression, Statement, Skip, Set, Choice, Uniform, Observe, Statements, done}
 use Rattle.gcl_core.specs.meaning.Value.{State, Value, value_of}
 use Rattle.gcl_core.specs.meaning.Views.{list_of}
-use Rattle.mass_tables.specs.Tables.{holds, fails}
-use Rattle.rounding_law.specs.Down.{down}
-use Rattle.rounding_law.specs.Flows.{statement_units, block_units}
-use Rattle.rounding_law.specs.Merged.{merged, IsMerged}
-use Rattle.rounding_law.specs.Rounding.{class_units, rest_units, drawn_units, undrawn_units}
-use Rattle.rounding_law.specs.Units.{Units, held, total, only_units, fault_units, end_units, set_units}
-use Rattle.rounding_law.proofs.Held.{held_append}
-use Rattle.rounding_law.proofs.Losses.{guard_total}
-use Rattle.rounding_law.proofs.Merging.{held_merged, merged_again}
+use Rattle.table_flow.specs.Tables.{holds, fails}
+use Rattle.units_law.specs.Down.{down}
+use Rattle.units_law.specs.Flows.{statement_units, block_units}
+use Rattle.units_law.specs.Merged.{merged, IsMerged}
+use Rattle.units_law.specs.Rounding.{class_units, rest_units, drawn_units, undrawn_units}
+use Rattle.units_law.specs.Units.{Units, held, total, only_units, fault_units, end_units, set_units}
+use Rattle.units_law.proofs.Held.{held_append}
+use Rattle.units_law.proofs.Losses.{guard_total}
+use Rattle.units_law.proofs.Merging.{held_merged, merged_again}
 use Rattle.enclose_fold.specs.declared.error.EncloseError.{EncloseError}
 use Rattle.enclose_fold.specs.declared.error.EncloseError.TheVariants.{OutOfMemory}
 use Rattle.enclose_fold.specs.declared.ended.Ended.{Ended}

@@ -1,13 +1,13 @@
 -- A loop of uniform draws over the entries of a table.
 use Rattle.std.proofs.Common.{◌≡◌, ℕ, ◌+◌, ◌≤◌, Option, [], ◌∷◌, ◌++◌, ap, arith}
-use Rattle.fixed_point.specs.declared.TheConstants.{ALL}
+use Rattle.numbers.specs.declared.units.TheConstants.{ALL}
 use Rattle.gcl_core.specs.meaning.Value.{State, Value}
-use Rattle.rounding_law.specs.Down.{down}
-use Rattle.rounding_law.specs.Merged.{merged, IsMerged}
-use Rattle.rounding_law.specs.Rounding.{drawn_units, undrawn_units}
-use Rattle.rounding_law.specs.Units.{Units, held, total}
-use Rattle.rounding_law.proofs.Held.{held_append}
-use Rattle.rounding_law.proofs.Merging.{held_merged}
+use Rattle.units_law.specs.Down.{down}
+use Rattle.units_law.specs.Merged.{merged, IsMerged}
+use Rattle.units_law.specs.Rounding.{drawn_units, undrawn_units}
+use Rattle.units_law.specs.Units.{Units, held, total}
+use Rattle.units_law.proofs.Held.{held_append}
+use Rattle.units_law.proofs.Merging.{held_merged}
 use Rattle.enclose_fold.specs.declared.error.EncloseError.{EncloseError}
 use Rattle.enclose_fold.specs.declared.ended.Ended.{Ended}
 use Rattle.enclose_fold.specs.inner.Ended.{units_of, EndsWith}

@@ -4,14 +4,14 @@ use Rattle.gcl_core.specs.declared.answers.Fault.{Fault}
 use Rattle.gcl_core.specs.declared.answers.Limit.TheVariants.{Attempts}
 use Rattle.gcl_core.specs.meaning.Value.{State, Value}
 use Rattle.gcl_core.specs.meaning.Blocks.{End, fault, limit, by_value}
-use Rattle.mass_tables.specs.Tables.{holds, fails}
-use Rattle.mass_tables.specs.Counts.{stopped}
+use Rattle.table_flow.specs.Tables.{holds, fails}
+use Rattle.table_flow.specs.Counts.{stopped}
 use Rattle.mass_fold.proofs.Moves.{moved_ok, moved_err, stopped_ok, first_zero, second_zero, first_not, second_not, first_err, second_err}
-use Rattle.rounding_law.specs.Down.{down, share_of}
-use Rattle.rounding_law.specs.Rounding.{class_units, rest_units, drawn_units, undrawn_units}
-use Rattle.rounding_law.specs.Units.{Units, held, set_units, only_units, fault_units, end_units}
-use Rattle.rounding_law.proofs.Held.{held_append}
-use Rattle.rounding_law.proofs.Parts.{held_set, held_only, held_faults}
+use Rattle.units_law.specs.Down.{down, share_of}
+use Rattle.units_law.specs.Rounding.{class_units, rest_units, drawn_units, undrawn_units}
+use Rattle.units_law.specs.Units.{Units, held, set_units, only_units, fault_units, end_units}
+use Rattle.units_law.proofs.Held.{held_append}
+use Rattle.units_law.proofs.Parts.{held_set, held_only, held_faults}
 use Rattle.enclose_fold.proofs.Passing.{IsEach}
 
 pub each_itself : IsEach (λ J. J)

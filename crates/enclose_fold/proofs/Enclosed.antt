@@ -6,10 +6,10 @@ use Rattle.gcl_core.specs.meaning.Outcomes.{same_outcome}
 use Rattle.gcl_core.specs.meaning.Syntax.{SourceProgram}
 use Rattle.gcl_core.specs.weighing.Fractions.{Fraction}
 use Rattle.posterior_bounds.specs.Rows.{Rows}
-use Rattle.rounding_law.specs.Units.{Units, total}
-use Rattle.enclosure_law.specs.Between.{whole_of, least_of, rounded_down, rounded_up}
-use Rattle.enclosure_law.specs.Enclosures.{fails_in, given, least_units, most_units, lower_of, upper_of, upper_of_others, AreEnclosures}
-use Rattle.enclosure_law.proofs.Given.{given_joins}
+use Rattle.units_law.specs.Units.{Units, total}
+use Rattle.units_law.specs.Between.{whole_of, least_of, rounded_down, rounded_up}
+use Rattle.units_law.specs.Enclosures.{fails_in, given, least_units, most_units, lower_of, upper_of, upper_of_others, AreEnclosures}
+use Rattle.units_law.proofs.Given.{given_joins}
 use Rattle.enclose_fold.specs.inner.Outcomes.{RoundGives}
 use Rattle.enclose_fold.specs.inner.Rows.{least_at, most_at, lower_at, upper_at, rows_of, upper_of_rest}
 use Rattle.enclose_fold.proofs.Listed.{row_from, row_has, kept_order, entry_sum, has_entry}

@@ -5,7 +5,7 @@ use Rattle.std.specs.Option.{is_some}
 use Rattle.gcl_core.specs.meaning.Syntax.{SourceProgram}
 use Rattle.gcl_core.specs.weighing.Fractions.{IsBelowOne}
 use Rattle.gcl_core.specs.weighing.Mass.{failed_mass}
-use Rattle.enclosure_law.specs.Holding.{MayEnd}
+use Rattle.units_law.specs.Holding.{MayEnd}
 
 pub unlimited : (R : Option ℕ) → is_some R ≡ false → R ≡ None
 unlimited None h = refl

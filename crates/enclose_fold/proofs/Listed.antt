@@ -16,9 +16,9 @@ use Rattle.gcl_core.proofs.SameOutcomes.{same_outcomes, outcome_itself}
 use Rattle.mass_fold.proofs.OutcomeRows.{ascending_rest, all_after}
 use Rattle.posterior_bounds.specs.Rows.{outcomes_of}
 use Rattle.posterior_bounds.proofs.Chosen.{first_in, later_in, in_cons}
-use Rattle.rounding_law.specs.Units.{Units}
-use Rattle.enclosure_law.specs.Between.{least_of}
-use Rattle.enclosure_law.specs.SomeRounds.{in_rounds}
+use Rattle.units_law.specs.Units.{Units}
+use Rattle.units_law.specs.Between.{least_of}
+use Rattle.units_law.specs.SomeRounds.{in_rounds}
 use Rattle.enclose_fold.specs.inner.Outcomes.{those, Ascending}
 use Rattle.enclose_fold.specs.inner.Rows.{least_at, lower_at, upper_at, bounds_from, bounds_at, with_row, rows_of}
 use Rattle.enclose_fold.proofs.ManyRounds.{rounds_nothing}

@@ -3,8 +3,8 @@ use Rattle.std.proofs.Common.{◌≡◌, ℕ, ◌/◌, ◌%◌, ◌<◌, Bool, t
 use Rattle.std.specs.Prelude.{◌==◌}
 use Rattle.std.specs.Int.Digits.{digits_of}
 use Rattle.std.proofs.lemmas.Int.Digits.{digits_of_step}
-use Rattle.fixed_point.specs.Units.{shared}
-use Rattle.enclosure_law.specs.SomeRounds.{InRounds, no_round, followed, with_digit, with_digits, in_rounds}
+use Rattle.numbers.specs.Units.{shared}
+use Rattle.units_law.specs.SomeRounds.{InRounds, no_round, followed, with_digit, with_digits, in_rounds}
 
 digits_further : (one so_far : InRounds) (ds es : List ℕ) → with_digits one so_far (ds ++ es) ≡ with_digits one (with_digits one so_far ds) es
 digits_further one so_far [] es = refl

@@ -1,11 +1,11 @@
 -- Why there are no bounds where no unit of a round passes.
 use Rattle.std.proofs.Common.{◌≡◌, ◌⊎◌, inl, inr, ℕ, ◌≤◌, ◌<◌, Option, None, sym, subst, arith}
 use Rattle.std.proofs.lemmas.Bool.{cases_lt}
-use Rattle.fixed_point.specs.declared.TheConstants.{ALL}
+use Rattle.numbers.specs.declared.units.TheConstants.{ALL}
 use Rattle.gcl_core.specs.meaning.Syntax.{SourceProgram}
 use Rattle.gcl_core.specs.weighing.Fractions.{IsOne}
 use Rattle.gcl_core.specs.weighing.Mass.{failed_mass}
-use Rattle.enclosure_law.specs.Enclosures.{fails_in, NothingPasses}
+use Rattle.units_law.specs.Enclosures.{fails_in, NothingPasses}
 use Rattle.enclose_fold.specs.declared.error.EncloseError.{EncloseError}
 use Rattle.enclose_fold.specs.declared.error.EncloseError.TheVariants.{AllFailed, TooUnlikely}
 use Rattle.enclose_fold.specs.Refused.{EncloseRefused}

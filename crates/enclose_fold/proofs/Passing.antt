@@ -3,8 +3,8 @@
 use Rattle.std.proofs.Common.{◌≡◌, ℕ, ◌+◌, ◌*◌, ◌≤◌, [], ◌∷◌, length, refl, ap, subst, arith}
 use Rattle.gcl_core.specs.meaning.Value.{State}
 use Rattle.gcl_core.specs.meaning.Blocks.{End}
-use Rattle.rounding_law.specs.Merged.{merged, IsMerged}
-use Rattle.rounding_law.specs.Units.{Units, held, total}
+use Rattle.units_law.specs.Merged.{merged, IsMerged}
+use Rattle.units_law.specs.Units.{Units, held, total}
 use Rattle.enclose_fold.specs.declared.ended.Ended.{Ended}
 use Rattle.enclose_fold.specs.inner.Ended.{units_of, EndsWith}
 use Rattle.enclose_fold.proofs.Putting.{is_merged}

@@ -10,11 +10,11 @@ use Rattle.std.proofs.lemmas.Map.Entries.{none_below_head}
 use Rattle.std.proofs.lemmas.Map.Keys.{sorted_tail}
 use Rattle.gcl_core.specs.meaning.Value.{State}
 use Rattle.mass_fold.specs.declared.table.TheConstants.{MOST_STATES}
-use Rattle.rounding_law.specs.Merged.{order, put, units_at, merged, IsMerged}
-use Rattle.rounding_law.specs.Units.{Units, held, total}
-use Rattle.rounding_law.proofs.States.{order_total}
-use Rattle.rounding_law.proofs.Held.{held_append}
-use Rattle.rounding_law.proofs.Merging.{held_put, put_merged, merged_again, merged_same, merged_longer}
+use Rattle.units_law.specs.Merged.{order, put, units_at, merged, IsMerged}
+use Rattle.units_law.specs.Units.{Units, held, total}
+use Rattle.units_law.proofs.States.{order_total}
+use Rattle.units_law.proofs.Held.{held_append}
+use Rattle.units_law.proofs.Merging.{held_put, put_merged, merged_again, merged_same, merged_longer}
 use Rattle.enclose_fold.specs.declared.error.EncloseError.{EncloseError}
 use Rattle.enclose_fold.specs.declared.error.EncloseError.TheVariants.{TooManyStates, AllFailed, TooUnlikely, OutOfMemory}
 use Rattle.enclose_fold.specs.inner.Refusals.{Refuses, RefusedAt}

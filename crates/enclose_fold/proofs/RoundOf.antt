@@ -1,7 +1,7 @@
 -- What one round gives outcomes that count, from the table after it and what ended in it.
 use Rattle.std.proofs.Common.{◌≡◌, ℕ, ◌+◌, ◌*◌, ◌≤◌, Bool, true, false, cond, Ok, Err, Option, [], ◌∷◌, length, refl, ap, ◌∙◌, arith}
 use Rattle.std.specs.Prelude.{◌&&◌, if◌then◌else◌}
-use Rattle.fixed_point.specs.declared.TheConstants.{ALL}
+use Rattle.numbers.specs.declared.units.TheConstants.{ALL}
 use Rattle.gcl_core.specs.declared.answers.Fault.{Fault}
 use Rattle.gcl_core.specs.declared.answers.Fault.TheVariants.{Overflow, ZeroDivisor, BadBound}
 use Rattle.gcl_core.specs.declared.answers.Limit.TheVariants.{Turns, Attempts, Rounds}
@@ -12,13 +12,13 @@ use Rattle.gcl_core.specs.meaning.Outcomes.{outcome_of, zeros}
 use Rattle.gcl_core.specs.meaning.Syntax.{Expression, SourceProgram}
 use Rattle.gcl_core.specs.meaning.Value.{State, Value, value_of}
 use Rattle.gcl_core.specs.weighing.Mass.{ends_in, is_failed}
-use Rattle.rounding_law.specs.Down.{down}
-use Rattle.rounding_law.specs.Flows.{all_units}
-use Rattle.rounding_law.specs.Rounds.{round_units, end_units_of}
-use Rattle.rounding_law.specs.Units.{Units, held, total}
-use Rattle.rounding_law.proofs.Held.{held_none}
-use Rattle.enclosure_law.specs.Enclosures.{counts, fails_in}
-use Rattle.enclosure_law.specs.Enclosures as enclosures
+use Rattle.units_law.specs.Down.{down}
+use Rattle.units_law.specs.Flows.{all_units}
+use Rattle.units_law.specs.Rounds.{round_units, end_units_of}
+use Rattle.units_law.specs.Units.{Units, held, total}
+use Rattle.units_law.proofs.Held.{held_none}
+use Rattle.units_law.specs.Enclosures.{counts, fails_in}
+use Rattle.units_law.specs.Enclosures as enclosures
 use Rattle.enclose_fold.specs.declared.ended.Ended.{Ended}
 use Rattle.enclose_fold.specs.inner.Body.{BodyGives}
 use Rattle.enclose_fold.specs.inner.Ended.{units_of}

@@ -8,9 +8,9 @@ use Rattle.std.proofs.lemmas.Map.Entries.{length-keys_of}
 use Rattle.std.proofs.lemmas.Map.Views.{All-keys-insert_entry, All-turn}
 use Rattle.gcl_core.specs.meaning.Value.{State}
 use Rattle.mass_fold.specs.declared.table.TheConstants.{MOST_STATES}
-use Rattle.rounding_law.specs.Merged.{order, put, units_at, IsMerged}
-use Rattle.rounding_law.specs.Units.{Units}
-use Rattle.rounding_law.proofs.Merging.{put_merged}
+use Rattle.units_law.specs.Merged.{order, put, units_at, IsMerged}
+use Rattle.units_law.specs.Units.{Units}
+use Rattle.units_law.proofs.Merging.{put_merged}
 use Rattle.enclose_fold.proofs.Putting.{put_some}
 
 -- of the state that a walk comes to

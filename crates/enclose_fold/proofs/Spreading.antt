@@ -1,18 +1,18 @@
 -- A uniform draw of one state: its numbers, and the value of its bound.
 use Rattle.std.proofs.Common.{◌≡◌, ◌∙◌, ℕ, zero, suc, ◌+◌, ◌-◌, ◌*◌, ◌≤◌, ◌<◌, ℤ, pos, negsuc, ◌≤ℤ◌, Ok, Err, Option, [], ◌∷◌, ◌++◌, slice_set, refl, sym, ap, subst, arith}
 use Rattle.std.proofs.lemmas.Int.{ints}
-use Rattle.fixed_point.specs.declared.TheConstants.{ALL}
+use Rattle.numbers.specs.declared.units.TheConstants.{ALL}
 use Rattle.gcl_core.specs.declared.answers.Fault.{Fault}
 use Rattle.gcl_core.specs.declared.answers.Fault.TheVariants.{BadBound}
 use Rattle.gcl_core.specs.declared.answers.Limit.TheVariants.{Attempts}
 use Rattle.gcl_core.specs.meaning.Value.{State, Value}
 use Rattle.gcl_core.specs.meaning.Blocks.{End, fault, limit, by_value, by_bound}
 use Rattle.mass_fold.proofs.Bounds.{unsigned, IsBound}
-use Rattle.rounding_law.specs.Down.{share_of, rest_of}
-use Rattle.rounding_law.specs.Merged.{merged, IsMerged}
-use Rattle.rounding_law.specs.Units.{Units, held, total, below_units}
-use Rattle.rounding_law.proofs.Held.{held_append}
-use Rattle.rounding_law.proofs.Merging.{merged_same}
+use Rattle.units_law.specs.Down.{share_of, rest_of}
+use Rattle.units_law.specs.Merged.{merged, IsMerged}
+use Rattle.units_law.specs.Units.{Units, held, total, below_units}
+use Rattle.units_law.proofs.Held.{held_append}
+use Rattle.units_law.proofs.Merging.{merged_same}
 use Rattle.enclose_fold.specs.declared.error.EncloseError.{EncloseError}
 use Rattle.enclose_fold.specs.declared.ended.Ended.{Ended}
 use Rattle.enclose_fold.specs.inner.Ended.{EndsWith}

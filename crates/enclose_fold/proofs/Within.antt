@@ -1,17 +1,17 @@
 -- No draw makes units.
 use Rattle.std.proofs.Common.{◌≡◌, ℕ, ◌+◌, ◌*◌, ◌≤◌, ◌<◌, Option, Some, None, arith}
 use Rattle.std.proofs.Math.Nat.{mul-le-mul_left}
-use Rattle.fixed_point.specs.declared.TheConstants.{ALL}
+use Rattle.numbers.specs.declared.units.TheConstants.{ALL}
 use Rattle.gcl_core.specs.declared.answers.Limit.TheVariants.{Attempts}
 use Rattle.gcl_core.specs.meaning.Blocks.{limit}
 use Rattle.gcl_core.specs.meaning.Value.{State, Value}
-use Rattle.mass_tables.proofs.Draws.{each_part, no_part, all_parts, parts_add_up, all_parts_pos}
-use Rattle.rounding_law.specs.Down.{down}
-use Rattle.rounding_law.specs.Rounding.{LosesFew, class_units, rest_units, drawn_units, undrawn_units}
-use Rattle.rounding_law.specs.Units.{Units, total, end_units}
-use Rattle.rounding_law.proofs.Downs.{rounds_down, loses_one, loses_six}
-use Rattle.rounding_law.proofs.Held.{from_left}
-use Rattle.rounding_law.proofs.Losses.{class_total, rest_total, drawn_total, end_total}
+use Rattle.table_flow.proofs.Draws.{each_part, no_part, all_parts, parts_add_up, all_parts_pos}
+use Rattle.units_law.specs.Down.{down}
+use Rattle.units_law.specs.Rounding.{LosesFew, class_units, rest_units, drawn_units, undrawn_units}
+use Rattle.units_law.specs.Units.{Units, total, end_units}
+use Rattle.units_law.proofs.Downs.{rounds_down, loses_one, loses_six}
+use Rattle.units_law.proofs.Held.{from_left}
+use Rattle.units_law.proofs.Losses.{class_total, rest_total, drawn_total, end_total}
 
 pub loses : (r : Option ℕ) → (k : ℕ) × LosesFew k ALL r down
 loses None = (1, loses_one)

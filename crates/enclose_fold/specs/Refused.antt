@@ -1,13 +1,13 @@
 -- Why bounds are refused: for the peak, or where no limit of rounds is given and no unit of a round passes. Where then all units fail, so
 -- does the round; else it is not seen whether a round ever passes. This project's own rule.
 use Rattle.std.specs.Prelude.{◌≡◌, ℕ, ◌<◌, Option, None}
-use Rattle.fixed_point.specs.declared.TheConstants.{ALL}
+use Rattle.numbers.specs.declared.units.TheConstants.{ALL}
 use Rattle.gcl_core.specs.meaning.Syntax.{SourceProgram}
 use Rattle.gcl_core.specs.weighing.Fractions.{IsOne}
 use Rattle.gcl_core.specs.weighing.Mass.{failed_mass}
-use Rattle.mass_tables.specs.Tables.{peak_of}
+use Rattle.table_flow.specs.Tables.{peak_of}
 use Rattle.mass_fold.specs.declared.table.TheConstants.{MOST_STATES}
-use Rattle.enclosure_law.specs.Enclosures.{fails_in, NothingPasses}
+use Rattle.units_law.specs.Enclosures.{fails_in, NothingPasses}
 use Rattle.enclose_fold.specs.declared.error.EncloseError.{EncloseError}
 use Rattle.enclose_fold.specs.declared.error.EncloseError.TheVariants.{TooManyStates, AllFailed, TooUnlikely, OutOfMemory}
 

@@ -2,7 +2,7 @@
 
 ghost use Rattle.std.specs.Prelude.{◌≡◌, length, IfOk, IfErr};
 ghost use Rattle.gcl_core.specs.meaning.Views.{source_of};
-ghost use Rattle.mass_tables.specs.Tables.{peak_of};
+ghost use Rattle.table_flow.specs.Tables.{peak_of};
 ghost use Rattle.enclose_fold.specs.inner.Body.{BodyGives};
 ghost use Rattle.enclose_fold.specs.inner.Refusals.{Refuses};
 

@@ -1,16 +1,15 @@
 // The bounds of an outcome.
 
 ghost use Rattle.std.specs.Prelude.{◌≡◌, ◌≤◌, ◌<◌, ◌+◌};
-ghost use Rattle.fixed_point.specs.declared.TheConstants.{ALL};
+ghost use Rattle.numbers.specs.declared.units.TheConstants.{ALL};
 ghost use Rattle.gcl_core.specs.declared.answers.Limit.TheVariants.{Rounds};
 ghost use Rattle.gcl_core.specs.declared.answers.Outcome.TheVariants as outcome;
 ghost use Rattle.gcl_core.specs.meaning.Outcomes.{same_outcome};
-ghost use Rattle.enclosure_law.specs.Between.{whole_of, least_of};
+ghost use Rattle.units_law.specs.Between.{whole_of, least_of};
 ghost use Rattle.enclose_fold.specs.inner.Rows.{bounds_at, upper_of_rest};
 
 use crate::rounds::in_rounds;
-use fixed_point::{ALL, over_down, over_up};
-use frac128::Frac;
+use numbers::{ALL, Frac, over_down, over_up};
 use gcl_core::{Limit, Outcome};
 
 // Whether it is the limit of rounds.

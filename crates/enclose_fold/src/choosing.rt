@@ -1,13 +1,13 @@
 // The sides of a choice, and what no attempt of it decides.
 
 ghost use Rattle.std.specs.Prelude.{◌≡◌, ◌≤◌, ◌+◌, ◌-◌, IfOk, IfErr};
-ghost use Rattle.fixed_point.specs.declared.TheConstants.{ALL};
+ghost use Rattle.numbers.specs.declared.units.TheConstants.{ALL};
 ghost use Rattle.gcl_core.specs.declared.answers.Limit.TheVariants.{Attempts};
 ghost use Rattle.gcl_core.specs.meaning.Blocks.{limit};
-ghost use Rattle.rounding_law.specs.Down.{down};
-ghost use Rattle.rounding_law.specs.Merged.{merged};
-ghost use Rattle.rounding_law.specs.Rounding.{class_units, rest_units};
-ghost use Rattle.rounding_law.specs.Units.{total, end_units};
+ghost use Rattle.units_law.specs.Down.{down};
+ghost use Rattle.units_law.specs.Merged.{merged};
+ghost use Rattle.units_law.specs.Rounding.{class_units, rest_units};
+ghost use Rattle.units_law.specs.Units.{total, end_units};
 ghost use Rattle.enclose_fold.specs.declared.error.EncloseError.TheVariants.{OutOfMemory};
 ghost use Rattle.enclose_fold.specs.inner.Ended.{units_of, EndsWith};
 

@@ -1,15 +1,15 @@
 // Uniform draws on a table.
 
 ghost use Rattle.std.specs.Prelude.{◌≡◌, ◌≤◌, ◌<◌, ◌+◌, ◌++◌, ◌^◌, [], ◌∷◌, length, IfOk, OnOk, IfErr};
-ghost use Rattle.fixed_point.specs.declared.TheConstants.{ALL};
+ghost use Rattle.numbers.specs.declared.units.TheConstants.{ALL};
 ghost use Rattle.gcl_core.specs.declared.answers.Limit.TheVariants.{Attempts};
 ghost use Rattle.gcl_core.specs.meaning.Blocks.{limit};
 ghost use Rattle.gcl_core.specs.meaning.Views.{expression_of};
 ghost use Rattle.gcl_core.specs.meaning.Value.{value_of, ExpressionBelow};
-ghost use Rattle.rounding_law.specs.Down.{down, share_of, rest_of};
-ghost use Rattle.rounding_law.specs.Merged.{merged};
-ghost use Rattle.rounding_law.specs.Rounding.{drawn_units, undrawn_units};
-ghost use Rattle.rounding_law.specs.Units.{total, below_units};
+ghost use Rattle.units_law.specs.Down.{down, share_of, rest_of};
+ghost use Rattle.units_law.specs.Merged.{merged};
+ghost use Rattle.units_law.specs.Rounding.{drawn_units, undrawn_units};
+ghost use Rattle.units_law.specs.Units.{total, below_units};
 ghost use Rattle.enclose_fold.specs.inner.Ended.{units_of, EndsWith};
 ghost use Rattle.enclose_fold.specs.inner.Refusals.{RefusedAt};
 

@@ -1,15 +1,15 @@
 // Bounds of the masses of a program.
 
 ghost use Rattle.std.specs.Prelude.{◌≡◌, ◌≤◌, ◌<◌, ℕ, IfOk, IfErr, IfSome, IfNone};
-ghost use Rattle.fixed_point.specs.declared.TheConstants.{ALL};
+ghost use Rattle.numbers.specs.declared.units.TheConstants.{ALL};
 ghost use Rattle.gcl_core.specs.declared.rules.TheConstants.{MOST_LIMIT};
 ghost use Rattle.gcl_core.specs.meaning.Views.{source_of};
 ghost use Rattle.gcl_core.specs.weighing.Fractions.{IsBelowOne};
 ghost use Rattle.gcl_core.specs.weighing.Mass.{failed_mass};
 ghost use Rattle.mass_fold.specs.Refused.{IsLimit};
-ghost use Rattle.mass_tables.specs.Tables.{peak_of};
-ghost use Rattle.enclosure_law.specs.Enclosures.{AreEnclosures, SomePasses, upper_of_others};
-ghost use Rattle.enclosure_law.specs.Holding.{IsFor, MayEnd, Enclose, AreClose, most_apart};
+ghost use Rattle.table_flow.specs.Tables.{peak_of};
+ghost use Rattle.units_law.specs.Enclosures.{AreEnclosures, SomePasses, upper_of_others};
+ghost use Rattle.units_law.specs.Holding.{IsFor, MayEnd, Enclose, AreClose, most_apart};
 ghost use Rattle.enclose_fold.specs.declared.error.EncloseError.TheVariants.{AllFailed, TooUnlikely};
 ghost use Rattle.enclose_fold.specs.Refused.{EncloseRefused};
 ghost use Rattle.enclose_fold.specs.inner.Outcomes.{RoundGives};
@@ -20,12 +20,11 @@ use crate::bounding::Round;
 use crate::error::EncloseError;
 use crate::outcomes::{all_units, outcome_units, passing};
 use crate::rows::bound_rows;
-use enclosure_law::{bounds_are_as_wide_as_what_is_lost, masses_lie_between};
-use fixed_point::ALL;
+use units_law::{bounds_are_as_wide_as_what_is_lost, masses_lie_between, products_are_rounded_down, units_are_lost_by_rounding};
+use numbers::ALL;
 use gcl_core::{Checked, Outcome, outcomes_are_ordered};
 use mass_fold::is_ordered;
 use posterior_bounds::Bounds;
-use rounding_law::{products_are_rounded_down, units_are_lost_by_rounding};
 use std::alloc::Global;
 use std::collections::BTreeMap;
 

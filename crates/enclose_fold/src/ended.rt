@@ -1,10 +1,10 @@
 // What has ended, by the way it ended.
 
 ghost use Rattle.std.specs.Prelude.{◌≡◌, ◌≤◌, ◌+◌, [], ◌∷◌};
-ghost use Rattle.fixed_point.specs.declared.TheConstants.{ALL};
+ghost use Rattle.numbers.specs.declared.units.TheConstants.{ALL};
 ghost use Rattle.gcl_core.specs.declared.answers.Limit.TheVariants.{Turns, Attempts};
 ghost use Rattle.gcl_core.specs.meaning.Blocks.{failed, fault, limit};
-ghost use Rattle.rounding_law.specs.Units.{total};
+ghost use Rattle.units_law.specs.Units.{total};
 ghost use Rattle.enclose_fold.specs.inner.Ended.{units_of, EndsWith, IsNone};
 
 use gcl_core::Fault;

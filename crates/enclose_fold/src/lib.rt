@@ -1,6 +1,6 @@
 //! Bounds of masses, by merged tables of states whose weights are rounded down to units of 2^-120.
 //!
-//! Proved: the rows of `enclose` are exactly those of `enclosure_law`, outcomes ascending (`rows`, `other`). Each mass lies
+//! Proved: the rows of `enclose` are exactly those of `units_law`, outcomes ascending (`rows`, `other`). Each mass lies
 //! between its two bounds (`enclose`), for all turns at every greater limit of turns too, where without a limit of rounds a round
 //! fails with probability below 1; and these are no further apart than the bound of the others and a few units (`close`). It is
 //! never refused for its width: but for want of memory, only where a point has more than 65,536 states, or where rounds have no

@@ -2,12 +2,12 @@
 
 ghost use Rattle.std.specs.Prelude.{◌≡◌, ◌≤◌, ◌^◌, ◌-◌, IfSome};
 ghost use Rattle.std.proofs.Props.{props};
-ghost use Rattle.fixed_point.specs.declared.TheConstants.{ALL};
-ghost use Rattle.rounding_law.specs.Down.{share_of, rest_of, again_down, again_up};
+ghost use Rattle.numbers.specs.declared.units.TheConstants.{ALL};
+ghost use Rattle.units_law.specs.Down.{share_of, rest_of, again_down, again_up};
 ghost use Rattle.enclose_fold.specs.inner.Odds.{AreDecided};
 
 use draw_tree::bits_for;
-use fixed_point::{ALL, part_down, power_down, power_up, share_down};
+use numbers::{ALL, part_down, power_down, power_up, share_down};
 
 /// A draw among `bound` numbers, by at most so many attempts, or by as many as it takes. `some` are the units of one whole that an
 /// attempt decides, and `none` those that none does, both rounded down.

@@ -1,10 +1,10 @@
 // The outcomes of a round, each with its units.
 
 ghost use Rattle.std.specs.Prelude.{◌≡◌, ◌≤◌, ◌+◌, IfOk, OnOk, IfErr, if◌then◌else◌};
-ghost use Rattle.fixed_point.specs.declared.TheConstants.{ALL};
+ghost use Rattle.numbers.specs.declared.units.TheConstants.{ALL};
 ghost use Rattle.gcl_core.specs.meaning.Value.{ExpressionBelow};
 ghost use Rattle.gcl_core.specs.meaning.Views.{expression_of};
-ghost use Rattle.rounding_law.specs.Units.{total};
+ghost use Rattle.units_law.specs.Units.{total};
 ghost use Rattle.enclose_fold.specs.declared.error.EncloseError.TheVariants.{OutOfMemory};
 ghost use Rattle.enclose_fold.specs.inner.Ended.{units_of};
 ghost use Rattle.enclose_fold.specs.inner.Outcomes.{found, Adds, AddsResults, AreOutcomes};

@@ -1,10 +1,10 @@
 // What some rounds give, from one.
 
 ghost use Rattle.std.specs.Prelude.{◌≡◌, ◌≤◌, ◌+◌};
-ghost use Rattle.fixed_point.specs.declared.TheConstants.{ALL};
-ghost use Rattle.enclosure_law.specs.SomeRounds.{followed, in_rounds};
+ghost use Rattle.numbers.specs.declared.units.TheConstants.{ALL};
+ghost use Rattle.units_law.specs.SomeRounds.{followed, in_rounds};
 
-use fixed_point::{ALL, share_down};
+use numbers::{ALL, share_down};
 
 // The rounds of `a`, and then those of `b` where all of `a` failed: the units of what fails in all of them, and of what outcomes have
 // in them.

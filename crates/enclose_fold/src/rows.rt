@@ -1,13 +1,13 @@
 // The rows of bounds.
 
 ghost use Rattle.std.specs.Prelude.{◌≡◌, ◌++◌, [], IfOk, OnOk, IfErr};
-ghost use Rattle.rounding_law.specs.Units.{total};
+ghost use Rattle.units_law.specs.Units.{total};
 ghost use Rattle.enclose_fold.specs.declared.error.EncloseError.TheVariants.{OutOfMemory};
 ghost use Rattle.enclose_fold.specs.inner.Rows.{with_row, rows_of};
 
 use crate::bounding::Round;
 use crate::error::EncloseError;
-use frac128::Frac;
+use numbers::Frac;
 use gcl_core::Outcome;
 use posterior_bounds::BoundRows;
 use std::alloc::Global;

@@ -1,12 +1,12 @@
 // What one statement makes of a table.
 
 ghost use Rattle.std.specs.Prelude.{◌≡◌, ◌≤◌, ◌<◌, ◌+◌, ◌++◌, IfOk, OnOk, IfErr};
-ghost use Rattle.fixed_point.specs.declared.TheConstants.{ALL};
+ghost use Rattle.numbers.specs.declared.units.TheConstants.{ALL};
 ghost use Rattle.gcl_core.specs.meaning.Views.{expression_of};
 ghost use Rattle.gcl_core.specs.meaning.Value.{value_of, ExpressionBelow};
-ghost use Rattle.mass_tables.specs.Tables.{holds, fails};
-ghost use Rattle.rounding_law.specs.Merged.{merged};
-ghost use Rattle.rounding_law.specs.Units.{total, set_units, only_units, fault_units};
+ghost use Rattle.table_flow.specs.Tables.{holds, fails};
+ghost use Rattle.units_law.specs.Merged.{merged};
+ghost use Rattle.units_law.specs.Units.{total, set_units, only_units, fault_units};
 ghost use Rattle.enclose_fold.specs.declared.error.EncloseError.TheVariants.{OutOfMemory};
 ghost use Rattle.enclose_fold.specs.inner.Ended.{units_of, EndsWith};
 ghost use Rattle.enclose_fold.specs.inner.Refusals.{RefusedAt};

@@ -3,16 +3,16 @@
 ghost use Rattle.std.specs.Prelude.{◌≡◌, ◌≤◌, ◌<◌, ◌+◌, [], ◌∷◌, length, All, OnOk, OnErr, IfOk, IfErr};
 ghost use Rattle.std.specs.BTreeMap.{keys};
 ghost use Rattle.std.proofs.Props.{props};
-ghost use Rattle.fixed_point.specs.declared.TheConstants.{ALL};
+ghost use Rattle.numbers.specs.declared.units.TheConstants.{ALL};
 ghost use Rattle.gcl_core.specs.meaning.Outcomes.{zeros};
 ghost use Rattle.mass_fold.specs.declared.table.TheConstants.{MOST_STATES};
-ghost use Rattle.rounding_law.specs.Merged.{IsMerged, put};
-ghost use Rattle.rounding_law.specs.Units.{total};
+ghost use Rattle.units_law.specs.Merged.{IsMerged, put};
+ghost use Rattle.units_law.specs.Units.{total};
 ghost use Rattle.enclose_fold.specs.declared.error.EncloseError.TheVariants.{OutOfMemory};
 ghost use Rattle.enclose_fold.specs.inner.Refusals.{Refuses};
 
 use crate::error::EncloseError;
-use fixed_point::ALL;
+use numbers::ALL;
 use mass_fold::{MOST_STATES, State};
 use std::alloc::Global;
 use std::collections::BTreeMap;

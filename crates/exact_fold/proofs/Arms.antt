@@ -5,26 +5,26 @@ use Rattle.gcl_core.specs.meaning.Blocks.{End}
 use Rattle.gcl_core.specs.meaning.Syntax.{Statements, ArmList, no_arm, arm}
 use Rattle.gcl_core.specs.weighing.Fractions.{Fraction, zero_share, plus}
 use Rattle.gcl_core.specs.weighing.WeightedEnds.{Weighted, scaled, class_weight}
-use Rattle.frac128.specs.Fraction.{IsEqual}
-use Rattle.frac128.proofs.Divisors.{equal_trans}
-use Rattle.mass_tables.specs.Tables.{Table}
-use Rattle.mass_tables.specs.Width.{weights}
-use Rattle.mass_tables.specs.Counts.{all_kept, none_stopped}
-use Rattle.mass_tables.proofs.Amounts.{all_first, all_second}
-use Rattle.mass_tables.proofs.Denominators.{weights_whole}
-use Rattle.mass_tables.proofs.Positive.{p_scaled, a_append, weights_positive}
+use Rattle.numbers.specs.Fraction.{IsEqual}
+use Rattle.numbers.proofs.Divisors.{equal_trans}
+use Rattle.table_flow.specs.Tables.{Table}
+use Rattle.table_flow.specs.Width.{weights}
+use Rattle.table_flow.specs.Counts.{all_kept, none_stopped}
+use Rattle.table_flow.proofs.Amounts.{all_first, all_second}
+use Rattle.table_flow.proofs.Denominators.{weights_whole}
+use Rattle.table_flow.proofs.Positive.{p_scaled, a_append, weights_positive}
 use Rattle.mass_fold.specs.declared.ended.Ended.{Ended}
 use Rattle.mass_fold.specs.inner.Amounts.{Entries}
 use Rattle.mass_fold.specs.inner.Ended.{rows_of}
 use Rattle.mass_fold.specs.inner.Steps.{StepsTo}
 use Rattle.mass_fold.specs.inner.Fold.{WeighedBy}
 use Rattle.mass_fold.proofs.Sides.{count_equal}
-use Rattle.loop_law.specs.Alike.{AreFractions, Alike}
-use Rattle.loop_law.specs.Settling.{Outflow, IsOutflow, BlockSettles, ArmsSettle}
-use Rattle.loop_law.proofs.Likeness.{alike_trans}
+use Rattle.unlimited_law.specs.Alike.{AreFractions, Alike}
+use Rattle.unlimited_law.specs.Settling.{Outflow, IsOutflow, BlockSettles, ArmsSettle}
+use Rattle.unlimited_law.proofs.Likeness.{alike_trans}
 use Rattle.exact_fold.specs.inner.Settled.{as_table, AreAbove, AreUnlimited, SettlesFrom}
-use Rattle.loop_law.proofs.BlockLimits.{behind_fractions}
-use Rattle.loop_law.proofs.ByState.{append_fractions}
+use Rattle.unlimited_law.proofs.BlockLimits.{behind_fractions}
+use Rattle.unlimited_law.proofs.ByState.{append_fractions}
 use Rattle.exact_fold.proofs.SameLists.{alike_refl, alike_append, alike_chain, product_some}
 use Rattle.exact_fold.proofs.SameInputs.{block_from}
 use Rattle.exact_fold.proofs.Unlimited.{unlimited_append}

@@ -6,8 +6,8 @@ use Rattle.gcl_core.specs.meaning.Syntax.{Statement, Skip, Set, If, While, Choic
 use Rattle.gcl_core.specs.meaning.Blocks.{End, on, failed, fault, limit, by_value}
 use Rattle.gcl_core.specs.meaning.Value.{State, Value, value_of}
 use Rattle.gcl_core.specs.weighing.WeightedEnds.{Weighted, scaled, taken_on, class_weight, statement_weighted}
-use Rattle.mass_tables.specs.Tables.{Table, gone, faults, holds, fails, only, statement_flow, block_flow, arms_flow}
-use Rattle.loop_law.specs.LoopFree.{StatementFree, BlockFree, ArmsFree}
+use Rattle.table_flow.specs.Tables.{Table, gone, faults, holds, fails, only, statement_flow, block_flow, arms_flow}
+use Rattle.unlimited_law.specs.LoopFree.{StatementFree, BlockFree, ArmsFree}
 use Rattle.exact_fold.specs.Loops.{one_loops, any_loops, arm_loops}
 use Rattle.exact_fold.specs.inner.Settled.{AreUnlimited}
 use Rattle.exact_fold.proofs.Unlimited.{skip_unlimited, set_unlimited, observe_unlimited, draw_unlimited}

@@ -2,14 +2,14 @@
 use Rattle.std.proofs.Common.{◌≡◌, ℕ, ◌+◌, ◌*◌, ◌-◌, ◌<◌, ◌≤◌, Bool, true, false, not, Ok, Err, [], ◌∷◌, ◌++◌, None, map, length, refl, sym, ap, ◌∙◌, subst, arith}
 use Rattle.std.proofs.Math.Nat.{le_refl, lt_of_mul-lt-mul_left, mul-lt-mul_of_pos_right, le_of_mul-le-mul_right}
 use Rattle.std.specs.Prelude.{Contains}
-use Rattle.frac128.specs.Fraction.{IsEqual, InLowest}
-use Rattle.frac128.proofs.Divisors.{cancel, product_pos}
+use Rattle.numbers.specs.Fraction.{IsEqual, InLowest}
+use Rattle.numbers.proofs.Divisors.{cancel, product_pos}
 use Rattle.gcl_core.specs.declared.answers.Limit.{Limit}
 use Rattle.gcl_core.specs.declared.answers.Limit.TheVariants.{Turns, Attempts, Rounds}
 use Rattle.gcl_core.specs.declared.answers.Outcome.{Outcome}
 use Rattle.gcl_core.specs.declared.answers.Outcome.TheVariants as outcome
 use Rattle.gcl_core.specs.meaning.Blocks.{End, on, failed, fault, limit}
-use Rattle.gcl_core.specs.meaning.Keeping.{IsChecked}
+use Rattle.gcl_core.specs.meaning.Checked.{IsChecked}
 use Rattle.gcl_core.specs.meaning.Outcomes.{same_outcome, zeros}
 use Rattle.gcl_core.specs.meaning.Syntax.{SourceProgram}
 use Rattle.gcl_core.specs.weighing.Fractions.{Fraction, one, plus, times, AtMost, IsBelowOne, IsOne, divided_by_rest}
@@ -17,15 +17,15 @@ use Rattle.gcl_core.specs.weighing.Mass.{sum_of, ends_in, is_failed, mass_of, fa
 use Rattle.gcl_core.specs.weighing.WeightedEnds.{Weighted, sure, weighted_ends}
 use Rattle.gcl_core.proofs.Accepted.{checked_weights}
 use Rattle.gcl_core.proofs.TreeWeights.{chi}
-use Rattle.mass_tables.specs.Scale.{Wholes, WholeAtWidth, amount, weight}
-use Rattle.mass_tables.specs.Tables.{tables_of, peak_of}
-use Rattle.mass_tables.specs.Width.{round_width}
-use Rattle.mass_tables.proofs.AtWidth.{at_width}
-use Rattle.mass_tables.proofs.Kept.{kept_all}
-use Rattle.mass_tables.proofs.Linear.{sum_amount}
-use Rattle.mass_tables.proofs.Positive.{p_all}
-use Rattle.mass_tables.proofs.Wholes.{whole_from}
-use Rattle.mass_tables.proofs.Masses.{last_few}
+use Rattle.table_flow.specs.Scale.{Wholes, WholeAtWidth, amount, weight}
+use Rattle.table_flow.specs.Tables.{tables_of, peak_of}
+use Rattle.table_flow.specs.Width.{round_width}
+use Rattle.table_flow.proofs.AtWidth.{at_width}
+use Rattle.table_flow.proofs.Kept.{kept_all}
+use Rattle.table_flow.proofs.Linear.{sum_amount}
+use Rattle.table_flow.proofs.Positive.{p_all}
+use Rattle.table_flow.proofs.Wholes.{whole_from}
+use Rattle.table_flow.proofs.Masses.{last_few}
 use Rattle.posterior_bounds.proofs.LowestTerms.{lowest_same}
 use Rattle.mass_fold.specs.Rows.{Rows, AreMasses}
 use Rattle.mass_fold.proofs.OutcomeRows.{lowest_is}
@@ -34,14 +34,14 @@ use Rattle.weighing_law.proofs.Shares.{counts_sum, factor_pos}
 use Rattle.posterior_bounds.proofs.EntrySums.{whole_at}
 use Rattle.posterior_bounds.proofs.Growth.{scale, scale_pos, growth}
 use Rattle.posterior_bounds.proofs.OneLimit.{Sums}
-use Rattle.loop_law.specs.LoopFree.{BlockFree, flowed_out}
-use Rattle.loop_law.specs.Settling.{Outflow}
-use Rattle.loop_law.specs.SettledMasses.{ProgramSettles, IsNear, MassTends, EndlessTends, over, settled_weight, settled_failed, settled_mass, endless_mass, runs_out}
-use Rattle.loop_law.proofs.BlockLimits.{all_fractions, all_positive, table_near}
-use Rattle.loop_law.proofs.SameWeights.{sum_some}
-use Rattle.loop_law.proofs.EndlessLimits.{endless_tends}
-use Rattle.loop_law.proofs.FreeBlocks.{block_free}
-use Rattle.loop_law.proofs.ProgramLimits.{mass_tends, above_one}
+use Rattle.unlimited_law.specs.LoopFree.{BlockFree, flowed_out}
+use Rattle.unlimited_law.specs.Settling.{Outflow}
+use Rattle.unlimited_law.specs.SettledMasses.{ProgramSettles, IsNear, MassTends, EndlessTends, over, settled_weight, settled_failed, settled_mass, endless_mass, runs_out}
+use Rattle.unlimited_law.proofs.BlockLimits.{all_fractions, all_positive, table_near}
+use Rattle.unlimited_law.proofs.SameWeights.{sum_some}
+use Rattle.unlimited_law.proofs.EndlessLimits.{endless_tends}
+use Rattle.unlimited_law.proofs.FreeBlocks.{block_free}
+use Rattle.unlimited_law.proofs.ProgramLimits.{mass_tends, above_one}
 use Rattle.exact_fold.specs.Exact.{all_of, IsExact}
 use Rattle.exact_fold.specs.Refused.{FailsAlways}
 use Rattle.exact_fold.specs.inner.Settled.{AreUnlimited}

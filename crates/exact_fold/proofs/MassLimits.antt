@@ -1,25 +1,25 @@
 -- Exact masses are limits of the masses at n turns, and lie within the bounds of every limit of turns.
 use Rattle.std.proofs.Common.{◌≡◌, ℕ, zero, suc, ◌+◌, ◌-◌, ◌*◌, ◌≤◌, ◌<◌, true, false, None, refl, sym, ap, ◌∙◌, subst, arith}
 use Rattle.std.proofs.Math.Nat.{mul-le-mul_right, le_of_mul-le-mul_right}
-use Rattle.frac128.specs.Fraction.{IsEqual, lowest}
-use Rattle.frac128.proofs.Divisors.{lowest_in_lowest, lowest_equal}
+use Rattle.numbers.specs.Fraction.{IsEqual, lowest}
+use Rattle.numbers.proofs.Divisors.{lowest_in_lowest, lowest_equal}
 use Rattle.gcl_core.specs.declared.answers.Limit.TheVariants.{Turns}
 use Rattle.gcl_core.specs.declared.answers.Outcome.{Outcome}
 use Rattle.gcl_core.specs.declared.answers.Outcome.TheVariants as outcome
-use Rattle.gcl_core.specs.meaning.Keeping.{IsChecked}
+use Rattle.gcl_core.specs.meaning.Checked.{IsChecked}
 use Rattle.gcl_core.specs.meaning.Outcomes.{same_outcome}
 use Rattle.gcl_core.specs.meaning.Syntax.{SourceProgram}
 use Rattle.gcl_core.specs.weighing.Fractions.{Fraction, plus, AtMost, IsBelowOne}
 use Rattle.gcl_core.specs.weighing.Mass.{mass_of, round_mass}
 use Rattle.gcl_core.proofs.Accepted.{checked_weights}
-use Rattle.mass_tables.proofs.EqualFractions.{equal_plus}
+use Rattle.table_flow.proofs.EqualFractions.{equal_plus}
 use Rattle.mass_fold.specs.Rows.{Rows}
 use Rattle.posterior_bounds.specs.PosteriorBounds.{is_settled, fails, lower_of, upper_of}
 use Rattle.posterior_bounds.specs.Holding.{BoundsHold}
-use Rattle.loop_law.specs.SettledMasses.{settled_failed, settled_mass, gap, nth_part, IsNear, MassTends, EndlessTends, endless_mass}
-use Rattle.loop_law.proofs.EndlessLimits.{endless_tends}
-use Rattle.loop_law.proofs.OneLimit.{parts_vanish, through}
-use Rattle.loop_law.proofs.ProgramLimits.{mass_tends}
+use Rattle.unlimited_law.specs.SettledMasses.{settled_failed, settled_mass, gap, nth_part, IsNear, MassTends, EndlessTends, endless_mass}
+use Rattle.unlimited_law.proofs.EndlessLimits.{endless_tends}
+use Rattle.unlimited_law.proofs.OneLimit.{parts_vanish, through}
+use Rattle.unlimited_law.proofs.ProgramLimits.{mass_tends}
 use Rattle.exact_fold.specs.Exact.{IsExact}
 use Rattle.exact_fold.specs.Limits.{AreLimits, LieWithin, rate_of}
 

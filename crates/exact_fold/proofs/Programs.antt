@@ -5,14 +5,14 @@ use Rattle.gcl_core.specs.meaning.Syntax.{SourceProgram}
 use Rattle.mass_fold.specs.declared.ended.Ended.{Ended}
 use Rattle.mass_fold.specs.inner.Amounts.{Entries}
 use Rattle.mass_fold.specs.inner.Ended.{rows_of, IsNone}
-use Rattle.loop_law.specs.Alike.{Alike}
-use Rattle.loop_law.specs.Settling.{BlockSettles}
-use Rattle.loop_law.proofs.Numbers.{same_refl, same_trans, add_same, nought_add}
-use Rattle.loop_law.proofs.Integrals.{integral, integral_append}
-use Rattle.loop_law.proofs.SameWeights.{alike_integral}
+use Rattle.unlimited_law.specs.Alike.{Alike}
+use Rattle.unlimited_law.specs.Settling.{BlockSettles}
+use Rattle.unlimited_law.proofs.Numbers.{same_refl, same_trans, add_same, nought_add}
+use Rattle.unlimited_law.proofs.Integrals.{integral, integral_append}
+use Rattle.unlimited_law.proofs.SameWeights.{alike_integral}
 use Rattle.exact_fold.specs.inner.Settled.{as_table, SettlesFrom, ProgramSettlesTo}
 use Rattle.exact_fold.specs.inner.Turning.{NothingIn}
-use Rattle.loop_law.proofs.BlockLimits.{behind_fractions}
+use Rattle.unlimited_law.proofs.BlockLimits.{behind_fractions}
 use Rattle.exact_fold.proofs.SameLists.{alike_of}
 use Rattle.exact_fold.proofs.Turns.{nothing_counts, none_fractions}
 

@@ -11,11 +11,11 @@ use Rattle.gcl_core.specs.meaning.Value.{Value, value_of}
 use Rattle.gcl_core.specs.weighing.WeightedEnds.{Weighted}
 use Rattle.gcl_core.specs.weighing.Fractions.{Fraction, one, plus, divided_by_rest}
 use Rattle.gcl_core.specs.weighing.Mass.{sum_of, ends_in, is_failed}
-use Rattle.frac128.specs.Fraction.{IsEqual, InLowest, lowest}
-use Rattle.frac128.proofs.Divisors.{product_pos, cancel}
-use Rattle.mass_tables.specs.Scale.{whole, amount}
-use Rattle.mass_tables.proofs.Amounts.{amount_ext}
-use Rattle.mass_tables.proofs.Linear.{sum_amount}
+use Rattle.numbers.specs.Fraction.{IsEqual, InLowest, lowest}
+use Rattle.numbers.proofs.Divisors.{product_pos, cancel}
+use Rattle.table_flow.specs.Scale.{whole, amount}
+use Rattle.table_flow.proofs.Amounts.{amount_ext}
+use Rattle.table_flow.proofs.Linear.{sum_amount}
 use Rattle.mass_fold.specs.declared.ended.Ended.{Ended}
 use Rattle.mass_fold.specs.Amounts.{held, AreHeld}
 use Rattle.mass_fold.specs.inner.Amounts.{Entries}
@@ -26,10 +26,10 @@ use Rattle.mass_fold.specs.inner.Rounds.{TableParts, OverRest}
 use Rattle.mass_fold.specs.Rows.{Rows}
 use Rattle.mass_fold.proofs.OutcomeRows.{rows_are, one_value, lowest_is}
 use Rattle.mass_fold.proofs.Rest.{rest_above}
-use Rattle.loop_law.specs.Alike.{AreFractions, Alike}
-use Rattle.loop_law.specs.Settling.{Outflow}
-use Rattle.loop_law.specs.SettledMasses.{ProgramSettles, over, settled_weight, settled_failed, rest_of_one, runs_out}
-use Rattle.loop_law.proofs.SameWeights.{sum_some}
+use Rattle.unlimited_law.specs.Alike.{AreFractions, Alike}
+use Rattle.unlimited_law.specs.Settling.{Outflow}
+use Rattle.unlimited_law.specs.SettledMasses.{ProgramSettles, over, settled_weight, settled_failed, rest_of_one, runs_out}
+use Rattle.unlimited_law.proofs.SameWeights.{sum_some}
 use Rattle.exact_fold.specs.Exact.{all_of, IsExact}
 use Rattle.exact_fold.specs.Refused.{FailsAlways}
 use Rattle.exact_fold.specs.inner.Settled.{as_table, AreAbove, IsUnlimited, AreUnlimited}

@@ -1,8 +1,8 @@
 -- Rows of masses without limits of attempts and of rounds add up to 1.
 use Rattle.std.proofs.Common.{◌≡◌, ℕ, zero, suc, ◌+◌, ◌*◌, ◌<◌, Bool, true, cond, [], ◌∷◌, None, length, slice_index_or, refl, sym, ap, ◌∙◌, subst, arith}
 use Rattle.std.specs.Prelude.{All, Contains}
-use Rattle.frac128.specs.Fraction.{lowest}
-use Rattle.frac128.proofs.Divisors.{lowest_equal, cancel}
+use Rattle.numbers.specs.Fraction.{lowest}
+use Rattle.numbers.proofs.Divisors.{lowest_equal, cancel}
 use Rattle.gcl_core.specs.declared.answers.Outcome.{Outcome}
 use Rattle.gcl_core.specs.declared.answers.Outcome.TheVariants as outcome
 use Rattle.gcl_core.specs.meaning.Blocks.{End, on, failed, fault, limit}

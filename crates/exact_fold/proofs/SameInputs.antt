@@ -8,12 +8,12 @@ use Rattle.gcl_core.specs.meaning.Syntax.{Statement, Skip, Set, If, While, Choic
 use Rattle.gcl_core.specs.meaning.Value.{State, Value, value_of}
 use Rattle.gcl_core.specs.weighing.Fractions.{Fraction, zero_share}
 use Rattle.gcl_core.specs.weighing.WeightedEnds.{Weighted, scaled, taken_on, class_weight, statement_weighted}
-use Rattle.mass_tables.specs.Tables.{Table, going_on, gone, holds, fails, only, faults}
-use Rattle.mass_tables.proofs.Positive.{Positive, p_one}
-use Rattle.loop_law.specs.Alike.{AreFractions, Alike}
-use Rattle.loop_law.specs.Settling.{Outflow, IsOutflow, LoopSettles, StatementSettles, BlockSettles, ArmsSettle}
-use Rattle.loop_law.proofs.BlockLimits.{all_fractions, all_positive, behind_fractions}
-use Rattle.loop_law.proofs.Likeness.{alike_trans}
+use Rattle.table_flow.specs.Tables.{Table, going_on, gone, holds, fails, only, faults}
+use Rattle.table_flow.proofs.Positive.{Positive, p_one}
+use Rattle.unlimited_law.specs.Alike.{AreFractions, Alike}
+use Rattle.unlimited_law.specs.Settling.{Outflow, IsOutflow, LoopSettles, StatementSettles, BlockSettles, ArmsSettle}
+use Rattle.unlimited_law.proofs.BlockLimits.{all_fractions, all_positive, behind_fractions}
+use Rattle.unlimited_law.proofs.Likeness.{alike_trans}
 use Rattle.exact_fold.proofs.SameLists.{alike_refl, alike_append, alike_scaled, alike_going, alike_gone, alike_only, alike_faults}
 
 pub outflow_from : (f : Outflow) (after after' : Table) (gone gone' : Weighted End) (cost : Fraction) → Alike after after' → Alike gone gone' → IsOutflow Alike Alike f after gone cost → IsOutflow Alike Alike f after' gone' cost

@@ -5,16 +5,16 @@ use Rattle.gcl_core.specs.meaning.Blocks.{End, on, failed, fault, limit, by_valu
 use Rattle.gcl_core.specs.weighing.Fractions.{Fraction}
 use Rattle.gcl_core.specs.weighing.Mass.{sum_of}
 use Rattle.gcl_core.specs.weighing.WeightedEnds.{Weighted, scaled, taken_on}
-use Rattle.mass_tables.specs.Tables.{Table, going_on, gone, only, faults}
-use Rattle.loop_law.specs.Alike.{AreFractions, Alike}
-use Rattle.loop_law.proofs.Numbers.{Rational, ◌⊕◌, ◌⊗◌, ◌≃◌, nought, same_refl, same_sym, same_trans, add_same, times_same, times_nought, nought_add}
-use Rattle.loop_law.proofs.FractionNumbers.{of, equal_of}
+use Rattle.table_flow.specs.Tables.{Table, going_on, gone, only, faults}
+use Rattle.unlimited_law.specs.Alike.{AreFractions, Alike}
+use Rattle.unlimited_law.proofs.Numbers.{Rational, ◌⊕◌, ◌⊗◌, ◌≃◌, nought, same_refl, same_sym, same_trans, add_same, times_same, times_nought, nought_add}
+use Rattle.unlimited_law.proofs.FractionNumbers.{of, equal_of}
 use Rattle.weighing_law.proofs.Shares.{product_pos}
-use Rattle.loop_law.proofs.Integrals.{integral, integral_append, integral_scaled, integral_taken, stop}
-use Rattle.loop_law.proofs.BlockLimits.{behind_fractions}
-use Rattle.loop_law.proofs.ByState.{append_fractions, kept_fractions}
-use Rattle.loop_law.proofs.Covers.{sign, integral_kept}
-use Rattle.loop_law.proofs.SameWeights.{sum_some, sum_is, alike_integral}
+use Rattle.unlimited_law.proofs.Integrals.{integral, integral_append, integral_scaled, integral_taken, stop}
+use Rattle.unlimited_law.proofs.BlockLimits.{behind_fractions}
+use Rattle.unlimited_law.proofs.ByState.{append_fractions, kept_fractions}
+use Rattle.unlimited_law.proofs.Covers.{sign, integral_kept}
+use Rattle.unlimited_law.proofs.SameWeights.{sum_some, sum_is, alike_integral}
 
 pub alike_of : {A : Type 0} (m o : Weighted A) → AreFractions m → AreFractions o → ((F : A → Rational) → integral F m ≃ integral F o) → Alike m o
 alike_of m o f g h = record {

@@ -10,14 +10,14 @@ use Rattle.gcl_core.specs.meaning.Views.{list_of}
 use Rattle.gcl_core.specs.meaning.Value.{State, Value, value_of}
 use Rattle.gcl_core.specs.weighing.Fractions.{Fraction, zero_share, plus}
 use Rattle.gcl_core.specs.weighing.WeightedEnds.{Weighted}
-use Rattle.frac128.proofs.Divisors.{along_to}
-use Rattle.mass_tables.specs.Tables.{Table, Flow, states, most_states, holds, fails, only, faults, statement_flow}
-use Rattle.mass_tables.specs.Width.{common_denominator, weights, table_weights, fractions}
-use Rattle.mass_tables.specs.Scale.{Whole, AllWhole, Wholes, TablesWithin, Within, amount}
-use Rattle.mass_tables.specs.Counts.{kept_if, stopped, all_kept, none_stopped}
-use Rattle.mass_tables.proofs.Amounts.{all_first, all_second}
-use Rattle.mass_tables.proofs.Denominators.{AllPositive, common_positive, wholes_at, weights_whole}
-use Rattle.mass_tables.proofs.Positive.{Positive, p_one, a_append, weights_positive, fractions_positive}
+use Rattle.numbers.proofs.Divisors.{along_to}
+use Rattle.table_flow.specs.Tables.{Table, Flow, states, most_states, holds, fails, only, faults, statement_flow}
+use Rattle.table_flow.specs.Width.{common_denominator, weights, table_weights, fractions}
+use Rattle.table_flow.specs.Scale.{Whole, AllWhole, Wholes, TablesWithin, Within, amount}
+use Rattle.table_flow.specs.Counts.{kept_if, stopped, all_kept, none_stopped}
+use Rattle.table_flow.proofs.Amounts.{all_first, all_second}
+use Rattle.table_flow.proofs.Denominators.{AllPositive, common_positive, wholes_at, weights_whole}
+use Rattle.table_flow.proofs.Positive.{Positive, p_one, a_append, weights_positive, fractions_positive}
 use Rattle.mass_fold.specs.declared.ended.Ended.{Ended}
 use Rattle.mass_fold.specs.Amounts.{held, AreHeld}
 use Rattle.mass_fold.specs.inner.Amounts.{Entries}
@@ -25,10 +25,10 @@ use Rattle.mass_fold.specs.inner.Ended.{rows_of}
 use Rattle.mass_fold.specs.inner.Steps.{StepsTo}
 use Rattle.mass_fold.specs.inner.Fold.{Stands, EndStands, FoldsOne}
 use Rattle.mass_fold.proofs.Folds.{looked_first, looked_second, merged}
-use Rattle.loop_law.specs.Alike.{AreFractions, Alike}
-use Rattle.loop_law.specs.Settling.{Outflow, IsOutflow, StatementSettles, BlockSettles}
-use Rattle.loop_law.proofs.BlockLimits.{all_fractions, behind_fractions, all_positive}
-use Rattle.loop_law.proofs.ByState.{alike_amounts}
+use Rattle.unlimited_law.specs.Alike.{AreFractions, Alike}
+use Rattle.unlimited_law.specs.Settling.{Outflow, IsOutflow, StatementSettles, BlockSettles}
+use Rattle.unlimited_law.proofs.BlockLimits.{all_fractions, behind_fractions, all_positive}
+use Rattle.unlimited_law.proofs.ByState.{alike_amounts}
 use Rattle.exact_fold.specs.inner.Settled.{as_table, AreAbove, AreUnlimited, SettlesFrom}
 use Rattle.exact_fold.proofs.SameLists.{alike_refl, alike_chain, product_some}
 use Rattle.exact_fold.proofs.SameInputs.{block_from}

@@ -8,7 +8,7 @@ use Rattle.gcl_core.specs.declared.answers.Limit.TheVariants.{Turns}
 use Rattle.gcl_core.specs.declared.answers.Limits.{Limits}
 use Rattle.gcl_core.specs.declared.answers.Outcome.{Outcome}
 use Rattle.gcl_core.specs.declared.answers.Outcome.TheVariants as outcome
-use Rattle.gcl_core.specs.meaning.Keeping.{IsChecked}
+use Rattle.gcl_core.specs.meaning.Checked.{IsChecked}
 use Rattle.gcl_core.specs.meaning.Outcomes.{same_outcome}
 use Rattle.gcl_core.specs.meaning.Runs.{run_on}
 use Rattle.gcl_core.specs.meaning.Syntax.{SourceProgram}
@@ -20,15 +20,15 @@ use Rattle.weighing_law.specs.Weighing.{limited_mass, WeighsExactly}
 use Rattle.weighing_law.proofs.LimitsLaw.{limits_cost}
 use Rattle.weighing_law.proofs.Shares.{product_pos}
 use Rattle.weighing_law.proofs.WeighingLaw.{weighs_exactly}
-use Rattle.cut_off_law.proofs.CutOffLaw.{cut_off_vanishes}
-use Rattle.cut_off_law.proofs.Fractions.{at_most_then, at_most_plus}
+use Rattle.weighing_law.proofs.CutOffLaw.{cut_off_vanishes}
+use Rattle.weighing_law.proofs.Fractions.{at_most_then, at_most_plus}
 use Rattle.mass_fold.specs.Rows.{Rows}
 use Rattle.posterior_bounds.specs.ComingTogether.{AreGreat}
 use Rattle.posterior_bounds.specs.PosteriorBounds.{is_settled, fails}
 use Rattle.posterior_bounds.specs.StringBounds.{weight_at}
 use Rattle.posterior_bounds.proofs.Between.{share_below}
 use Rattle.posterior_bounds.proofs.StringBounds.{lies_between}
-use Rattle.loop_law.specs.SettledMasses.{nth_part}
+use Rattle.unlimited_law.specs.SettledMasses.{nth_part}
 use Rattle.exact_fold.specs.Exact.{IsExact}
 use Rattle.exact_fold.specs.Limits.{AreLimits, rate_of}
 use Rattle.exact_fold.specs.Strings.{StayBelow, AreWithin, StringsTend}

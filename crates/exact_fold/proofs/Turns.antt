@@ -10,31 +10,31 @@ use Rattle.gcl_core.specs.meaning.Syntax.{Statements, Choice}
 use Rattle.gcl_core.specs.meaning.Value.{State, Value}
 use Rattle.gcl_core.specs.weighing.Fractions.{Fraction, plus}
 use Rattle.gcl_core.specs.weighing.WeightedEnds.{Weighted, sure, scaled, class_weight}
-use Rattle.mass_tables.specs.Tables.{Table, states, holds, fails, only, faults}
-use Rattle.mass_tables.specs.Width.{weights}
-use Rattle.mass_tables.specs.Counts.{kept_if, stopped, all_kept, none_stopped}
-use Rattle.mass_tables.proofs.Amounts.{amount_only, all_first, all_second}
-use Rattle.mass_tables.proofs.Denominators.{weights_whole}
-use Rattle.mass_tables.proofs.Wholes.{whole_from}
-use Rattle.mass_tables.proofs.Positive.{p_scaled, a_append, weights_positive}
+use Rattle.table_flow.specs.Tables.{Table, states, holds, fails, only, faults}
+use Rattle.table_flow.specs.Width.{weights}
+use Rattle.table_flow.specs.Counts.{kept_if, stopped, all_kept, none_stopped}
+use Rattle.table_flow.proofs.Amounts.{amount_only, all_first, all_second}
+use Rattle.table_flow.proofs.Denominators.{weights_whole}
+use Rattle.table_flow.proofs.Wholes.{whole_from}
+use Rattle.table_flow.proofs.Positive.{p_scaled, a_append, weights_positive}
 use Rattle.mass_fold.specs.declared.ended.Ended.{Ended}
 use Rattle.mass_fold.specs.inner.Amounts.{Entries, order, found, PutGives}
 use Rattle.mass_fold.specs.inner.Ended.{rows_of, IsNone}
 use Rattle.mass_fold.specs.inner.Steps.{StepsTo}
 use Rattle.mass_fold.specs.inner.Fold.{Stands, SidesTo}
 use Rattle.mass_fold.proofs.Entries.{same, same_is, same_order}
-use Rattle.loop_law.specs.Alike.{AreFractions, Alike}
-use Rattle.loop_law.specs.Settling.{Outflow, EachState, StandsIn, Within, total, LoopSettles, StatementSettles, BlockSettles}
-use Rattle.loop_law.proofs.Numbers.{Rational, ◌⊕◌, ◌≃◌, nought, same_refl, same_sym, same_trans, add_same, add_below, add_turned, factor_same, nought_times, nought_add, add_nought, nought_below, below_refl, below_trans}
-use Rattle.loop_law.proofs.FractionNumbers.{of, of_zero}
-use Rattle.loop_law.proofs.Integrals.{integral, integral_append, integral_same, integral_sum}
-use Rattle.loop_law.proofs.SameWeights.{sum_some, alike_integral}
-use Rattle.loop_law.proofs.Likeness.{alike_trans}
+use Rattle.unlimited_law.specs.Alike.{AreFractions, Alike}
+use Rattle.unlimited_law.specs.Settling.{Outflow, EachState, StandsIn, Within, total, LoopSettles, StatementSettles, BlockSettles}
+use Rattle.unlimited_law.proofs.Numbers.{Rational, ◌⊕◌, ◌≃◌, nought, same_refl, same_sym, same_trans, add_same, add_below, add_turned, factor_same, nought_times, nought_add, add_nought, nought_below, below_refl, below_trans}
+use Rattle.unlimited_law.proofs.FractionNumbers.{of, of_zero}
+use Rattle.unlimited_law.proofs.Integrals.{integral, integral_append, integral_same, integral_sum}
+use Rattle.unlimited_law.proofs.SameWeights.{sum_some, alike_integral}
+use Rattle.unlimited_law.proofs.Likeness.{alike_trans}
 use Rattle.exact_fold.specs.inner.Settled.{as_table, AreAbove, SettlesFrom}
 use Rattle.exact_fold.specs.inner.Turning.{there, inside, outside, keys_in, StaysIn, IsClosed, TurnsTo, Alone, NothingIn, AllInside}
-use Rattle.loop_law.proofs.Covers.{integral_kept}
-use Rattle.loop_law.proofs.BlockLimits.{behind_fractions, all_positive}
-use Rattle.loop_law.proofs.ByState.{kept_fractions, append_fractions}
+use Rattle.unlimited_law.proofs.Covers.{integral_kept}
+use Rattle.unlimited_law.proofs.BlockLimits.{behind_fractions, all_positive}
+use Rattle.unlimited_law.proofs.ByState.{kept_fractions, append_fractions}
 use Rattle.exact_fold.proofs.SameLists.{alike_of, alike_refl, alike_append, alike_chain, product_some}
 use Rattle.exact_fold.proofs.SameInputs.{block_from}
 use Rattle.exact_fold.proofs.Unlimited.{unlimited_append, unlimited_faults}

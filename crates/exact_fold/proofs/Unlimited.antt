@@ -8,9 +8,9 @@ use Rattle.gcl_core.specs.meaning.Syntax.{Skip, Set, Observe, Uniform, Expressio
 use Rattle.gcl_core.specs.meaning.Value.{State, Value, value_of, is_zero}
 use Rattle.gcl_core.specs.weighing.Fractions.{Fraction, zero_share, times}
 use Rattle.gcl_core.specs.weighing.WeightedEnds.{Weighted, sure, scaled, taken_on, class_weight, classes_from, draw_weighted, statement_weighted}
-use Rattle.mass_tables.specs.Tables.{Table, gone, faults}
-use Rattle.mass_tables.proofs.ArmEnds.{taken_append}
-use Rattle.mass_tables.proofs.WeightedParts.{value_weighted, uniform_weighted}
+use Rattle.table_flow.specs.Tables.{Table, gone, faults}
+use Rattle.table_flow.proofs.ArmEnds.{taken_append}
+use Rattle.table_flow.proofs.WeightedParts.{value_weighted, uniform_weighted}
 use Rattle.exact_fold.specs.inner.Settled.{AreUnlimited}
 
 -- ---- lists

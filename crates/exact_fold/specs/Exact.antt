@@ -1,14 +1,14 @@
 -- The masses of a program in the limit of turns, as rows. This project's own rule.
 use Rattle.std.specs.Prelude.{◌≡◌, [], ◌∷◌}
-use Rattle.frac128.specs.Fraction.{IsEqual, lowest}
+use Rattle.numbers.specs.Fraction.{IsEqual, lowest}
 use Rattle.gcl_core.specs.declared.answers.Limit.{Limit}
 use Rattle.gcl_core.specs.declared.answers.Outcome.TheVariants as outcome
 use Rattle.gcl_core.specs.meaning.Outcomes.{same_outcome}
 use Rattle.gcl_core.specs.meaning.Syntax.{SourceProgram}
 use Rattle.gcl_core.specs.weighing.Fractions.{Fraction, zero_share, one, plus, IsBelowOne}
 use Rattle.mass_fold.specs.Rows.{Rows, AreMasses}
-use Rattle.loop_law.specs.Settling.{Outflow}
-use Rattle.loop_law.specs.SettledMasses.{ProgramSettles, settled_failed, settled_mass, endless_mass}
+use Rattle.unlimited_law.specs.Settling.{Outflow}
+use Rattle.unlimited_law.specs.SettledMasses.{ProgramSettles, settled_failed, settled_mass, endless_mass}
 
 -- the sum of the weights of rows
 abbrev pub all_of : Rows → Fraction

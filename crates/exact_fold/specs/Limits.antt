@@ -8,8 +8,8 @@ use Rattle.gcl_core.specs.weighing.Fractions.{Fraction, AtMost, divided_by_rest}
 use Rattle.gcl_core.specs.weighing.Mass.{mass_of}
 use Rattle.mass_fold.specs.Rows.{Rows}
 use Rattle.posterior_bounds.specs.PosteriorBounds.{is_settled, lower_of, upper_of}
-use Rattle.loop_law.specs.Settling.{Outflow}
-use Rattle.loop_law.specs.SettledMasses.{settled_failed, IsNear}
+use Rattle.unlimited_law.specs.Settling.{Outflow}
+use Rattle.unlimited_law.specs.SettledMasses.{settled_failed, IsNear}
 
 -- the expected number of turns that loops complete, those of what runs for ever not counted, over what does not fail
 abbrev pub rate_of : SourceProgram → Outflow → Fraction

@@ -1,12 +1,12 @@
 -- Why a program has no exact masses. This project's own rule.
 use Rattle.std.specs.Prelude.{◌≡◌, ◌<◌, None, false}
-use Rattle.frac128.specs.Fraction.{Overfills}
+use Rattle.numbers.specs.Fraction.{Overfills}
 use Rattle.gcl_core.specs.meaning.Syntax.{SourceProgram}
 use Rattle.gcl_core.specs.weighing.Fractions.{one, AtMost}
-use Rattle.loop_law.specs.Settling.{Outflow}
-use Rattle.loop_law.specs.SettledMasses.{ProgramSettles, settled_failed}
-use Rattle.mass_tables.specs.Tables.{peak_of}
-use Rattle.mass_tables.specs.Width.{round_width}
+use Rattle.unlimited_law.specs.Settling.{Outflow}
+use Rattle.unlimited_law.specs.SettledMasses.{ProgramSettles, settled_failed}
+use Rattle.table_flow.specs.Tables.{peak_of}
+use Rattle.table_flow.specs.Width.{round_width}
 use Rattle.mass_fold.specs.declared.table.TheConstants.{MOST_STATES}
 use Rattle.exact_fold.specs.Loops.{any_loops}
 use Rattle.exact_fold.specs.declared.error.ExactError.{ExactError}

@@ -85,7 +85,7 @@ impl From<SettleError> for ExactError {
 
 impl From<MassError> for ExactError {
     ghost use Rattle.std.specs.Prelude.{None};
-    ghost use Rattle.gcl_core.specs.meaning.Keeping.{IsChecked};
+    ghost use Rattle.gcl_core.specs.meaning.Checked.{IsChecked};
     ghost use Rattle.gcl_core.specs.meaning.Syntax.{SourceProgram};
     ghost use Rattle.mass_fold.specs.Refused.{MassRefused};
     ghost use Rattle.exact_fold.specs.Refused.{HasNoLoop, WhyRefused};

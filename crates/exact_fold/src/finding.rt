@@ -6,7 +6,7 @@ use crate::error::SettleError;
 use crate::primes::PRIMES;
 use crate::residues::{Moduli, Residues};
 use crate::solving::solved;
-use frac128::Frac;
+use numbers::Frac;
 use mass_fold::{State, Table, scale};
 use std::alloc::Global;
 use std::collections::BTreeMap;

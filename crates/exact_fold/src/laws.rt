@@ -1,7 +1,7 @@
 // What exact masses say of limits of turns.
 
 ghost use Rattle.std.specs.Prelude.{◌≤◌, ℕ};
-ghost use Rattle.gcl_core.specs.meaning.Keeping.{IsChecked};
+ghost use Rattle.gcl_core.specs.meaning.Checked.{IsChecked};
 ghost use Rattle.gcl_core.specs.meaning.Syntax.{SourceProgram};
 ghost use Rattle.gcl_core.specs.weighing.Fractions.{Fraction};
 ghost use Rattle.mass_fold.specs.Rows.{Rows};

@@ -1,7 +1,7 @@
 // The masses of a program in the limit of turns.
 
 ghost use Rattle.std.specs.Prelude.{◌≡◌, ◌<◌, ◌+◌, ℕ, true, length, IfOk, IfErr, IfSome};
-ghost use Rattle.mass_tables.specs.Scale.{whole, Whole};
+ghost use Rattle.table_flow.specs.Scale.{whole, Whole};
 ghost use Rattle.mass_fold.specs.Amounts.{AreHeld};
 ghost use Rattle.mass_fold.specs.inner.Rounds.{TableParts};
 ghost use Rattle.gcl_core.specs.meaning.Views.{source_of};
@@ -14,7 +14,7 @@ ghost use Rattle.exact_fold.specs.inner.Rounds.{SumsTo, RoundOf, DividesTo};
 use crate::error::{ExactError, SettleError};
 use crate::loops::block_loops;
 use crate::settle::settle_block;
-use frac128::Frac;
+use numbers::Frac;
 use gcl_core::{Checked, Outcome};
 use mass_fold::{Ended, FracRows, Table, add_ended, add_results, mass, over_rest};
 use std::alloc::Global;

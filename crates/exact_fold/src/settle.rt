@@ -2,7 +2,7 @@
 
 ghost use Rattle.std.specs.Prelude.{◌≡◌, ◌≤◌, length, None, IfOk, OnOk};
 ghost use Rattle.std.specs.List.{sum};
-ghost use Rattle.frac128.specs.Fraction.{IsEqual};
+ghost use Rattle.numbers.specs.Fraction.{IsEqual};
 ghost use Rattle.gcl_core.specs.meaning.Arms.{parts_of};
 ghost use Rattle.gcl_core.specs.meaning.Parts.{AreParts};
 ghost use Rattle.gcl_core.specs.meaning.Bounds.{
@@ -15,15 +15,15 @@ ghost use Rattle.gcl_core.specs.meaning.Bounds.{
 };
 ghost use Rattle.gcl_core.specs.meaning.Views.{expression_of, statement_of, statements_of, list_of_arms};
 ghost use Rattle.gcl_core.specs.meaning.Value.{value_of, ExpressionBelow};
-ghost use Rattle.loop_law.specs.Alike.{Alike};
-ghost use Rattle.loop_law.specs.Settling.{LoopSettles, StatementSettles, BlockSettles, ArmsSettle};
+ghost use Rattle.unlimited_law.specs.Alike.{Alike};
+ghost use Rattle.unlimited_law.specs.Settling.{LoopSettles, StatementSettles, BlockSettles, ArmsSettle};
 ghost use Rattle.exact_fold.specs.inner.Settled.{SettlesFrom};
 ghost use Rattle.exact_fold.specs.inner.Turning.{TurnsTo, IsClosed, StaysIn, keys_in};
 
 use crate::error::SettleError;
 use crate::finding::{Found, Seen, copied, put};
 use crate::turning::{above, all_stand, alone, is_none, leaving, passes, same};
-use frac128::Frac;
+use numbers::Frac;
 use gcl_core::{Arms, Block, Expr, Stmt};
 use mass_fold::choosing::{sides, total, weighed};
 use mass_fold::{

@@ -3,16 +3,16 @@
 ghost use Rattle.std.specs.Prelude.{◌≡◌, [], true, length, IfOk};
 ghost use Rattle.gcl_core.specs.meaning.Value.{value_of, ExpressionBelow};
 ghost use Rattle.gcl_core.specs.meaning.Views.{expression_of};
-ghost use Rattle.mass_tables.specs.Tables.{holds};
+ghost use Rattle.table_flow.specs.Tables.{holds};
 ghost use Rattle.mass_fold.specs.inner.Ended.{rows_of};
 ghost use Rattle.mass_fold.specs.declared.ended.Ended.{Ended};
 ghost use Rattle.mass_fold.specs.inner.Steps.{StepsTo};
-ghost use Rattle.mass_tables.specs.Counts.{kept_if, none_stopped};
+ghost use Rattle.table_flow.specs.Counts.{kept_if, none_stopped};
 ghost use Rattle.exact_fold.specs.inner.Settled.{AreAbove};
 ghost use Rattle.exact_fold.specs.inner.Turning.{Alone, NothingIn, AllInside, inside, outside};
 
 use crate::error::SettleError;
-use frac128::Frac;
+use numbers::Frac;
 use gcl_core::{Expr, eval};
 use mass_fold::{Ended, State, Table};
 use std::alloc::Global;

@@ -10,7 +10,7 @@ use Rattle.gcl_core.specs.meaning.Bounds.{BlockBelow, StatementBelow, ArmsBelow,
 use Rattle.gcl_core.specs.meaning.Arms.{parts_of}
 use Rattle.gcl_core.specs.meaning.Parts.{HaveArmCount, AreParts}
 use Rattle.std.specs.List.{sum}
-use Rattle.gcl_core.specs.meaning.Keeping.{IsChecked}
+use Rattle.gcl_core.specs.meaning.Checked.{IsChecked}
 use Rattle.gcl_core.specs.text.ReadingOrder.{statement_listed, listed, arms_listed}
 use Rattle.gcl_core.specs.meaning.Divisor.{common_divisor}
 use Rattle.gcl_core.specs.meaning.Lowest.{lowest_terms, lowest_parts, divided, lowest_arms, statement_in_lowest, block_in_lowest, arms_in_lowest, in_lowest}

@@ -14,7 +14,7 @@ use Rattle.gcl_core.specs.meaning.Draw.{class_of, first_of, decides, bits_for, l
 use Rattle.gcl_core.specs.meaning.Blocks.{End, on, failed, fault, limit, block_on, class_on}
 use Rattle.gcl_core.proofs.Plays.{Play, on_bits, block_bits}
 use Rattle.gcl_core.specs.meaning.Fitting.{state_fits}
-use Rattle.gcl_core.specs.meaning.Keeping.{IsChecked}
+use Rattle.gcl_core.specs.meaning.Checked.{IsChecked}
 use Rattle.gcl_core.specs.meaning.Runs.{rounds_on, answer_of, run_on}
 use Rattle.gcl_core.specs.meaning.Outcomes.{zeros, outcome_of}
 use Rattle.gcl_core.proofs.Classes.{class_within}

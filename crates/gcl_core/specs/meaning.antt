@@ -14,5 +14,5 @@ pub mod Runs
 pub mod Bounds
 pub mod Divisor
 pub mod Lowest
-pub mod Keeping
+pub mod Checked
 pub mod Fitting

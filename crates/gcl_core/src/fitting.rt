@@ -7,7 +7,7 @@ ghost use Rattle.gcl_core.specs.declared.answers.Outcome.TheVariants as outcome;
 ghost use Rattle.gcl_core.specs.meaning.Blocks.{on, block_on};
 ghost use Rattle.gcl_core.specs.meaning.Bounds.{ExpressionFits, BlockFits};
 ghost use Rattle.gcl_core.specs.meaning.Fitting.{state_fits};
-ghost use Rattle.gcl_core.specs.meaning.Keeping.{IsChecked};
+ghost use Rattle.gcl_core.specs.meaning.Checked.{IsChecked};
 ghost use Rattle.gcl_core.specs.meaning.Reading.{gives};
 ghost use Rattle.gcl_core.specs.meaning.Runs.{run_on};
 ghost use Rattle.gcl_core.specs.meaning.Outcomes.{zeros};

@@ -19,7 +19,7 @@ use Rattle.gcl_core.specs.declared.levels.Level.{Level}
 use Rattle.gcl_core.specs.meaning.Bounds.{ExpressionFits, StatementFits, BlockFits, ArmsFit, NumbersFit}
 use Rattle.gcl_core.specs.text.Derivation.{Derives}
 use Rattle.gcl_core.specs.text.Grammar.{leaf, ReadsPhrase, ReadsMore, a_leaf, in_brackets, with_sign, without_sign, a_comparison, no_comparison, with_not, without_not, a_row, no_more, one_more, ReadsStatement, ReadsStatements, ReadsBlock, ReadsElse, a_skip, an_assignment, a_uniform, an_observation, an_if, a_while, a_choice, a_choose, ReadsArms, last_arm, one_more_arm, no_statement, a_statement, in_braces, no_else, an_else}
-use Rattle.gcl_core.specs.meaning.Keeping.{IsChecked}
+use Rattle.gcl_core.specs.meaning.Checked.{IsChecked}
 use Rattle.gcl_core.specs.text.Lexing.{may_stand, stands}
 use Rattle.gcl_core.specs.text.Names.{Name, number_of}
 use Rattle.gcl_core.specs.text.Pieces.{Piece}

@@ -5,7 +5,7 @@ ghost use Rattle.gcl_core.specs.declared.tokens.Token.{Token};
 ghost use Rattle.gcl_core.specs.declared.tokens.TokenKind.{TokenKind};
 ghost use Rattle.gcl_core.specs.meaning.Syntax.{SourceProgram};
 ghost use Rattle.gcl_core.specs.meaning.Bounds.{BlockCounted};
-ghost use Rattle.gcl_core.specs.meaning.Keeping.{IsChecked};
+ghost use Rattle.gcl_core.specs.meaning.Checked.{IsChecked};
 ghost use Rattle.gcl_core.specs.text.Texts.{Spells};
 ghost use Rattle.gcl_core.specs.text.Words.{kinds_of};
 ghost use Rattle.gcl_core.specs.text.Derivation.{Derives};

@@ -14,7 +14,7 @@
 ghost use Rattle.std.specs.Prelude.{◌≡◌, ◌≤◌, ℕ, Bool, List, length, All};
 ghost use Rattle.gcl_core.specs.declared.answers.Answer.{Answer};
 ghost use Rattle.gcl_core.specs.declared.answers.Limits.{Limits};
-ghost use Rattle.gcl_core.specs.meaning.Keeping.{IsChecked};
+ghost use Rattle.gcl_core.specs.meaning.Checked.{IsChecked};
 ghost use Rattle.gcl_core.specs.meaning.Runs.{run_on};
 ghost use Rattle.gcl_core.specs.meaning.Syntax.{SourceProgram};
 ghost use Rattle.many_runs.specs.AllStrings.{all_strings};

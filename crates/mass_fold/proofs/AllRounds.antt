@@ -6,11 +6,11 @@ use Rattle.gcl_core.specs.declared.answers.Outcome.TheVariants as outcome
 use Rattle.gcl_core.specs.weighing.Fractions.{Fraction, zero_share, plus, times, power, power_sum, IsBelowOne}
 use Rattle.gcl_core.specs.weighing.Mass.{round_mass, failed_mass, mass_of_those}
 use Rattle.gcl_core.specs.meaning.Syntax.{SourceProgram}
-use Rattle.frac128.specs.Fraction.{InLowest, IsEqual, lowest}
-use Rattle.frac128.proofs.Divisors.{product_pos, cancel}
-use Rattle.mass_tables.specs.Scale.{whole}
-use Rattle.mass_tables.specs.Tables.{peak_of}
-use Rattle.mass_tables.specs.Width.{round_width, width_of}
+use Rattle.numbers.specs.Fraction.{InLowest, IsEqual, lowest}
+use Rattle.numbers.proofs.Divisors.{product_pos, cancel}
+use Rattle.table_flow.specs.Scale.{whole}
+use Rattle.table_flow.specs.Tables.{peak_of}
+use Rattle.table_flow.specs.Width.{round_width, width_of}
 use Rattle.mass_fold.specs.declared.error.MassError.{MassError}
 use Rattle.mass_fold.specs.declared.error.MassError.TheVariants.{TooWide, TooManyStates, AllFailed, OutOfMemory}
 use Rattle.mass_fold.specs.Amounts.{held, WholeWithin}

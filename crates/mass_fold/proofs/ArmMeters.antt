@@ -8,11 +8,11 @@ use Rattle.gcl_core.specs.meaning.Blocks.{End}
 use Rattle.gcl_core.specs.weighing.Fractions.{Fraction}
 use Rattle.gcl_core.specs.weighing.WeightedEnds.{Weighted, scaled, class_weight}
 use Rattle.gcl_core.proofs.PartialSums.{last_is}
-use Rattle.frac128.specs.Fraction.{IsEqual}
-use Rattle.mass_tables.specs.Tables.{Table, Flow, statement_flow, block_flow, arms_flow}
-use Rattle.mass_tables.specs.Reached.{ReachedDraws, drawn_each, statement_draws, block_draws, arms_draws}
-use Rattle.mass_tables.specs.Scale.{amount}
-use Rattle.mass_tables.proofs.Kept.{first_arm}
+use Rattle.numbers.specs.Fraction.{IsEqual}
+use Rattle.table_flow.specs.Tables.{Table, Flow, statement_flow, block_flow, arms_flow}
+use Rattle.table_flow.specs.Reached.{ReachedDraws, drawn_each, statement_draws, block_draws, arms_draws}
+use Rattle.table_flow.specs.Scale.{amount}
+use Rattle.table_flow.proofs.Kept.{first_arm}
 use Rattle.mass_fold.specs.declared.ended.Ended.{Ended}
 use Rattle.mass_fold.specs.declared.meter.Meter.{Meter}
 use Rattle.mass_fold.specs.inner.Amounts.{Entries}

@@ -7,12 +7,12 @@ use Rattle.gcl_core.specs.meaning.Value.{State}
 use Rattle.gcl_core.specs.weighing.Mass.{is_failed, failed_mass}
 use Rattle.gcl_core.specs.weighing.Fractions.{Fraction}
 use Rattle.gcl_core.specs.weighing.WeightedEnds.{sure}
-use Rattle.mass_tables.specs.Tables.{block_flow, peak_of}
-use Rattle.mass_tables.specs.Width.{round_width}
-use Rattle.mass_tables.specs.Scale.{whole, Whole}
-use Rattle.mass_tables.proofs.AtWidth.{at_width}
-use Rattle.mass_tables.proofs.Kept.{kept_all}
-use Rattle.mass_tables.proofs.Wholes.{whole_from}
+use Rattle.table_flow.specs.Tables.{block_flow, peak_of}
+use Rattle.table_flow.specs.Width.{round_width}
+use Rattle.table_flow.specs.Scale.{whole, Whole}
+use Rattle.table_flow.proofs.AtWidth.{at_width}
+use Rattle.table_flow.proofs.Kept.{kept_all}
+use Rattle.table_flow.proofs.Wholes.{whole_from}
 use Rattle.mass_fold.specs.declared.error.MassError.{MassError}
 use Rattle.mass_fold.specs.declared.ended.Ended.{Ended}
 use Rattle.mass_fold.specs.inner.Amounts.{Entries, Blames}
@@ -21,7 +21,7 @@ use Rattle.mass_fold.specs.inner.Fold.{Stands, EndStands, FoldsTo, FoldBlames}
 use Rattle.mass_fold.specs.inner.Body.{BodyGives, BodyMeters}
 use Rattle.mass_fold.specs.declared.meter.Meter.{Meter}
 use Rattle.mass_fold.specs.inner.Metering.{Meters}
-use Rattle.mass_tables.specs.Reached.{block_draws}
+use Rattle.table_flow.specs.Reached.{block_draws}
 use Rattle.mass_fold.proofs.BodyMasses.{masses_held, failed_equal}
 
 pub no_weight : (N : ℕ) (f : Fraction) → IsNoWeight f → (whole N f ≡ 0) × Whole N f

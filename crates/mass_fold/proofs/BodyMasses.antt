@@ -6,10 +6,10 @@ use Rattle.gcl_core.specs.meaning.Blocks.{End, on}
 use Rattle.gcl_core.specs.weighing.Fractions.{Fraction}
 use Rattle.gcl_core.specs.weighing.WeightedEnds.{sure, weighted_ends}
 use Rattle.gcl_core.specs.weighing.Mass.{sum_of, is_failed}
-use Rattle.frac128.specs.Fraction.{IsEqual}
-use Rattle.mass_tables.specs.Tables.{block_flow}
-use Rattle.mass_tables.specs.Scale.{whole, Wholes, Within, amount}
-use Rattle.mass_tables.proofs.Masses.{sum_held}
+use Rattle.numbers.specs.Fraction.{IsEqual}
+use Rattle.table_flow.specs.Tables.{block_flow}
+use Rattle.table_flow.specs.Scale.{whole, Wholes, Within, amount}
+use Rattle.table_flow.proofs.Masses.{sum_held}
 use Rattle.mass_fold.specs.declared.ended.Ended.{Ended}
 use Rattle.mass_fold.specs.Amounts.{held}
 use Rattle.mass_fold.specs.inner.Amounts.{Entries}

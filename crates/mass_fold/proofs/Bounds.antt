@@ -11,8 +11,8 @@ use Rattle.gcl_core.specs.meaning.Value.{State, Value}
 use Rattle.gcl_core.specs.meaning.Blocks.{fault, limit, by_value, by_bound}
 use Rattle.gcl_core.specs.weighing.Fractions.{Fraction, one}
 use Rattle.gcl_core.specs.weighing.WeightedEnds.{class_weight, no_class_weight}
-use Rattle.mass_tables.specs.Counts.{sum_below}
-use Rattle.mass_tables.proofs.Draws.{power_pos}
+use Rattle.table_flow.specs.Counts.{sum_below}
+use Rattle.table_flow.proofs.Draws.{power_pos}
 use Rattle.mass_fold.specs.declared.error.MassError.{MassError}
 use Rattle.mass_fold.specs.declared.ended.Gone.{Gone}
 use Rattle.mass_fold.specs.declared.ended.Gone.TheVariants as gone_kind

@@ -4,14 +4,14 @@ use Rattle.std.proofs.Math.Nat.{mul-le-mul_left}
 use Rattle.gcl_core.specs.meaning.Value.{State}
 use Rattle.gcl_core.specs.meaning.Blocks.{End}
 use Rattle.gcl_core.specs.weighing.Fractions.{Fraction}
-use Rattle.mass_tables.specs.Scale.{whole}
+use Rattle.table_flow.specs.Scale.{whole}
 use Rattle.mass_fold.specs.declared.error.MassError.{MassError}
 use Rattle.mass_fold.specs.declared.ended.Gone.{Gone}
 use Rattle.mass_fold.specs.declared.ended.Ended.{Ended}
 use Rattle.mass_fold.specs.Amounts.{held}
 use Rattle.mass_fold.specs.inner.Amounts.{Entries, Blames, PutGives, PutBlames}
 use Rattle.mass_fold.specs.inner.Ended.{end_of, EndGives, EndBlames}
-use Rattle.mass_tables.specs.Counts.{all_kept}
+use Rattle.table_flow.specs.Counts.{all_kept}
 use Rattle.mass_fold.specs.inner.Steps.{StepsTo, StepsOn, StepBlames}
 
 module _ (go : (State → ℕ) → State → ℕ) (stop : (End → ℕ) → State → ℕ) (bs es : Entries) (E : Ended) where

@@ -5,12 +5,12 @@ use Rattle.gcl_core.specs.meaning.Value.{State}
 use Rattle.gcl_core.specs.meaning.Blocks.{End}
 use Rattle.gcl_core.specs.weighing.Fractions.{Fraction, times, one}
 use Rattle.gcl_core.specs.weighing.WeightedEnds.{class_weight, no_class_weight}
-use Rattle.frac128.specs.Fraction.{IsEqual, product_of}
-use Rattle.frac128.proofs.Divisors.{product_pos}
-use Rattle.mass_tables.specs.Scale.{whole, Whole, amount}
-use Rattle.mass_tables.specs.Counts.{sum_below}
-use Rattle.mass_tables.proofs.Wholes.{product_whole, product_refused}
-use Rattle.mass_tables.proofs.EqualFractions.{equal_times}
+use Rattle.numbers.specs.Fraction.{IsEqual, product_of}
+use Rattle.numbers.proofs.Divisors.{product_pos}
+use Rattle.table_flow.specs.Scale.{whole, Whole, amount}
+use Rattle.table_flow.specs.Counts.{sum_below}
+use Rattle.table_flow.proofs.Wholes.{product_whole, product_refused}
+use Rattle.table_flow.proofs.EqualFractions.{equal_times}
 use Rattle.mass_fold.specs.declared.error.MassError.{MassError}
 use Rattle.mass_fold.specs.declared.error.MassError.TheVariants.{TooWide}
 use Rattle.mass_fold.specs.declared.ended.Gone.{Gone}

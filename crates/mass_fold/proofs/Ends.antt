@@ -2,9 +2,9 @@
 use Rattle.std.proofs.Common.{◌≡◌, ℕ, ◌+◌, ◌*◌, ◌≤◌, ◌<◌, ◌^◌, Some, None, refl, sym, ap, ◌∙◌, subst, arith}
 use Rattle.gcl_core.specs.meaning.Blocks.{End}
 use Rattle.gcl_core.specs.weighing.Fractions.{Fraction}
-use Rattle.frac128.specs.Fraction.{InLowest, sum_of}
-use Rattle.mass_tables.specs.Scale.{whole, Whole, amount, Wholes}
-use Rattle.mass_tables.proofs.Wholes.{sum_whole, sum_refused}
+use Rattle.numbers.specs.Fraction.{InLowest, sum_of}
+use Rattle.table_flow.specs.Scale.{whole, Whole, amount, Wholes}
+use Rattle.table_flow.proofs.Wholes.{sum_whole, sum_refused}
 use Rattle.mass_fold.specs.declared.ended.Gone.{Gone}
 use Rattle.mass_fold.specs.declared.ended.Gone.TheVariants.{Failed, Overflow, Divisor, Bound, Turns, Attempts}
 use Rattle.mass_fold.specs.declared.ended.Ended.{Ended}

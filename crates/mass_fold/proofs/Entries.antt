@@ -14,8 +14,8 @@ use Rattle.std.proofs.lemmas.Map.Keys.{IsDistinct-from_sorted, IsDistinct-cons}
 use Rattle.std.proofs.lemmas.Map.Made.{length-le_from_is_member}
 use Rattle.gcl_core.specs.meaning.Value.{State}
 use Rattle.gcl_core.specs.weighing.Fractions.{Fraction}
-use Rattle.mass_tables.specs.Tables.{Table, states}
-use Rattle.mass_tables.specs.Scale.{whole, Whole, amount}
+use Rattle.table_flow.specs.Tables.{Table, states}
+use Rattle.table_flow.specs.Scale.{whole, Whole, amount}
 use Rattle.mass_fold.specs.Amounts.{held, AreHeld}
 use Rattle.mass_fold.specs.inner.Amounts.{Entries, PartOf, IsPut, PutGives, order, found}
 use Rattle.mass_fold.proofs.Insertion.{whole_pos, put_gives}

@@ -5,9 +5,9 @@ use Rattle.gcl_core.specs.declared.answers.Limit.TheVariants.{Rounds}
 use Rattle.gcl_core.specs.declared.answers.Outcome.{Outcome}
 use Rattle.gcl_core.specs.declared.answers.Outcome.TheVariants as outcome
 use Rattle.gcl_core.specs.weighing.Fractions.{Fraction, power}
-use Rattle.frac128.proofs.Divisors.{product_pos}
-use Rattle.mass_tables.specs.Scale.{whole, Whole}
-use Rattle.mass_tables.proofs.Wholes.{whole_from}
+use Rattle.numbers.proofs.Divisors.{product_pos}
+use Rattle.table_flow.specs.Scale.{whole, Whole}
+use Rattle.table_flow.proofs.Wholes.{whole_from}
 use Rattle.mass_fold.specs.declared.error.MassError.{MassError}
 use Rattle.mass_fold.specs.Amounts.{held, AreHeld}
 use Rattle.mass_fold.specs.inner.Outcomes.{AddGives, AddBlames}

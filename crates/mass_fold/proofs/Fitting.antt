@@ -4,7 +4,7 @@ use Rattle.gcl_core.specs.declared.syntax.Stmt.{Stmt}
 use Rattle.gcl_core.specs.meaning.Views.{statement_of, list_of}
 use Rattle.gcl_core.specs.meaning.Syntax.{Statement, Statements, ◌▸◌}
 use Rattle.gcl_core.specs.meaning.Bounds.{StatementIsWeighed, BlockIsWeighed, StatementBelow, BlockBelow}
-use Rattle.mass_tables.specs.Tables.{statement_flow}
+use Rattle.table_flow.specs.Tables.{statement_flow}
 use Rattle.mass_fold.specs.declared.error.MassError.{MassError}
 use Rattle.mass_fold.specs.declared.ended.Ended.{Ended}
 use Rattle.mass_fold.specs.inner.Amounts.{Entries}

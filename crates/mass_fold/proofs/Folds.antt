@@ -11,13 +11,13 @@ use Rattle.gcl_core.specs.meaning.Value.{State, Value, value_of, is_zero}
 use Rattle.gcl_core.specs.meaning.Blocks.{End, on, failed, fault, by_value}
 use Rattle.gcl_core.specs.weighing.Fractions.{Fraction}
 use Rattle.gcl_core.specs.weighing.WeightedEnds.{Weighted, sure, taken_on, statement_weighted}
-use Rattle.mass_tables.specs.Tables.{Table, Flow, going_on, gone, holds, fails, only, faults, each, statement_flow, block_flow, states}
-use Rattle.mass_tables.specs.Scale.{Wholes, TablesWithin, Within, amount, weight}
-use Rattle.mass_tables.specs.Counts.{moved, stopped, kept_if, none_kept, none_stopped, all_kept, all_stopped, part_at, rest_at, drawn, undrawn, multiplied}
-use Rattle.mass_tables.proofs.Amounts.{amount_append, amount_only, amount_faults, at_on, at_gone, amount_going, amount_gone, amount_each, amount_ext, tables_first, tables_second, ends_first, ends_second, all_first, all_second, both_first, both_second, regroup}
-use Rattle.mass_tables.proofs.Kept.{kept_one, kept_all, guard_weight, set_end, set_sure, seen_end, seen_sure}
-use Rattle.mass_tables.proofs.Uniforms.{drawn_next, drawn_ended, drawn_whole}
-use Rattle.mass_tables.proofs.NoneReached.{none_counts}
+use Rattle.table_flow.specs.Tables.{Table, Flow, going_on, gone, holds, fails, only, faults, each, statement_flow, block_flow, states}
+use Rattle.table_flow.specs.Scale.{Wholes, TablesWithin, Within, amount, weight}
+use Rattle.table_flow.specs.Counts.{moved, stopped, kept_if, none_kept, none_stopped, all_kept, all_stopped, part_at, rest_at, drawn, undrawn, multiplied}
+use Rattle.table_flow.proofs.Amounts.{amount_append, amount_only, amount_faults, at_on, at_gone, amount_going, amount_gone, amount_each, amount_ext, tables_first, tables_second, ends_first, ends_second, all_first, all_second, both_first, both_second, regroup}
+use Rattle.table_flow.proofs.Kept.{kept_one, kept_all, guard_weight, set_end, set_sure, seen_end, seen_sure}
+use Rattle.table_flow.proofs.Uniforms.{drawn_next, drawn_ended, drawn_whole}
+use Rattle.table_flow.proofs.NoneReached.{none_counts}
 use Rattle.mass_fold.specs.declared.error.MassError.{MassError}
 use Rattle.mass_fold.specs.declared.ended.Gone.TheVariants as gone_kind
 use Rattle.mass_fold.specs.declared.ended.Ended.{Ended}

@@ -9,10 +9,10 @@ use Rattle.std.proofs.lemmas.Map.{lookup-none}
 use Rattle.std.proofs.lemmas.Map.Entries.{none_below_head}
 use Rattle.std.proofs.lemmas.Map.Keys.{sorted_tail}
 use Rattle.gcl_core.specs.weighing.Fractions.{Fraction}
-use Rattle.frac128.specs.Fraction.{InLowest, sum_of}
-use Rattle.frac128.proofs.Divisors.{product_pos, factor_pos}
-use Rattle.mass_tables.specs.Scale.{whole, Whole}
-use Rattle.mass_tables.proofs.Wholes.{sum_whole, sum_refused}
+use Rattle.numbers.specs.Fraction.{InLowest, sum_of}
+use Rattle.numbers.proofs.Divisors.{product_pos, factor_pos}
+use Rattle.table_flow.specs.Scale.{whole, Whole}
+use Rattle.table_flow.proofs.Wholes.{sum_whole, sum_refused}
 use Rattle.mass_fold.specs.Amounts.{held, AreHeld}
 use Rattle.mass_fold.specs.inner.Amounts.{PutGives, found, SumAt}
 

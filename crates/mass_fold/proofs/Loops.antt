@@ -6,12 +6,12 @@ use Rattle.gcl_core.specs.meaning.Bounds.{BlockIsWeighed}
 use Rattle.gcl_core.specs.meaning.Value.{State, Value, value_of}
 use Rattle.gcl_core.specs.meaning.Blocks.{End, limit}
 use Rattle.gcl_core.specs.weighing.WeightedEnds.{Weighted}
-use Rattle.mass_tables.specs.Tables.{Table, Flow, holds, fails, only, faults, all_end, loop_flow, block_flow, states}
-use Rattle.mass_tables.specs.Scale.{Within, amount, weight}
-use Rattle.mass_tables.specs.Counts.{stopped, kept_if, none_kept, none_stopped, all_kept, all_stopped}
-use Rattle.mass_tables.proofs.Amounts.{amount_append, amount_all_end, tables_first, tables_second, ends_first, ends_second, all_first, all_second}
-use Rattle.mass_tables.proofs.Kept.{kept_all, kept_turns, guard_weight}
-use Rattle.mass_tables.proofs.NoneReached.{none_counts}
+use Rattle.table_flow.specs.Tables.{Table, Flow, holds, fails, only, faults, all_end, loop_flow, block_flow, states}
+use Rattle.table_flow.specs.Scale.{Within, amount, weight}
+use Rattle.table_flow.specs.Counts.{stopped, kept_if, none_kept, none_stopped, all_kept, all_stopped}
+use Rattle.table_flow.proofs.Amounts.{amount_append, amount_all_end, tables_first, tables_second, ends_first, ends_second, all_first, all_second}
+use Rattle.table_flow.proofs.Kept.{kept_all, kept_turns, guard_weight}
+use Rattle.table_flow.proofs.NoneReached.{none_counts}
 use Rattle.mass_fold.specs.declared.error.MassError.{MassError}
 use Rattle.mass_fold.specs.declared.ended.Gone.TheVariants as gone_kind
 use Rattle.mass_fold.specs.declared.ended.Ended.{Ended}

@@ -10,12 +10,12 @@ use Rattle.gcl_core.specs.meaning.Value.{State, Value, value_of}
 use Rattle.gcl_core.specs.meaning.Blocks.{by_value, by_bound}
 use Rattle.gcl_core.specs.meaning.Draw.{last_end, choice_ends, uniform_ends}
 use Rattle.gcl_core.proofs.EqualClasses.{last_of_equal}
-use Rattle.mass_tables.specs.Tables.{Table, Flow, holds, fails, only, faults, statement_flow, block_flow}
-use Rattle.mass_tables.specs.Reached.{ReachedDraws, drawn_each, drawn_bound, statement_draws, block_draws}
-use Rattle.mass_tables.specs.Scale.{amount, weight}
-use Rattle.mass_tables.specs.Counts.{stopped, kept_if}
-use Rattle.mass_tables.proofs.Amounts.{amount_append, both_first, both_second}
-use Rattle.mass_tables.proofs.NoneReached.{amount_drawn_each, amount_drawn_bound, none_one}
+use Rattle.table_flow.specs.Tables.{Table, Flow, holds, fails, only, faults, statement_flow, block_flow}
+use Rattle.table_flow.specs.Reached.{ReachedDraws, drawn_each, drawn_bound, statement_draws, block_draws}
+use Rattle.table_flow.specs.Scale.{amount, weight}
+use Rattle.table_flow.specs.Counts.{stopped, kept_if}
+use Rattle.table_flow.proofs.Amounts.{amount_append, both_first, both_second}
+use Rattle.table_flow.proofs.NoneReached.{amount_drawn_each, amount_drawn_bound, none_one}
 use Rattle.mass_fold.specs.declared.ended.Ended.{Ended}
 use Rattle.mass_fold.specs.declared.meter.Meter.{Meter}
 use Rattle.mass_fold.specs.Amounts.{held}

@@ -5,12 +5,12 @@ use Rattle.gcl_core.specs.meaning.Bounds.{BlockIsWeighed}
 use Rattle.gcl_core.specs.meaning.Value.{value_of}
 use Rattle.gcl_core.specs.meaning.Blocks.{End}
 use Rattle.gcl_core.specs.weighing.WeightedEnds.{Weighted}
-use Rattle.mass_tables.specs.Tables.{Table, Flow, holds, fails, only, faults, loop_flow, block_flow}
-use Rattle.mass_tables.specs.Reached.{ReachedDraws, loop_draws, block_draws}
-use Rattle.mass_tables.specs.Scale.{Within, amount, weight}
-use Rattle.mass_tables.specs.Counts.{stopped, kept_if, none_stopped, all_kept}
-use Rattle.mass_tables.proofs.Amounts.{amount_append}
-use Rattle.mass_tables.proofs.NoneReached.{none_turns, none_all}
+use Rattle.table_flow.specs.Tables.{Table, Flow, holds, fails, only, faults, loop_flow, block_flow}
+use Rattle.table_flow.specs.Reached.{ReachedDraws, loop_draws, block_draws}
+use Rattle.table_flow.specs.Scale.{Within, amount, weight}
+use Rattle.table_flow.specs.Counts.{stopped, kept_if, none_stopped, all_kept}
+use Rattle.table_flow.proofs.Amounts.{amount_append}
+use Rattle.table_flow.proofs.NoneReached.{none_turns, none_all}
 use Rattle.mass_fold.specs.declared.ended.Ended.{Ended}
 use Rattle.mass_fold.specs.declared.meter.Meter.{Meter}
 use Rattle.mass_fold.specs.Amounts.{held}

@@ -4,10 +4,10 @@ use Rattle.std.proofs.Math.Nat.{mul-le-mul_left, mul-le-mul_right}
 use Rattle.gcl_core.specs.meaning.Value.{State}
 use Rattle.gcl_core.specs.weighing.Fractions.{Fraction, times}
 use Rattle.gcl_core.specs.weighing.WeightedEnds.{class_weight}
-use Rattle.frac128.specs.Fraction.{InLowest, IsEqual, sum_of, product_of}
-use Rattle.frac128.proofs.Divisors.{product_pos}
-use Rattle.mass_tables.specs.Scale.{whole, Whole}
-use Rattle.mass_tables.proofs.Wholes.{whole_from, sum_whole, sum_wide, product_whole, product_wide}
+use Rattle.numbers.specs.Fraction.{InLowest, IsEqual, sum_of, product_of}
+use Rattle.numbers.proofs.Divisors.{product_pos}
+use Rattle.table_flow.specs.Scale.{whole, Whole}
+use Rattle.table_flow.proofs.Wholes.{whole_from, sum_whole, sum_wide, product_whole, product_wide}
 use Rattle.mass_fold.specs.declared.meter.Meter.{Meter}
 use Rattle.mass_fold.specs.declared.meter.Meter.TheVariants.{Off, Bits, TooWide}
 use Rattle.mass_fold.specs.Amounts.{held}

@@ -4,10 +4,10 @@ use Rattle.gcl_core.specs.declared.answers.Fault.{Fault}
 use Rattle.gcl_core.specs.meaning.Syntax.{Expression}
 use Rattle.gcl_core.specs.meaning.Value.{State, Value, ExpressionBelow, is_zero}
 use Rattle.gcl_core.specs.meaning.Blocks.{End, by_value}
-use Rattle.mass_tables.specs.Tables.{holds, fails}
+use Rattle.table_flow.specs.Tables.{holds, fails}
 use Rattle.mass_fold.specs.declared.ended.Gone.{Gone}
 use Rattle.mass_fold.specs.inner.Ended.{end_of, fault_end}
-use Rattle.mass_tables.specs.Counts.{moved, stopped, kept_if}
+use Rattle.table_flow.specs.Counts.{moved, stopped, kept_if}
 
 pub moved_ok : (x : ℕ) (v : State → Value) (s s' t : State) (z : ℤ) → Ok z ≡ v s' → s' ≡ s → t ≡ slice_set s x z → (G : State → ℕ) → moved x v G s ≡ G t
 moved_ok x v s s' t z p q r G = ap (λ o. by_value o (λ f. 0) (λ z. G (slice_set s x z))) (ap v (sym q) ∙ sym p) ∙ ap G (sym r)

@@ -9,9 +9,9 @@ use Rattle.gcl_core.specs.meaning.Order.{is_before}
 use Rattle.gcl_core.specs.meaning.Outcomes.{same_outcome}
 use Rattle.gcl_core.proofs.OutcomeOrder.{before_differs, after_differs}
 use Rattle.gcl_core.proofs.SameOutcomes.{same_outcomes, outcome_itself}
-use Rattle.frac128.specs.Fraction.{InLowest, IsEqual, lowest}
-use Rattle.frac128.proofs.Divisors.{gauss, along_to, lowest_from, product_pos, cancel, factor_pos}
-use Rattle.mass_tables.specs.Scale.{whole, Whole}
+use Rattle.numbers.specs.Fraction.{InLowest, IsEqual, lowest}
+use Rattle.numbers.proofs.Divisors.{gauss, along_to, lowest_from, product_pos, cancel, factor_pos}
+use Rattle.table_flow.specs.Scale.{whole, Whole}
 use Rattle.mass_fold.specs.declared.error.MassError.{MassError}
 use Rattle.mass_fold.specs.Amounts.{held, AreHeld}
 use Rattle.mass_fold.specs.inner.Masses.{counted, HoldMasses}

@@ -9,11 +9,11 @@ use Rattle.std.specs.Int.{IsGcd}
 use Rattle.gcl_core.specs.meaning.Draw.{bits_for, rejected_numbers}
 use Rattle.gcl_core.specs.weighing.Fractions.{Fraction, times, power}
 use Rattle.gcl_core.specs.weighing.WeightedEnds.{class_weight, no_class_weight}
-use Rattle.frac128.specs.Fraction.{lowest, InLowest, IsEqual, fits, product_of}
-use Rattle.frac128.proofs.Divisors.{coprime_parts, coprime_product, coprime_products, product_pos, lowest_in_lowest, lowest_equal, cancel, equal_trans}
-use Rattle.mass_tables.specs.Scale.{whole, Whole}
-use Rattle.mass_tables.proofs.Wholes.{whole_from, lowest_divides, product_refused}
-use Rattle.mass_tables.proofs.Draws.{each_part, no_part, all_parts, parts_add_up}
+use Rattle.numbers.specs.Fraction.{lowest, InLowest, IsEqual, fits, product_of}
+use Rattle.numbers.proofs.Divisors.{coprime_parts, coprime_product, coprime_products, product_pos, lowest_in_lowest, lowest_equal, cancel, equal_trans}
+use Rattle.table_flow.specs.Scale.{whole, Whole}
+use Rattle.table_flow.proofs.Wholes.{whole_from, lowest_divides, product_refused}
+use Rattle.table_flow.proofs.Draws.{each_part, no_part, all_parts, parts_add_up}
 use Rattle.mass_fold.specs.inner.Steps.{IsPower, PowerBlames, IsParts, PartsBlame}
 
 -- two fractions of one value

@@ -4,10 +4,10 @@ use Rattle.std.specs.Prelude.{◌==◌}
 use Rattle.std.proofs.lemmas.Bool.Decides.{nat_tests}
 use Rattle.std.proofs.Math.Nat.{lt_of_mul-lt-mul_left, mul-lt-mul_of_pos_right}
 use Rattle.gcl_core.specs.weighing.Fractions.{Fraction}
-use Rattle.frac128.specs.Fraction.{IsEqual, product_of, quotient_of}
-use Rattle.frac128.proofs.Divisors.{product_pos, cancel}
-use Rattle.mass_tables.specs.Scale.{whole, Whole}
-use Rattle.mass_tables.proofs.Wholes.{whole_from, product_whole, product_refused}
+use Rattle.numbers.specs.Fraction.{IsEqual, product_of, quotient_of}
+use Rattle.numbers.proofs.Divisors.{product_pos, cancel}
+use Rattle.table_flow.specs.Scale.{whole, Whole}
+use Rattle.table_flow.proofs.Wholes.{whole_from, product_whole, product_refused}
 use Rattle.mass_fold.specs.declared.error.MassError.{MassError}
 use Rattle.mass_fold.specs.declared.error.MassError.TheVariants.{TooWide, TooManyStates, AllFailed, OutOfMemory}
 use Rattle.mass_fold.specs.inner.Amounts.{Blames}

@@ -4,8 +4,8 @@ use Rattle.gcl_core.specs.weighing.Fractions.{Fraction}
 use Rattle.gcl_core.specs.weighing.Mass.{is_failed, failed_mass}
 use Rattle.gcl_core.specs.meaning.Bounds.{BlockIsWeighed}
 use Rattle.gcl_core.specs.meaning.Syntax.{SourceProgram}
-use Rattle.frac128.specs.Fraction.{InLowest, IsEqual, lowest}
-use Rattle.mass_tables.specs.Width.{round_width}
+use Rattle.numbers.specs.Fraction.{InLowest, IsEqual, lowest}
+use Rattle.table_flow.specs.Width.{round_width}
 use Rattle.mass_fold.specs.declared.meter.Meter.{Meter}
 use Rattle.mass_fold.specs.declared.meter.Meter.TheVariants.{Off, Bits, TooWide}
 use Rattle.mass_fold.specs.Body.{RoundBits}

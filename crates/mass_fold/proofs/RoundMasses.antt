@@ -8,13 +8,13 @@ use Rattle.gcl_core.specs.weighing.Mass.{sum_of, ends_in, is_failed, round_mass,
 use Rattle.gcl_core.specs.meaning.Outcomes.{zeros}
 use Rattle.gcl_core.specs.meaning.Syntax.{SourceProgram}
 use Rattle.gcl_core.specs.weighing.WeightedEnds.{weighted_ends}
-use Rattle.frac128.specs.Fraction.{lowest}
-use Rattle.frac128.proofs.Divisors.{lowest_in_lowest}
-use Rattle.mass_tables.specs.Scale.{amount}
-use Rattle.mass_tables.specs.Tables.{peak_of}
-use Rattle.mass_tables.specs.Width.{round_width, width_of}
-use Rattle.mass_tables.proofs.AtWidth.{at_width}
-use Rattle.mass_tables.proofs.Paths.{ends_positive, sum_positive}
+use Rattle.numbers.specs.Fraction.{lowest}
+use Rattle.numbers.proofs.Divisors.{lowest_in_lowest}
+use Rattle.table_flow.specs.Scale.{amount}
+use Rattle.table_flow.specs.Tables.{peak_of}
+use Rattle.table_flow.specs.Width.{round_width, width_of}
+use Rattle.table_flow.proofs.AtWidth.{at_width}
+use Rattle.table_flow.proofs.Paths.{ends_positive, sum_positive}
 use Rattle.mass_fold.specs.declared.ended.Ended.{Ended}
 use Rattle.mass_fold.specs.declared.error.MassError.{MassError}
 use Rattle.mass_fold.specs.declared.error.MassError.TheVariants.{TooWide, TooManyStates, AllFailed, OutOfMemory}

@@ -10,16 +10,16 @@ use Rattle.gcl_core.specs.meaning.Value.{State, Value}
 use Rattle.gcl_core.specs.meaning.Blocks.{by_value, by_bound}
 use Rattle.gcl_core.specs.weighing.Fractions.{Fraction, times, one}
 use Rattle.gcl_core.specs.weighing.WeightedEnds.{scaled, class_weight, no_class_weight}
-use Rattle.frac128.specs.Fraction.{IsEqual}
-use Rattle.frac128.proofs.Divisors.{product_pos, along_to, cancel}
-use Rattle.mass_tables.specs.Tables.{Table, bound_draws, draw_weights}
-use Rattle.mass_tables.specs.Scale.{whole, Whole, Wholes, AllWhole, amount}
-use Rattle.mass_tables.specs.Counts.{multiplied, part_at, rest_at}
-use Rattle.mass_tables.proofs.Amounts.{all_first, all_second}
-use Rattle.mass_tables.proofs.Wholes.{whole_from}
-use Rattle.mass_tables.proofs.Draws.{share, class_pos, no_class_pos}
-use Rattle.mass_tables.proofs.EqualFractions.{equal_times}
-use Rattle.mass_tables.proofs.Kept.{times_swap}
+use Rattle.numbers.specs.Fraction.{IsEqual}
+use Rattle.numbers.proofs.Divisors.{product_pos, along_to, cancel}
+use Rattle.table_flow.specs.Tables.{Table, bound_draws, draw_weights}
+use Rattle.table_flow.specs.Scale.{whole, Whole, Wholes, AllWhole, amount}
+use Rattle.table_flow.specs.Counts.{multiplied, part_at, rest_at}
+use Rattle.table_flow.proofs.Amounts.{all_first, all_second}
+use Rattle.table_flow.proofs.Wholes.{whole_from}
+use Rattle.table_flow.proofs.Draws.{share, class_pos, no_class_pos}
+use Rattle.table_flow.proofs.EqualFractions.{equal_times}
+use Rattle.table_flow.proofs.Kept.{times_swap}
 use Rattle.mass_fold.specs.Amounts.{held, AreHeld}
 use Rattle.mass_fold.specs.inner.Amounts.{Entries, order}
 use Rattle.mass_fold.specs.inner.Steps.{Shares, shared, EachState, BothWhole}

@@ -10,15 +10,15 @@ use Rattle.gcl_core.specs.meaning.Bounds.{IsWeight, BlockIsWeighed}
 use Rattle.gcl_core.specs.meaning.Blocks.{End, limit}
 use Rattle.gcl_core.specs.weighing.Fractions.{Fraction, times}
 use Rattle.gcl_core.specs.weighing.WeightedEnds.{Weighted, scaled, class_weight, no_class_weight}
-use Rattle.frac128.specs.Fraction.{IsEqual, product_of}
-use Rattle.frac128.proofs.Divisors.{product_pos, cancel}
-use Rattle.mass_tables.specs.Tables.{Table, all_end, both, statement_flow, block_flow, draws_each, draw_weights}
-use Rattle.mass_tables.specs.Scale.{whole, Whole, Wholes, AllWhole, Within, amount, weight}
-use Rattle.mass_tables.specs.Counts.{none_kept, none_stopped, all_kept, all_stopped}
-use Rattle.mass_tables.proofs.Amounts.{amount_append, amount_all_end, ends_first, all_first, all_second, both_first, both_second, regroup}
-use Rattle.mass_tables.proofs.Kept.{kept_one, kept_all, all_end_weight, ends_whole, choice_kept}
-use Rattle.mass_tables.proofs.Wholes.{whole_from, product_refused}
-use Rattle.mass_tables.proofs.Draws.{each_part, class_pos, no_class_pos, parts_add_up}
+use Rattle.numbers.specs.Fraction.{IsEqual, product_of}
+use Rattle.numbers.proofs.Divisors.{product_pos, cancel}
+use Rattle.table_flow.specs.Tables.{Table, all_end, both, statement_flow, block_flow, draws_each, draw_weights}
+use Rattle.table_flow.specs.Scale.{whole, Whole, Wholes, AllWhole, Within, amount, weight}
+use Rattle.table_flow.specs.Counts.{none_kept, none_stopped, all_kept, all_stopped}
+use Rattle.table_flow.proofs.Amounts.{amount_append, amount_all_end, ends_first, all_first, all_second, both_first, both_second, regroup}
+use Rattle.table_flow.proofs.Kept.{kept_one, kept_all, all_end_weight, ends_whole, choice_kept}
+use Rattle.table_flow.proofs.Wholes.{whole_from, product_refused}
+use Rattle.table_flow.proofs.Draws.{each_part, class_pos, no_class_pos, parts_add_up}
 use Rattle.mass_fold.specs.declared.error.MassError.{MassError}
 use Rattle.mass_fold.specs.declared.error.MassError.TheVariants.{TooWide}
 use Rattle.mass_fold.specs.declared.ended.Gone.TheVariants as gone_kind

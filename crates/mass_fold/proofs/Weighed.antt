@@ -9,9 +9,9 @@ use Rattle.gcl_core.specs.weighing.Fractions.{Fraction, IsShare, IsWithinShare}
 use Rattle.gcl_core.specs.weighing.Mass.{mass_of}
 use Rattle.gcl_core.specs.weighing.StringWeight.{outcome_weight}
 use Rattle.gcl_core.specs.meaning.Syntax.{SourceProgram}
-use Rattle.frac128.specs.Divisor.{gcd}
-use Rattle.frac128.specs.Fraction.{lowest}
-use Rattle.frac128.proofs.Divisors.{gcd_is, gcd_pos, cancel}
+use Rattle.numbers.specs.Divisor.{gcd}
+use Rattle.numbers.specs.Fraction.{lowest}
+use Rattle.numbers.proofs.Divisors.{gcd_is, gcd_pos, cancel}
 use Rattle.weighing_law.specs.Weighing.{WeighsExactly, limited_mass}
 use Rattle.mass_fold.specs.Rows.{Rows, AreMasses}
 use Rattle.mass_fold.specs.Weighed.{AreWeighed}

@@ -1,7 +1,7 @@
 -- What the weights of a list hold, as whole numbers at a scale.
 use Rattle.std.specs.Prelude.{ℕ, ◌+◌, ◌*◌, ◌≤◌, ◌<◌, List, [], ◌∷◌}
 use Rattle.gcl_core.specs.weighing.Fractions.{Fraction}
-use Rattle.mass_tables.specs.Scale.{whole, Whole}
+use Rattle.table_flow.specs.Scale.{whole, Whole}
 use Rattle.mass_fold.specs.Rows.{Rows}
 
 -- the sum of the weights at scale N, each times what G gives its key

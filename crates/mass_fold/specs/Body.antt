@@ -1,11 +1,11 @@
 -- What the bits of the draws of one round are, and what a mass is.
 use Rattle.std.specs.Prelude.{◌≡◌, ℕ, ◌*◌, ◌<◌, ◌≤◌, Option, Some, None}
 use Rattle.gcl_core.specs.meaning.Syntax.{SourceProgram}
-use Rattle.frac128.specs.Fraction.{Overfills}
+use Rattle.numbers.specs.Fraction.{Overfills}
 use Rattle.gcl_core.specs.weighing.Fractions.{Fraction}
-use Rattle.mass_tables.specs.Scale.{whole, Whole, amount}
-use Rattle.mass_tables.specs.Reached.{draws_of}
-use Rattle.mass_tables.specs.Width.{round_width}
+use Rattle.table_flow.specs.Scale.{whole, Whole, amount}
+use Rattle.table_flow.specs.Reached.{draws_of}
+use Rattle.table_flow.specs.Width.{round_width}
 use Rattle.mass_fold.specs.Metering.{Priced, price}
 
 -- `many` / X bits; none only where, for every bound C of these, 128 bits are too few for X * C

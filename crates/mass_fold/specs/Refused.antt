@@ -4,12 +4,12 @@ use Rattle.gcl_core.specs.weighing.Fractions.{IsOne}
 use Rattle.gcl_core.specs.weighing.Mass.{failed_mass}
 use Rattle.gcl_core.specs.meaning.Syntax.{SourceProgram}
 use Rattle.gcl_core.specs.declared.rules.TheConstants.{MOST_LIMIT}
-use Rattle.mass_tables.specs.Tables.{peak_of}
-use Rattle.mass_tables.specs.Width.{round_width, width_of}
+use Rattle.table_flow.specs.Tables.{peak_of}
+use Rattle.table_flow.specs.Width.{round_width, width_of}
 use Rattle.mass_fold.specs.declared.error.MassError.{MassError}
 use Rattle.mass_fold.specs.declared.error.MassError.TheVariants.{TooWide, TooManyStates, AllFailed, OutOfMemory}
 use Rattle.mass_fold.specs.declared.table.TheConstants.{MOST_STATES}
-use Rattle.frac128.specs.Fraction.{Overfills}
+use Rattle.numbers.specs.Fraction.{Overfills}
 
 -- a limit of attempts or of rounds
 abbrev pub IsLimit : ℕ → Type 0

@@ -1,8 +1,8 @@
 -- What further rounds make of the weights of one round, at a scale.
 use Rattle.std.specs.Prelude.{◌≡◌, ℕ, zero, suc, ◌+◌, ◌*◌, ◌^◌, ◌<◌, ◌≤◌}
 use Rattle.gcl_core.specs.weighing.Fractions.{Fraction}
-use Rattle.mass_tables.specs.Scale.{whole, Whole}
-use Rattle.frac128.specs.Fraction.{Overfills}
+use Rattle.table_flow.specs.Scale.{whole, Whole}
+use Rattle.numbers.specs.Fraction.{Overfills}
 
 -- 1 + f + .. + f ^ (R - 1), as parts of d ^ (R - 1), where d is the denominator of f
 abbrev pub geometric : Fraction → ℕ → ℕ

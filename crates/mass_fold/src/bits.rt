@@ -1,11 +1,11 @@
 // The bits of one round.
 
 ghost use Rattle.std.specs.Prelude.{◌≡◌, ◌≤◌, Some, IfOk, IfErr};
-ghost use Rattle.frac128.specs.Fraction.{lowest};
+ghost use Rattle.numbers.specs.Fraction.{lowest};
 ghost use Rattle.gcl_core.specs.weighing.Mass.{failed_mass};
 ghost use Rattle.gcl_core.specs.meaning.Views.{source_of};
 ghost use Rattle.gcl_core.specs.declared.rules.TheConstants.{MOST_LIMIT};
-ghost use Rattle.mass_tables.specs.Width.{round_width};
+ghost use Rattle.table_flow.specs.Width.{round_width};
 ghost use Rattle.mass_fold.specs.Body.{RoundBits, IsMass};
 ghost use Rattle.mass_fold.specs.inner.Metering.{bits_of};
 ghost use Rattle.mass_fold.specs.Refused.{IsLimit, RoundRefused};
@@ -14,7 +14,7 @@ use crate::attempts::Attempts;
 use crate::body::fold_body;
 use crate::error::MassError;
 use crate::meter::Meter;
-use frac128::Frac;
+use numbers::Frac;
 use gcl_core::Checked;
 use std::alloc::Global;
 

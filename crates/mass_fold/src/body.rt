@@ -3,8 +3,8 @@
 ghost use Rattle.std.specs.Prelude.{◌≡◌, length, IfOk, IfErr};
 ghost use Rattle.gcl_core.specs.meaning.Outcomes.{zeros};
 ghost use Rattle.gcl_core.specs.meaning.Views.{source_of};
-ghost use Rattle.mass_tables.specs.Tables.{peak_of};
-ghost use Rattle.mass_tables.specs.Width.{round_width};
+ghost use Rattle.table_flow.specs.Tables.{peak_of};
+ghost use Rattle.table_flow.specs.Width.{round_width};
 ghost use Rattle.mass_fold.specs.inner.Amounts.{Blames};
 ghost use Rattle.mass_fold.specs.inner.Body.{BodyGives, BodyMeters};
 

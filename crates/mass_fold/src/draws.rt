@@ -18,7 +18,7 @@ use crate::state::State;
 use crate::steps::ended_by;
 use crate::table::Table;
 use draw_tree::bits_for;
-use frac128::Frac;
+use numbers::Frac;
 use gcl_core::{Expr, eval};
 use std::alloc::Global;
 

@@ -2,7 +2,7 @@
 
 ghost use Rattle.std.specs.Prelude.{◌≡◌, ◌≤◌, length, IfOk, IfErr};
 ghost use Rattle.std.specs.List.{sum};
-ghost use Rattle.frac128.specs.Fraction.{IsEqual};
+ghost use Rattle.numbers.specs.Fraction.{IsEqual};
 ghost use Rattle.gcl_core.specs.meaning.Arms.{parts_of};
 ghost use Rattle.gcl_core.specs.meaning.Bounds.{StatementIsWeighed, BlockIsWeighed, ArmsAreWeighed};
 ghost use Rattle.gcl_core.specs.meaning.Bounds.{StatementBelow, BlockBelow, ArmsBelow};
@@ -21,7 +21,7 @@ use crate::error::MassError;
 use crate::meter::{Meter, count_arms, count_choice, count_uniform};
 use crate::steps::{assign, end_all, merge, split};
 use crate::table::Table;
-use frac128::Frac;
+use numbers::Frac;
 use gcl_core::{Arms, Block, Expr, Stmt};
 use std::alloc::Global;
 

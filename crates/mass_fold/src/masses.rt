@@ -1,13 +1,13 @@
 // The masses of a program.
 
 ghost use Rattle.std.specs.Prelude.{◌≡◌, ◌≤◌, ℕ, Option, IfOk, IfErr, IfSome, IfNone};
-ghost use Rattle.frac128.specs.Fraction.{lowest};
+ghost use Rattle.numbers.specs.Fraction.{lowest};
 ghost use Rattle.gcl_core.specs.weighing.Fractions.{IsBelowOne};
 ghost use Rattle.gcl_core.specs.weighing.Mass.{round_mass, failed_mass, mass_of};
 ghost use Rattle.gcl_core.specs.meaning.Outcomes.{same_outcome};
 ghost use Rattle.gcl_core.specs.meaning.Views.{source_of};
 ghost use Rattle.gcl_core.specs.declared.rules.TheConstants.{MOST_LIMIT};
-ghost use Rattle.mass_tables.specs.Width.{round_width, width_of};
+ghost use Rattle.table_flow.specs.Width.{round_width, width_of};
 ghost use Rattle.mass_fold.specs.Amounts.{WholeWithin};
 ghost use Rattle.mass_fold.specs.inner.Masses.{RoundGives};
 ghost use Rattle.mass_fold.specs.Refused.{IsLimit, RoundRefused, MassRefused};
@@ -20,7 +20,7 @@ use crate::meter::Meter;
 use crate::outcomes::{add_ended, add_results};
 use crate::rounds::{in_rounds, over_rest};
 use crate::rows::{FracRows, Round};
-use frac128::Frac;
+use numbers::Frac;
 use gcl_core::{Checked, Outcome};
 use std::alloc::Global;
 use std::collections::BTreeMap;

@@ -9,7 +9,7 @@ ghost use Rattle.gcl_core.specs.meaning.Bounds.{IsWeight};
 ghost use Rattle.gcl_core.specs.meaning.Parts.{AreParts, partial_sums};
 ghost use Rattle.gcl_core.specs.meaning.Value.{value_of, ExpressionBelow};
 ghost use Rattle.gcl_core.specs.meaning.Views.{expression_of, list_of_arms};
-ghost use Rattle.mass_tables.specs.Scale.{whole, Whole};
+ghost use Rattle.table_flow.specs.Scale.{whole, Whole};
 ghost use Rattle.mass_fold.specs.inner.Metering.{CountedOn, AddsBits, IsPrice, PriceBlames, bound_price, IsBoundPriced, CountsAll, CountsDraws};
 
 use crate::attempts::Attempts;
@@ -17,8 +17,8 @@ use crate::choosing::total;
 use crate::draws::parts;
 use crate::state::State;
 use crate::table::Table;
-use draw_cost::{arms_bits, choice_bits, uniform_bits};
-use frac128::Frac;
+use attempt_bits::{arms_bits, choice_bits, uniform_bits};
+use numbers::Frac;
 use gcl_core::{Arms, Expr, MOST_ARMS, Weight, eval};
 
 /// How many bits the draws that are reached read on average, each by the weight with which it is reached.

@@ -11,7 +11,7 @@ use crate::ended::Ended;
 use crate::error::MassError;
 use crate::state::State;
 use crate::table::Table;
-use frac128::Frac;
+use numbers::Frac;
 use gcl_core::{Expr, Fault, Limit, Outcome, eval, outcomes_are_ordered};
 use std::collections::BTreeMap;
 

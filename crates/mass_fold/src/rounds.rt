@@ -8,7 +8,7 @@ ghost use Rattle.mass_fold.specs.inner.Steps.{IsPower, PowerBlames};
 use crate::draws::power;
 use crate::error::MassError;
 use crate::outcomes::add;
-use frac128::Frac;
+use numbers::Frac;
 use gcl_core::{Limit, Outcome};
 use std::alloc::Global;
 use std::collections::BTreeMap;

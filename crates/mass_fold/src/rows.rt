@@ -6,7 +6,7 @@ ghost use Rattle.mass_fold.specs.Rows.{Ascending, EachLowest};
 
 use crate::error::MassError;
 use crate::ordered::is_ordered;
-use frac128::Frac;
+use numbers::Frac;
 use gcl_core::{Outcome, outcomes_are_ordered};
 use std::alloc::Global;
 use std::collections::BTreeMap;

@@ -9,7 +9,7 @@ ghost use Rattle.mass_fold.specs.inner.Amounts.{PutGives, PutBlames, IsPut};
 
 use crate::error::MassError;
 use crate::state::State;
-use frac128::Frac;
+use numbers::Frac;
 use std::alloc::Global;
 use std::collections::BTreeMap;
 use std::collections::btree_map::Entry;

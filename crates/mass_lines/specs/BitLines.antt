@@ -1,6 +1,6 @@
 -- The line of the bits that a run reads on average.
 use Rattle.std.specs.Prelude.{◌≡◌, ℕ, List}
-use Rattle.frac128.specs.Fraction.{lowest}
+use Rattle.numbers.specs.Fraction.{lowest}
 use Rattle.gcl_core.specs.declared.answers.Limits.{Limits}
 use Rattle.gcl_core.specs.meaning.Syntax.{SourceProgram}
 use Rattle.gcl_core.specs.weighing.Fractions.{Fraction}

@@ -1,6 +1,6 @@
 -- The lines of bounds, outcomes ascending.
 use Rattle.std.specs.Prelude.{◌≡◌, ℕ, ◌==◌, ◌≤◌, All, List, [], ◌++◌, if◌then◌else◌}
-use Rattle.frac128.specs.Fraction.{lowest}
+use Rattle.numbers.specs.Fraction.{lowest}
 use Rattle.gcl_core.specs.declared.answers.Outcome.{Outcome}
 use Rattle.gcl_core.specs.meaning.Syntax.{SourceProgram}
 use Rattle.gcl_core.specs.weighing.Fractions.{Fraction, IsBelowOne}

@@ -1,7 +1,7 @@
 -- The lines of bounds between which masses lie, outcomes ascending.
 use Rattle.std.specs.Prelude.{◌≡◌, ℕ, Bool, All, List, Option, IfNone}
-use Rattle.enclosure_law.specs.Enclosures.{AreEnclosures, SomePasses, upper_of_others}
-use Rattle.enclosure_law.specs.Holding.{IsFor, MayEnd, Enclose, AreClose, most_apart}
+use Rattle.units_law.specs.Enclosures.{AreEnclosures, SomePasses, upper_of_others}
+use Rattle.units_law.specs.Holding.{IsFor, MayEnd, Enclose, AreClose, most_apart}
 use Rattle.gcl_core.specs.meaning.Syntax.{SourceProgram}
 use Rattle.gcl_core.specs.weighing.Fractions.{Fraction, IsBelowOne}
 use Rattle.gcl_core.specs.weighing.Mass.{failed_mass}

@@ -2,7 +2,7 @@
 
 ghost use Rattle.mass_lines.specs.Narrow.{IsNarrow};
 
-use frac128::Frac;
+use numbers::Frac;
 
 /// It does nothing: the two numbers of a fraction have 128 bits, by their type.
 #[tactic(auto, using(std::proofs::lemmas::Bool::Decides::nat_tests))]

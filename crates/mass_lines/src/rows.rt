@@ -9,7 +9,7 @@ ghost use Rattle.mass_lines.specs.MassLines.{mass_rows_text};
 
 use crate::narrow::is_narrow;
 use exact_fold::ExactMasses;
-use frac128::Frac;
+use numbers::Frac;
 use gcl_print::Text;
 use mass_fold::FracRows;
 use posterior_bounds::{BoundRows, Bounds};

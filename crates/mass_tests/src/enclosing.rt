@@ -4,7 +4,7 @@ ghost use Rattle.std.specs.Prelude.{◌≡◌, true, IfSome};
 ghost use Rattle.mass_fold.specs.Refused.{IsLimit};
 
 use enclose_fold::{EncloseError, enclose};
-use frac128::Frac;
+use numbers::Frac;
 use gcl_core::{Limit, Outcome};
 use gcl_text::check_text;
 use posterior_bounds::BoundRows;

@@ -1,6 +1,6 @@
 ghost use Rattle.std.specs.Prelude.{◌≤◌};
 
-use frac128::Frac;
+use numbers::Frac;
 use std::cmp::Ordering;
 
 // the greatest number of 128 bits, and those before it

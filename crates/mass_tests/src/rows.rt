@@ -1,6 +1,6 @@
 // Fractions and rows of masses, beside those that are wanted.
 
-use frac128::Frac;
+use numbers::Frac;
 use gcl_core::Outcome;
 use mass_fold::FracRows;
 

@@ -1,6 +1,6 @@
 // The bits of an attempt, worked by hand.
 
-use draw_cost::{arms_bits, choice_bits, uniform_bits};
+use attempt_bits::{arms_bits, choice_bits, uniform_bits};
 use gcl_core::{Weight, draws};
 
 // At 2/3 the empty string and 1 decide nothing: 4 + 2. At 1/2 the empty string alone. At 0/1 and 1/1 a number has no bits. At 1/3

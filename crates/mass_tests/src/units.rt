@@ -1,6 +1,6 @@
-// The tests of `fixed_point`: powers of 1/3 and 1/2, rounded both ways.
+// The tests of `numbers`: powers of 1/3 and 1/2, rounded both ways.
 
-use fixed_point::{ALL, over_down, over_up, part_down, power_down, power_up, share_down, share_up};
+use numbers::{ALL, over_down, over_up, part_down, power_down, power_up, share_down, share_up};
 
 // 2^120 / 3, rounded down
 const THIRD: u128 = 443_075_998_594_971_957_634_602_353_426_781_525;

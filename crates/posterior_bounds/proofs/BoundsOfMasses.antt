@@ -1,13 +1,13 @@
 -- The rows over the masses of n turns are the bounds, and hold; and why there are none.
 use Rattle.std.proofs.Common.{◌≡◌, ◌⊎◌, inl, inr, ◌∙◌, ℕ, zero, suc, ◌*◌, ◌^◌, ◌<◌, ◌≤◌, true, false, None, refl, sym, ap, subst, arith, le_refl, true≢false}
 use Rattle.std.specs.Prelude.{Contains}
-use Rattle.frac128.specs.Fraction.{lowest, InLowest, IsEqual, sum_of}
-use Rattle.frac128.proofs.Divisors.{lowest_in_lowest, lowest_equal}
+use Rattle.numbers.specs.Fraction.{lowest, InLowest, IsEqual, sum_of}
+use Rattle.numbers.proofs.Divisors.{lowest_in_lowest, lowest_equal}
 use Rattle.gcl_core.specs.declared.answers.Limit.TheVariants.{Turns}
 use Rattle.gcl_core.specs.declared.answers.Outcome.{Outcome}
 use Rattle.gcl_core.specs.declared.answers.Outcome.TheVariants as outcome
 use Rattle.gcl_core.specs.weighing.Fractions.{Fraction, zero_share, plus, IsBelowOne}
-use Rattle.gcl_core.specs.meaning.Keeping.{IsChecked}
+use Rattle.gcl_core.specs.meaning.Checked.{IsChecked}
 use Rattle.gcl_core.specs.weighing.Mass.{mass_of}
 use Rattle.gcl_core.specs.meaning.Outcomes.{same_outcome}
 use Rattle.gcl_core.specs.meaning.Syntax.{SourceProgram}
@@ -16,8 +16,8 @@ use Rattle.mass_fold.specs.declared.error.MassError.TheVariants.{TooWide, TooMan
 use Rattle.mass_fold.specs.Amounts.{WholeWithin}
 use Rattle.mass_fold.specs.Refused.{MassRefused}
 use Rattle.mass_fold.specs.Rows as masses
-use Rattle.mass_tables.specs.Width.{width_of}
-use Rattle.mass_tables.proofs.Wholes.{sum_refused}
+use Rattle.table_flow.specs.Width.{width_of}
+use Rattle.table_flow.proofs.Wholes.{sum_refused}
 use Rattle.weighing_law.proofs.Shares.{product_pos, factor_pos}
 use Rattle.posterior_bounds.specs.PosteriorBounds.{is_settled, fails, given, lower_of, upper_of, upper_of_others}
 use Rattle.posterior_bounds.specs.Holding.{BoundsHold}

@@ -3,7 +3,7 @@ use Rattle.std.proofs.Common.{◌≡◌, ◌⊎◌, inl, inr, ◌∙◌, ℕ, ze
 use Rattle.std.specs.Prelude.{All, AllPairs, Contains, if◌then◌else◌}
 use Rattle.std.proofs.lemmas.List.Elements.{All-nil, All-cons, All-head, All-tail}
 use Rattle.std.proofs.lemmas.List.Kept.{AllPairs-cons}
-use Rattle.frac128.specs.Fraction.{lowest}
+use Rattle.numbers.specs.Fraction.{lowest}
 use Rattle.gcl_core.specs.declared.answers.Outcome.{Outcome}
 use Rattle.gcl_core.specs.weighing.Fractions.{Fraction, zero_share, plus}
 use Rattle.gcl_core.specs.meaning.Order.{is_before}
@@ -12,8 +12,8 @@ use Rattle.gcl_core.proofs.SameOutcomes.{same_outcomes, outcome_itself}
 use Rattle.mass_fold.specs.Amounts.{held, AreHeld}
 use Rattle.mass_fold.specs.Rows as masses
 use Rattle.mass_fold.proofs.OutcomeRows.{ascending_rest, all_after}
-use Rattle.mass_tables.specs.Scale.{whole, Whole}
-use Rattle.mass_tables.proofs.Wholes.{whole_from, whole_lowest}
+use Rattle.table_flow.specs.Scale.{whole, Whole}
+use Rattle.table_flow.proofs.Wholes.{whole_from, whole_lowest}
 use Rattle.posterior_bounds.specs.PosteriorBounds.{is_settled}
 use Rattle.posterior_bounds.specs.Rows.{outcomes_of}
 use Rattle.posterior_bounds.specs.inner.Rising.{mass_in, raised}

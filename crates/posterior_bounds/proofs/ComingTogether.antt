@@ -4,7 +4,7 @@ use Rattle.std.proofs.lemmas.Nat.{pow_pos}
 use Rattle.std.proofs.Math.Nat.{mul-le-mul_left, mul-le-mul_right, le_of_mul-le-mul_left}
 use Rattle.gcl_core.specs.declared.answers.Limit.TheVariants.{Turns}
 use Rattle.gcl_core.specs.declared.answers.Outcome.TheVariants as outcome
-use Rattle.gcl_core.specs.meaning.Keeping.{IsChecked}
+use Rattle.gcl_core.specs.meaning.Checked.{IsChecked}
 use Rattle.gcl_core.specs.meaning.Outcomes.{same_outcome}
 use Rattle.gcl_core.specs.meaning.Syntax.{SourceProgram}
 use Rattle.gcl_core.specs.weighing.Fractions.{Fraction, plus, AtMost, IsBelowOne}
@@ -14,8 +14,8 @@ use Rattle.weighing_law.specs.LimitsCost.{cut_off}
 use Rattle.weighing_law.proofs.LimitsLaw.{limits_cost}
 use Rattle.weighing_law.proofs.Shares.{counts_sum, sum_pos, product_pos}
 use Rattle.weighing_law.proofs.StatedMasses.{fails_in_part}
-use Rattle.cut_off_law.proofs.Fractions.{at_most_then, at_most_plus}
-use Rattle.cut_off_law.proofs.CutOffLaw.{cut_off_vanishes}
+use Rattle.weighing_law.proofs.Fractions.{at_most_then, at_most_plus}
+use Rattle.weighing_law.proofs.CutOffLaw.{cut_off_vanishes}
 use Rattle.posterior_bounds.specs.ComingTogether.{OthersVanish, ComeTogether}
 use Rattle.posterior_bounds.specs.PosteriorBounds.{fails, upper_of_others}
 use Rattle.posterior_bounds.specs.StringBounds.{weight_at}

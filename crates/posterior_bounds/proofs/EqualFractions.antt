@@ -1,7 +1,7 @@
 -- What is said of a fraction holds of each that is equal to it.
 use Rattle.std.proofs.Common.{◌*◌, ◌<◌, ap, arith}
 use Rattle.std.proofs.Math.Nat.{mul-le-mul_right, le_of_mul-le-mul_right}
-use Rattle.frac128.specs.Fraction.{IsEqual}
+use Rattle.numbers.specs.Fraction.{IsEqual}
 use Rattle.gcl_core.specs.weighing.Fractions.{Fraction, AtMost}
 
 pub equal_below : (p q m : Fraction) → 0 < q.1 → IsEqual p q → AtMost q m → AtMost p m

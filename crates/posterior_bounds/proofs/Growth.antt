@@ -5,7 +5,7 @@ use Rattle.gcl_core.specs.declared.answers.Limit.TheVariants.{Turns, Attempts, R
 use Rattle.gcl_core.specs.declared.answers.Outcome.{Outcome}
 use Rattle.gcl_core.specs.declared.answers.Outcome.TheVariants as outcome
 use Rattle.gcl_core.specs.meaning.Blocks.{End, on, failed, fault, limit}
-use Rattle.gcl_core.specs.meaning.Keeping.{IsChecked}
+use Rattle.gcl_core.specs.meaning.Checked.{IsChecked}
 use Rattle.gcl_core.specs.weighing.Mass.{ends_in, is_failed}
 use Rattle.gcl_core.specs.meaning.Outcomes.{same_outcome, zeros, outcome_of}
 use Rattle.gcl_core.specs.meaning.Syntax.{Expression, SourceProgram}

@@ -1,11 +1,11 @@
 -- Lowest terms of fractions of one value, and of sums.
 use Rattle.std.proofs.Common.{◌≡◌, ◌<◌, arith}
-use Rattle.frac128.specs.Fraction.{lowest, IsEqual}
-use Rattle.frac128.proofs.Divisors.{lowest_in_lowest, lowest_equal, equal_trans}
+use Rattle.numbers.specs.Fraction.{lowest, IsEqual}
+use Rattle.numbers.proofs.Divisors.{lowest_in_lowest, lowest_equal, equal_trans}
 use Rattle.gcl_core.specs.weighing.Fractions.{Fraction, plus}
 use Rattle.mass_fold.proofs.OutcomeRows.{lowest_is}
 use Rattle.weighing_law.proofs.Shares.{product_pos}
-use Rattle.mass_tables.proofs.EqualFractions.{equal_plus}
+use Rattle.table_flow.proofs.EqualFractions.{equal_plus}
 
 pub lowest_same : (p q : Fraction) → 0 < p.1 → 0 < q.1 → IsEqual p q → lowest p ≡ lowest q
 lowest_same p q pp qp e = lowest_is (lowest p) q (lowest_in_lowest p.0 p.1 (omega arith)) qp (equal_trans (lowest p) p q pp (lowest_equal p.0 p.1) e)

@@ -2,14 +2,14 @@
 use Rattle.std.proofs.Common.{◌≡◌, ◌∙◌, ℕ, suc, zero, ◌+◌, ◌*◌, ◌<◌, Bool, true, false, List, [], ◌∷◌, ◌++◌, drop, Some, sym, ap, arith, append_assoc}
 use Rattle.std.specs.List.{slice_get}
 use Rattle.std.specs.Prelude.{if◌then◌else◌}
-use Rattle.frac128.specs.Fraction.{lowest, InLowest, sum_of}
+use Rattle.numbers.specs.Fraction.{lowest, InLowest, sum_of}
 use Rattle.gcl_core.specs.declared.answers.Outcome.{Outcome}
 use Rattle.gcl_core.specs.weighing.Fractions.{Fraction, plus}
 use Rattle.gcl_core.specs.meaning.Outcomes.{same_outcome}
 use Rattle.mass_fold.specs.Rows as masses
 use Rattle.mass_fold.proofs.OutcomeRows.{lowest_is}
-use Rattle.mass_tables.specs.Scale.{whole}
-use Rattle.mass_tables.proofs.Wholes.{whole_from, sum_whole}
+use Rattle.table_flow.specs.Scale.{whole}
+use Rattle.table_flow.proofs.Wholes.{whole_from, sum_whole}
 use Rattle.weighing_law.proofs.Shares.{product_pos}
 use Rattle.posterior_bounds.specs.PosteriorBounds.{is_settled}
 use Rattle.posterior_bounds.specs.Rows.{Rows}

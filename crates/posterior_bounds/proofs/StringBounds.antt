@@ -4,7 +4,7 @@ use Rattle.gcl_core.specs.declared.answers.Answer.{Answer}
 use Rattle.gcl_core.specs.declared.answers.Limits.{Limits}
 use Rattle.gcl_core.specs.declared.answers.Outcome.{Outcome}
 use Rattle.gcl_core.specs.declared.answers.Outcome.TheVariants as outcome
-use Rattle.gcl_core.specs.meaning.Keeping.{IsChecked}
+use Rattle.gcl_core.specs.meaning.Checked.{IsChecked}
 use Rattle.gcl_core.specs.meaning.Outcomes.{same_outcome}
 use Rattle.gcl_core.specs.meaning.Runs.{run_on}
 use Rattle.gcl_core.specs.meaning.Syntax.{SourceProgram}
@@ -15,7 +15,7 @@ use Rattle.weighing_law.specs.Weighing.{Suffices, limited_mass, WeighsExactly}
 use Rattle.weighing_law.proofs.LimitsLaw.{limits_cost}
 use Rattle.weighing_law.proofs.Shares.{product_pos}
 use Rattle.weighing_law.proofs.WeighingLaw.{weighs_exactly}
-use Rattle.cut_off_law.proofs.Fractions.{at_most_then, at_most_plus}
+use Rattle.weighing_law.proofs.Fractions.{at_most_then, at_most_plus}
 use Rattle.posterior_bounds.specs.PosteriorBounds.{is_settled, lower_of, upper_of, upper_of_others}
 use Rattle.posterior_bounds.specs.Holding.{IsBounded, BoundsHold}
 use Rattle.posterior_bounds.proofs.BoundsLaw.{bounds_hold}

@@ -8,7 +8,7 @@ use Rattle.gcl_core.specs.meaning.Runs.{run_on}
 use Rattle.gcl_core.specs.meaning.Syntax.{SourceProgram}
 use Rattle.gcl_core.specs.weighing.Fractions.{plus, AtMost, IsBelowOne}
 use Rattle.weighing_law.specs.Weighing.{Suffices}
-use Rattle.cut_off_law.specs.CutOff.{enough_attempts, enough_rounds}
+use Rattle.weighing_law.specs.CutOff.{enough_attempts, enough_rounds}
 use Rattle.posterior_bounds.specs.PosteriorBounds.{is_settled, fails, upper_of_others}
 use Rattle.posterior_bounds.specs.StringBounds.{weight_at}
 

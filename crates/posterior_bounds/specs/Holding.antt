@@ -1,7 +1,7 @@
 -- The law of the bounds: they hold for every greater limit of turns, and lie within those of every lesser one. This project's own
 -- rule.
 use Rattle.std.specs.Prelude.{◌≡◌, ℕ, ◌≤◌, Bool, true, false, None}
-use Rattle.frac128.specs.Fraction.{IsEqual}
+use Rattle.numbers.specs.Fraction.{IsEqual}
 use Rattle.gcl_core.specs.declared.answers.Limit.TheVariants.{Turns}
 use Rattle.gcl_core.specs.declared.answers.Outcome.{Outcome}
 use Rattle.gcl_core.specs.declared.answers.Outcome.TheVariants as outcome

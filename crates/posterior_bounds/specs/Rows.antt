@@ -1,7 +1,7 @@
 -- Rows of bounds: values and faults ascend, each with its two bounds in lowest terms, and what the rows promise for every greater
 -- limit of turns. This project's own rule.
 use Rattle.std.specs.Prelude.{◌≡◌, ℕ, ◌≤◌, ◌<◌, true, None, List, map, AllPairs, Contains}
-use Rattle.frac128.specs.Fraction.{lowest}
+use Rattle.numbers.specs.Fraction.{lowest}
 use Rattle.gcl_core.specs.declared.answers.Outcome.{Outcome}
 use Rattle.gcl_core.specs.weighing.Fractions.{Fraction, AtMost}
 use Rattle.gcl_core.specs.weighing.Mass.{mass_of}

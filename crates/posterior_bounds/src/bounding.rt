@@ -1,7 +1,7 @@
 // The bounds of a program.
 
 ghost use Rattle.std.specs.Prelude.{◌≡◌, ◌≤◌, ℕ, None, IfOk, IfErr};
-ghost use Rattle.frac128.specs.Fraction.{lowest};
+ghost use Rattle.numbers.specs.Fraction.{lowest};
 ghost use Rattle.gcl_core.specs.weighing.Fractions.{IsBelowOne};
 ghost use Rattle.gcl_core.specs.meaning.Views.{source_of};
 ghost use Rattle.gcl_core.specs.declared.rules.TheConstants.{MOST_LIMIT};

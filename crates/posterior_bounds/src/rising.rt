@@ -1,7 +1,7 @@
 // Each mass as a lower bound, and with what ran out of turns as an upper bound.
 
 ghost use Rattle.std.specs.Prelude.{◌≡◌, None, IfOk, IfErr, IfSome, IfNone};
-ghost use Rattle.frac128.specs.Fraction.{lowest, sum_of};
+ghost use Rattle.numbers.specs.Fraction.{lowest, sum_of};
 ghost use Rattle.gcl_core.specs.declared.answers.Limit.TheVariants.{Turns};
 ghost use Rattle.gcl_core.specs.declared.answers.Outcome.TheVariants as outcome;
 ghost use Rattle.gcl_core.specs.weighing.Fractions.{plus};
@@ -10,7 +10,7 @@ ghost use Rattle.posterior_bounds.specs.PosteriorBounds.{is_settled};
 ghost use Rattle.posterior_bounds.specs.inner.Rising.{mass_in, raised, RaiseRefused};
 
 use crate::rows::BoundRows;
-use frac128::Frac;
+use numbers::Frac;
 use gcl_core::{Limit, Outcome};
 use mass_fold::{FracRows, MassError};
 use std::alloc::Global;

@@ -2,7 +2,7 @@
 
 ghost use Rattle.std.specs.Prelude.{◌≡◌, ◌<◌, length, Some, slice_get};
 
-use frac128::Frac;
+use numbers::Frac;
 use gcl_core::Outcome;
 use std::marker::Model;
 

@@ -4,7 +4,7 @@ ghost use Rattle.std.specs.Prelude.{◌≡◌, ◌+◌, ◌≤◌, ◌++◌, [],
 ghost use Rattle.report_text.specs.Lines.{fraction_text};
 ghost use Rattle.report_text.specs.declared.line.TheConstants as rule;
 
-use frac128::Frac;
+use numbers::Frac;
 use itoa::{Buffer, Integer};
 use std::marker::Model;
 

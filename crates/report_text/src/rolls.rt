@@ -5,7 +5,7 @@ ghost use Rattle.report_text.specs.Lines.{roll_text, each_text, flips_text};
 
 use crate::line::Line;
 use dice_roll::Roll;
-use frac128::Frac;
+use numbers::Frac;
 
 /// The line of a roll: its label and how many bits it read, or how many it read where it has none. It takes no memory.
 pub fn roll_line(roll: &Roll) -> Line

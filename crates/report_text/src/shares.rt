@@ -5,7 +5,7 @@ ghost use Rattle.report_text.specs.Lines.{mass_text, bound_text, other_text, und
 
 use crate::line::Line;
 use crate::outcomes::outcome_line;
-use frac128::Frac;
+use numbers::Frac;
 use gcl_core::Outcome;
 
 /// The line of an outcome and its mass, a fraction in lowest terms. It takes no memory.

@@ -2,7 +2,7 @@
 use Rattle.std.specs.Prelude.{ℕ}
 use Rattle.dice_roll.specs.declared.answers.Roll.{Roll}
 use Rattle.dice_roll.specs.declared.answers.Roll.TheVariants.{Label, Limit, MoreBits}
-use Rattle.stream_draws.specs.declared.ends.TheConstants.{MORE_BITS, VALUE}
+use Rattle.stream_runs.specs.declared.ends.TheConstants.{MORE_BITS, VALUE}
 use Rattle.stream_rolls.specs.declared.ends.TheConstants.{FLIPS}
 
 -- which end it is: a label is a value

@@ -4,7 +4,7 @@ ghost use Rattle.std.specs.Prelude.{◌≡◌};
 ghost use Rattle.stream_rolls.specs.Ends.{end_of, label_of};
 
 use dice_roll::Roll;
-use stream_draws::{MORE_BITS, VALUE};
+use stream_runs::{MORE_BITS, VALUE};
 
 /// The limit of flips cut the roll off. No run of a program ends so.
 pub const FLIPS: u8 = 8;

@@ -11,7 +11,7 @@ ghost use Rattle.zar_io.specs.declared.stream_bits.TheConstants.{MOST_BUDGET};
 use crate::ends::{end_of, label_of};
 use dice_roll::Roll;
 use std::alloc::{AllocError, Global};
-use stream_draws::StreamsFrom;
+use stream_runs::StreamsFrom;
 use weighted_roll::{Loaded, MOST_DEPTH};
 use zar_io::{Failed, StreamBits};
 

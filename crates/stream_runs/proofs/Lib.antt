@@ -1,3 +1,4 @@
 pub mod OneAnswer
 pub mod Lent
 pub mod Told
+pub mod Slots

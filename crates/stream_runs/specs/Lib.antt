@@ -3,3 +3,5 @@ pub mod Blocks
 pub mod Keys
 pub mod Homes
 pub mod Jobs
+pub mod Ends
+pub mod Draws

@@ -10,10 +10,18 @@
 //! most 10^9 bits.
 #![tactic(auto)]
 
+mod drawing;
+mod ends;
 mod job;
+mod programs;
 mod range;
 mod running;
 
+pub use drawing::{StreamsFrom, draws_into};
+pub use ends::{
+    ATTEMPTS, BAD_BOUND, MORE_BITS, OVERFLOW, ROUNDS, TURNS, VALUE, ZERO_DIVISOR, end_of, value_of,
+};
 pub use job::Job;
+pub use programs::draws_of;
 pub use range::{MOST_STREAMS, MOST_WORKERS, STREAMS_OF_A_BLOCK, SeedRange};
 pub use running::{answer_on_stream, run_on_stream};

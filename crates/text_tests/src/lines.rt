@@ -1,6 +1,6 @@
 // The tests of `report_text`: the lines, byte by byte.
 
-use frac128::Frac;
+use numbers::Frac;
 use gcl_core::{Answer, Fault, Limit, Outcome, TallyKey};
 use report_text::{
     Refusal, bound_line, check_line, cost_line, fault_line, hunt_line, mass_line, other_line,

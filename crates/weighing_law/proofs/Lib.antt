@@ -26,3 +26,9 @@ pub mod StringWeights
 pub mod EndedStrings
 pub mod JustReadStrings
 pub mod Counted
+pub mod Fractions
+pub mod Spared
+pub mod OneAttempt
+pub mod RareEnds
+pub mod RoundCutOff
+pub mod CutOffLaw

@@ -15,3 +15,5 @@ pub mod Givens
 pub mod Weighing
 pub mod Listing
 pub mod Summing
+pub mod Keeping
+pub mod Behind

@@ -2,9 +2,9 @@
 use Rattle.std.proofs.Common.{◌≡◌, ℕ, zero, suc, ◌+◌, ◌-◌, ◌*◌, ◌/◌, ◌^◌, ◌≤◌, ◌<◌, Bool, Option, Some, None, List, [], ◌∷◌, ◌++◌, length, get_or, sym, ap, ◌∙◌, arith}
 use Rattle.std.proofs.lemmas.Bool.Decides.{nat_tests}
 use Rattle.std.specs.List.{sum}
-use Rattle.frac128.specs.Divisor.{gcd}
-use Rattle.frac128.specs.Fraction.{Fraction, lowest}
-use Rattle.frac128.proofs.Divisors.{gcd_is, gcd_pos, coprime_rests, factor_pos, lowest_from}
+use Rattle.numbers.specs.Divisor.{gcd}
+use Rattle.numbers.specs.Fraction.{Fraction, lowest}
+use Rattle.numbers.proofs.Divisors.{gcd_is, gcd_pos, coprime_rests, factor_pos, lowest_from}
 use native.Mathlib.Nat.{mul-div_cancel'}
 use Rattle.weighted_roll.specs.Rollers.{undecided, decided, flips_on, add_strings, sum_below}
 use Rattle.weighted_roll.specs.Shares.{all_flips, flips_expected, share_left, share_of, shares_of, values_below}

@@ -6,3 +6,4 @@ pub mod Rollers
 pub mod Optimal
 pub mod Shares
 pub mod inner
+pub mod Drawn

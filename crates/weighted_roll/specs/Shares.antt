@@ -1,7 +1,7 @@
 -- What the labels of a roll by weights weigh within some flips, and how many flips it makes on average, as fractions in lowest
 -- terms. This project's own rule.
 use Rattle.std.specs.Prelude.{ℕ, zero, suc, ◌^◌, Bool, ◌&&◌, List, [], ◌∷◌, ◌++◌, length, Option, Some, None, nat_le, nat_lt, if◌then◌else◌}
-use Rattle.frac128.specs.Fraction.{Fraction, lowest}
+use Rattle.numbers.specs.Fraction.{Fraction, lowest}
 use Rattle.dice_roll.specs.declared.rules.TheConstants.{MOST_WEIGHED_FLIPS}
 use Rattle.weighted_roll.specs.WeightedRoll.{weighted}
 use Rattle.weighted_roll.specs.Rollers.{decided, undecided, flips_on, add_strings}

@@ -13,6 +13,7 @@
 #![tactic(auto)]
 
 mod columns;
+mod drawn;
 mod laws;
 mod loaded;
 mod reading;
@@ -23,6 +24,7 @@ mod table;
 mod weights;
 mod word_flips;
 
+pub use drawn::draws_by_attempts_stay_behind;
 pub use laws::{equal_weights_roll_fast, exact_rollers_stay_below, weighted_rolls_are_optimal};
 pub use loaded::Loaded;
 pub use reading::{lists_weights, weights_in};

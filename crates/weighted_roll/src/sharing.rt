@@ -3,7 +3,7 @@ ghost use Rattle.std.specs.Prelude.{◌≡◌, ◌<◌, ◌≤◌, ◌*◌, ◌/
 ghost use Rattle.std.specs.List.{sum};
 ghost use Rattle.dice_roll.specs.declared.rules.TheConstants as dice_rule;
 ghost use Rattle.weighted_roll.specs.declared.rules.TheConstants as rule;
-ghost use Rattle.frac128.specs.Fraction.{lowest};
+ghost use Rattle.numbers.specs.Fraction.{lowest};
 ghost use Rattle.weighted_roll.specs.Rollers.{undecided};
 ghost use Rattle.weighted_roll.specs.Shares.{all_flips, share_of, shares_of, values_below};
 ghost use Rattle.weighted_roll.specs.WeightedRoll.{weighted};
@@ -12,7 +12,7 @@ ghost use Rattle.weighted_roll.specs.Weights.{AreWeights};
 use crate::rolling::sum_of;
 use crate::weights::weights_are_small;
 use dice_roll::MOST_WEIGHED_FLIPS;
-use frac128::Frac;
+use numbers::Frac;
 use std::alloc::{AllocError, Global};
 
 /// What labels weigh within some flips, and how many flips a roll makes on average, as fractions in lowest terms.

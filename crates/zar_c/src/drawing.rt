@@ -3,7 +3,7 @@
 ghost use Rattle.std.specs.Prelude.{◌≡◌, ◌↔◌, ◌⊎◌, length};
 ghost use Rattle.gcl_core.specs.meaning.Syntax.{SourceProgram};
 ghost use Rattle.gcl_core.specs.text.Texts.{Spells, SpellsNone};
-ghost use Rattle.stream_draws.specs.Draws.{AreDrawn};
+ghost use Rattle.stream_runs.specs.Draws.{AreDrawn};
 ghost use Rattle.zar_c.specs.Draws.{CanDraw, limits_of};
 ghost use Rattle.zar_c.specs.Said.{place_of, bare, done, text_refused};
 
@@ -13,7 +13,7 @@ use crate::statuses::{DONE, NUMBERS_REFUSED, OUT_OF_MEMORY, TEXT_REFUSED};
 use gcl_parse::one_reading;
 use gcl_text::check_text;
 use std::alloc::Global;
-use stream_draws::{StreamsFrom, draws_of};
+use stream_runs::{StreamsFrom, draws_of};
 
 /// Writes how the runs of the program that a text spells end: place k of both arrays gets the end of the run on the first
 /// `budget` bits of the stream `first` + k of the seed. The status is 0 where it did, 1 where the text spells no program, with

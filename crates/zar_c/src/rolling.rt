@@ -9,7 +9,7 @@ use crate::asking::{ZarRollLimits, can_roll};
 use crate::said::{ZarSaid, said};
 use crate::statuses::{DONE, NUMBERS_REFUSED, OUT_OF_MEMORY};
 use std::alloc::Global;
-use stream_draws::StreamsFrom;
+use stream_runs::StreamsFrom;
 use stream_rolls::rolls_into;
 
 /// Writes what rolls by weights give, with at most `flips` flips each: place k of both arrays gets the end of the roll on the

@@ -1,6 +1,6 @@
 -- What is said of the bits that a run of a program reads on average: the number, in lowest terms; or why it is refused.
 use Rattle.std.specs.Prelude.{◌≡◌, ℕ, None, Result, Ok, Err}
-use Rattle.frac128.specs.Fraction.{lowest}
+use Rattle.numbers.specs.Fraction.{lowest}
 use Rattle.gcl_core.specs.declared.answers.Limits.{Limits}
 use Rattle.gcl_core.specs.declared.refusals.TheConstants.{TOO_WIDE, TOO_MANY_STATES}
 use Rattle.gcl_core.specs.meaning.Syntax.{SourceProgram}

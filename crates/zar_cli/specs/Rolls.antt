@@ -1,7 +1,7 @@
 -- What is said of a roll without bits: what its labels weigh, or that the fractions are too wide.
 use Rattle.std.specs.Prelude.{ℕ, ◌==◌, List, [], ◌++◌, Option, Some, None, option_map, Result, Ok, Err, if◌then◌else◌}
 use Rattle.dice_roll.specs.Shares.{shares_of}
-use Rattle.frac128.specs.Fraction.{Fraction}
+use Rattle.numbers.specs.Fraction.{Fraction}
 use Rattle.gcl_core.specs.declared.refusals.TheConstants.{TOO_WIDE}
 use Rattle.report_text.specs.Lines.{each_text, flips_text}
 use Rattle.report_text.specs.declared.refusals.Refusal.{Refusal}

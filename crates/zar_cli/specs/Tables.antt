@@ -3,7 +3,7 @@ use Rattle.std.specs.Prelude.{ℕ, ◌==◌, ◌^◌, List, [], ◌++◌, if◌t
 use Rattle.gcl_core.specs.declared.answers.Outcome.{Outcome}
 use Rattle.gcl_core.specs.declared.answers.TallyKey.{TallyKey}
 use Rattle.gcl_core.specs.weighing.Fractions.{Fraction}
-use Rattle.frac128.specs.Fraction.{lowest}
+use Rattle.numbers.specs.Fraction.{lowest}
 use Rattle.mass_lines.specs.RowLines.{rows_text}
 use Rattle.report_text.specs.Lines.{mass_text, undecided_text, tally_text}
 

@@ -1,6 +1,6 @@
 -- What is said of a roll by weights without bits: the shares of its labels, what is left, and the expected number of flips.
 use Rattle.std.specs.Prelude.{ℕ, ◌+◌, pos, List, [], ◌∷◌, ◌++◌, Option, option_map}
-use Rattle.frac128.specs.Fraction.{Fraction}
+use Rattle.numbers.specs.Fraction.{Fraction}
 use Rattle.gcl_core.specs.declared.answers.Outcome.TheVariants.{Value}
 use Rattle.report_text.specs.Lines.{mass_text, flips_text, cost_text}
 use Rattle.weighted_roll.specs.Shares.{shares_of}

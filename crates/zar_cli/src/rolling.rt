@@ -13,7 +13,7 @@ ghost use Rattle.zar_io.specs.Trace.{World, Agrees};
 
 use crate::source::open_bits;
 use dice_roll::{Roll, roll, share};
-use frac128::Frac;
+use numbers::Frac;
 use gcl_print::Text;
 use report_text::{Refusal, each_line, flips_line};
 use std::alloc::{AllocError, Global};

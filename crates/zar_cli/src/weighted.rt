@@ -14,7 +14,7 @@ ghost use Rattle.zar_io.specs.Trace.{World, Agrees};
 
 use crate::source::open_bits;
 use dice_roll::Roll;
-use frac128::Frac;
+use numbers::Frac;
 use gcl_core::Outcome;
 use gcl_print::Text;
 use report_text::{Refusal, cost_line, flips_line, mass_line};

@@ -3,9 +3,9 @@ use Rattle.std.specs.Prelude.{◌≡◌, ℕ, Option}
 use Rattle.gcl_core.specs.meaning.Syntax.{SourceProgram}
 use Rattle.gcl_core.specs.meaning.Blocks.{End}
 use Rattle.gcl_core.specs.meaning.Value.{State}
-use Rattle.rounding_law.specs.Down.{down}
-use Rattle.rounding_law.specs.Rounds.{round_units}
-use Rattle.rounding_law.specs.Units.{Units, held}
+use Rattle.units_law.specs.Down.{down}
+use Rattle.units_law.specs.Rounds.{round_units}
+use Rattle.units_law.specs.Units.{Units, held}
 use Rattle.enclose_fold.specs.declared.ended.Ended.{Ended}
 use Rattle.enclose_fold.specs.inner.Ended.{units_of}
 

@@ -3,7 +3,7 @@ use Rattle.std.specs.Prelude.{◌≡◌, ℕ, ◌+◌, [], ◌∷◌}
 use Rattle.gcl_core.specs.declared.answers.Fault.TheVariants.{Overflow, ZeroDivisor, BadBound}
 use Rattle.gcl_core.specs.declared.answers.Limit.TheVariants.{Turns, Attempts}
 use Rattle.gcl_core.specs.meaning.Blocks.{End, failed, fault, limit}
-use Rattle.rounding_law.specs.Units.{Units, held}
+use Rattle.units_law.specs.Units.{Units, held}
 use Rattle.enclose_fold.specs.declared.ended.Ended.{Ended}
 
 abbrev pub units_of : Ended → Units End

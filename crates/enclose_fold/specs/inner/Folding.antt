@@ -2,15 +2,15 @@
 -- after it, and why it is refused.
 use Rattle.std.specs.Prelude.{◌≡◌, ℕ, ◌+◌, ◌≤◌, [], ◌++◌, length, All, Option}
 use Rattle.std.specs.List.{sum}
-use Rattle.fixed_point.specs.declared.TheConstants.{ALL}
+use Rattle.numbers.specs.declared.units.TheConstants.{ALL}
 use Rattle.gcl_core.specs.meaning.Arms.{parts_of}
 use Rattle.gcl_core.specs.meaning.Syntax.{Expression, Statement, Statements, ArmList, no_arm, arm}
 use Rattle.gcl_core.specs.meaning.Value.{State, value_of}
-use Rattle.rounding_law.specs.Down.{down}
-use Rattle.rounding_law.specs.Flows.{UnitFlow, statement_units, block_units, arms_units, loop_units}
-use Rattle.rounding_law.specs.Merged.{merged}
-use Rattle.rounding_law.specs.Rounding.{class_units}
-use Rattle.rounding_law.specs.Units.{Units, total}
+use Rattle.units_law.specs.Down.{down}
+use Rattle.units_law.specs.Flows.{UnitFlow, statement_units, block_units, arms_units, loop_units}
+use Rattle.units_law.specs.Merged.{merged}
+use Rattle.units_law.specs.Rounding.{class_units}
+use Rattle.units_law.specs.Units.{Units, total}
 use Rattle.enclose_fold.specs.declared.error.EncloseError.{EncloseError}
 use Rattle.enclose_fold.specs.declared.ended.Ended.{Ended}
 use Rattle.enclose_fold.specs.declared.fold.Fold.{Fold}

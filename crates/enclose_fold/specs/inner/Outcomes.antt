@@ -12,12 +12,12 @@ use Rattle.gcl_core.specs.meaning.Order.{is_before}
 use Rattle.gcl_core.specs.meaning.Syntax.{Expression, SourceProgram}
 use Rattle.gcl_core.specs.meaning.Value.{State, value_of}
 use Rattle.gcl_core.specs.weighing.Mass.{ends_in}
-use Rattle.fixed_point.specs.declared.TheConstants.{ALL}
-use Rattle.rounding_law.specs.Flows.{UnitFlow}
-use Rattle.rounding_law.specs.Rounds.{end_units_of}
-use Rattle.rounding_law.specs.Units.{Units, held, total}
-use Rattle.enclosure_law.specs.Enclosures.{counts, fails_in}
-use Rattle.enclosure_law.specs.Enclosures as enclosures
+use Rattle.numbers.specs.declared.units.TheConstants.{ALL}
+use Rattle.units_law.specs.Flows.{UnitFlow}
+use Rattle.units_law.specs.Rounds.{end_units_of}
+use Rattle.units_law.specs.Units.{Units, held, total}
+use Rattle.units_law.specs.Enclosures.{counts, fails_in}
+use Rattle.units_law.specs.Enclosures as enclosures
 use Rattle.enclose_fold.specs.declared.ended.Ended.{Ended}
 use Rattle.enclose_fold.specs.inner.Ended as ended
 

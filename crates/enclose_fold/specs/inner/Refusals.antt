@@ -2,8 +2,8 @@
 use Rattle.std.specs.Prelude.{ℕ, ◌<◌, length}
 use Rattle.gcl_core.specs.meaning.Value.{State}
 use Rattle.mass_fold.specs.declared.table.TheConstants.{MOST_STATES}
-use Rattle.rounding_law.specs.Units.{Units}
-use Rattle.rounding_law.specs.Merged.{merged}
+use Rattle.units_law.specs.Units.{Units}
+use Rattle.units_law.specs.Merged.{merged}
 use Rattle.enclose_fold.specs.declared.error.EncloseError.{EncloseError}
 use Rattle.enclose_fold.specs.declared.error.EncloseError.TheVariants.{TooManyStates, AllFailed, TooUnlikely, OutOfMemory}
 

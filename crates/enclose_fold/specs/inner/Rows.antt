@@ -4,8 +4,8 @@ use Rattle.gcl_core.specs.declared.answers.Outcome.{Outcome}
 use Rattle.gcl_core.specs.meaning.Outcomes.{same_outcome}
 use Rattle.gcl_core.specs.weighing.Fractions.{Fraction}
 use Rattle.posterior_bounds.specs.Rows.{Rows}
-use Rattle.rounding_law.specs.Units.{Units}
-use Rattle.enclosure_law.specs.Between.{whole_of, least_of, rounded_down, rounded_up}
+use Rattle.units_law.specs.Units.{Units}
+use Rattle.units_law.specs.Between.{whole_of, least_of, rounded_down, rounded_up}
 
 -- with the row of an outcome, where it has bounds
 abbrev pub with_row : Outcome → Option (Fraction × Fraction) → Rows → Rows

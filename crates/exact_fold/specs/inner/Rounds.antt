@@ -1,16 +1,16 @@
 -- What a round comes to in the limit of turns, as rows, and what they come to over what does not fail.
 use Rattle.std.specs.Prelude.{◌≡◌, ℕ, ◌-◌, ◌≤◌, ◌<◌}
-use Rattle.frac128.specs.Fraction.{IsEqual, InLowest}
+use Rattle.numbers.specs.Fraction.{IsEqual, InLowest}
 use Rattle.gcl_core.specs.meaning.Syntax.{SourceProgram}
 use Rattle.gcl_core.specs.weighing.Fractions.{Fraction}
 use Rattle.gcl_core.specs.weighing.Mass.{ends_in}
-use Rattle.mass_tables.specs.Scale.{whole, Whole}
+use Rattle.table_flow.specs.Scale.{whole, Whole}
 use Rattle.mass_fold.specs.Amounts.{held, AreHeld}
 use Rattle.mass_fold.specs.Rows.{Rows, Ascending, EachLowest}
 use Rattle.mass_fold.specs.inner.Masses.{HoldMasses}
 use Rattle.mass_fold.specs.inner.Rounds.{TableParts, OverRest}
-use Rattle.loop_law.specs.Settling.{Outflow}
-use Rattle.loop_law.specs.SettledMasses.{ProgramSettles, settled_weight, settled_failed}
+use Rattle.unlimited_law.specs.Settling.{Outflow}
+use Rattle.unlimited_law.specs.SettledMasses.{ProgramSettles, settled_weight, settled_failed}
 use Rattle.exact_fold.specs.inner.Settled.{AreUnlimited}
 
 -- the sum of the weights

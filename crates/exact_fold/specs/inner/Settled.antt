@@ -4,13 +4,13 @@ use Rattle.gcl_core.specs.meaning.Blocks.{End, on, failed, fault, limit}
 use Rattle.gcl_core.specs.meaning.Syntax.{SourceProgram}
 use Rattle.gcl_core.specs.weighing.Fractions.{Fraction}
 use Rattle.gcl_core.specs.weighing.WeightedEnds.{Weighted}
-use Rattle.mass_tables.specs.Tables.{Table}
+use Rattle.table_flow.specs.Tables.{Table}
 use Rattle.mass_fold.specs.declared.ended.Ended.{Ended}
 use Rattle.mass_fold.specs.inner.Amounts.{Entries}
 use Rattle.mass_fold.specs.inner.Ended.{rows_of}
-use Rattle.loop_law.specs.Alike.{AreFractions, Alike}
-use Rattle.loop_law.specs.Settling.{Outflow}
-use Rattle.loop_law.specs.SettledMasses.{ProgramSettles}
+use Rattle.unlimited_law.specs.Alike.{AreFractions, Alike}
+use Rattle.unlimited_law.specs.Settling.{Outflow}
+use Rattle.unlimited_law.specs.SettledMasses.{ProgramSettles}
 
 -- the entries as a list of states
 abbrev pub as_table : Entries → Table

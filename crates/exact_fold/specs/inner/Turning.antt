@@ -4,11 +4,11 @@ use Rattle.gcl_core.specs.meaning.Blocks.{End}
 use Rattle.gcl_core.specs.meaning.Value.{State, Value}
 use Rattle.gcl_core.specs.weighing.Fractions.{Fraction}
 use Rattle.gcl_core.specs.weighing.WeightedEnds.{Weighted, sure}
-use Rattle.mass_tables.specs.Tables.{Table, holds}
+use Rattle.table_flow.specs.Tables.{Table, holds}
 use Rattle.mass_fold.specs.declared.ended.Ended.{Ended}
 use Rattle.mass_fold.specs.inner.Amounts.{Entries, order, found}
-use Rattle.loop_law.specs.Alike.{Alike}
-use Rattle.loop_law.specs.Settling.{Outflow, EachState, Within, LoopSettles}
+use Rattle.unlimited_law.specs.Alike.{Alike}
+use Rattle.unlimited_law.specs.Settling.{Outflow, EachState, Within, LoopSettles}
 use Rattle.exact_fold.specs.inner.Settled.{as_table, AreAbove, SettlesFrom}
 
 -- whether a state has an entry

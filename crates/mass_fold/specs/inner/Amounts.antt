@@ -6,11 +6,11 @@ use Rattle.std.specs.Cmp.Lexicographic.{slice_cmp}
 use Rattle.std.specs.BTreeMap.{insert_entry, is_at}
 use Rattle.std.specs.List.Sorted.{IsStrictlySortedBy}
 use Rattle.std.specs.Map.{keys_of, lookup}
-use Rattle.frac128.specs.Fraction.{sum_of, Overfills}
+use Rattle.numbers.specs.Fraction.{sum_of, Overfills}
 use Rattle.gcl_core.specs.meaning.Value.{State}
 use Rattle.gcl_core.specs.weighing.Fractions.{Fraction}
-use Rattle.mass_tables.specs.Tables.{Table, states}
-use Rattle.mass_tables.specs.Scale.{whole, Whole, amount, weight}
+use Rattle.table_flow.specs.Tables.{Table, states}
+use Rattle.table_flow.specs.Scale.{whole, Whole, amount, weight}
 use Rattle.mass_fold.specs.declared.error.MassError.{MassError}
 use Rattle.mass_fold.specs.declared.error.MassError.TheVariants.{TooWide, TooManyStates, AllFailed, OutOfMemory}
 use Rattle.mass_fold.specs.declared.table.TheConstants.{MOST_STATES}

@@ -5,11 +5,11 @@ use Rattle.gcl_core.specs.meaning.Blocks.{End, on}
 use Rattle.gcl_core.specs.meaning.Outcomes.{zeros}
 use Rattle.gcl_core.specs.weighing.WeightedEnds.{weighted_ends}
 use Rattle.gcl_core.specs.weighing.Mass.{sum_of, failed_mass}
-use Rattle.frac128.specs.Fraction.{IsEqual}
-use Rattle.mass_tables.specs.Scale.{amount}
-use Rattle.mass_tables.specs.Reached.{draws_of}
-use Rattle.mass_tables.specs.Tables.{tables_of}
-use Rattle.mass_tables.specs.Width.{round_width}
+use Rattle.numbers.specs.Fraction.{IsEqual}
+use Rattle.table_flow.specs.Scale.{amount}
+use Rattle.table_flow.specs.Reached.{draws_of}
+use Rattle.table_flow.specs.Tables.{tables_of}
+use Rattle.table_flow.specs.Width.{round_width}
 use Rattle.mass_fold.specs.declared.ended.Ended.{Ended}
 use Rattle.mass_fold.specs.declared.meter.Meter.{Meter}
 use Rattle.mass_fold.specs.Amounts.{held}

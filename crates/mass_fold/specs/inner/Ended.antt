@@ -4,7 +4,7 @@ use Rattle.gcl_core.specs.declared.answers.Fault.{Fault}
 use Rattle.gcl_core.specs.meaning.Blocks.{End, failed, fault, limit}
 use Rattle.gcl_core.specs.weighing.Fractions.{Fraction}
 use Rattle.gcl_core.specs.weighing.WeightedEnds.{Weighted}
-use Rattle.mass_tables.specs.Scale.{whole, Whole, Wholes, amount}
+use Rattle.table_flow.specs.Scale.{whole, Whole, Wholes, amount}
 use Rattle.mass_fold.specs.declared.error.MassError.{MassError}
 use Rattle.mass_fold.specs.declared.error.MassError.TheVariants.{TooWide}
 use Rattle.mass_fold.specs.declared.ended.Gone.{Gone}
@@ -12,7 +12,7 @@ use Rattle.mass_fold.specs.declared.ended.Gone.TheVariants.{Failed, Overflow, Di
 use Rattle.mass_fold.specs.declared.ended.Ended.{Ended}
 use Rattle.gcl_core.specs.declared.answers.Fault.TheVariants as fault_kind
 use Rattle.gcl_core.specs.declared.answers.Limit.TheVariants as limit_kind
-use Rattle.frac128.specs.Fraction.{Overfills}
+use Rattle.numbers.specs.Fraction.{Overfills}
 
 abbrev pub end_of : Gone → End
 end_of Failed = failed

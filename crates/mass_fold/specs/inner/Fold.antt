@@ -7,8 +7,8 @@ use Rattle.gcl_core.specs.meaning.Blocks.{End, limit}
 use Rattle.gcl_core.specs.weighing.Fractions.{Fraction}
 use Rattle.gcl_core.specs.weighing.WeightedEnds.{Weighted, scaled, class_weight, no_class_weight}
 use Rattle.gcl_core.specs.meaning.Syntax.{Expression, Statements}
-use Rattle.mass_tables.specs.Tables.{Table, Flow, all_end, states, block_flow, loop_flow}
-use Rattle.mass_tables.specs.Scale.{Whole, Wholes, Within, amount, weight}
+use Rattle.table_flow.specs.Tables.{Table, Flow, all_end, states, block_flow, loop_flow}
+use Rattle.table_flow.specs.Scale.{Whole, Wholes, Within, amount, weight}
 use Rattle.mass_fold.specs.declared.error.MassError.{MassError}
 use Rattle.mass_fold.specs.declared.ended.Ended.{Ended}
 use Rattle.mass_fold.specs.Amounts.{held, AreHeld}

@@ -4,8 +4,8 @@ use Rattle.std.specs.List.{sum}
 use Rattle.gcl_core.specs.meaning.Arms.{parts_of}
 use Rattle.gcl_core.specs.meaning.Parts.{partial_sums}
 use Rattle.gcl_core.specs.meaning.Syntax.{Choose, Expression, Statement, Statements, ArmList}
-use Rattle.mass_tables.specs.Tables.{statement_flow, block_flow}
-use Rattle.mass_tables.specs.Reached.{statement_draws, block_draws}
+use Rattle.table_flow.specs.Tables.{statement_flow, block_flow}
+use Rattle.table_flow.specs.Reached.{statement_draws, block_draws}
 use Rattle.mass_fold.specs.declared.error.MassError.{MassError}
 use Rattle.mass_fold.specs.declared.ended.Ended.{Ended}
 use Rattle.mass_fold.specs.declared.fold.Fold.{Fold}

@@ -4,8 +4,8 @@ use Rattle.gcl_core.specs.declared.answers.Outcome.{Outcome}
 use Rattle.gcl_core.specs.weighing.Fractions.{Fraction}
 use Rattle.gcl_core.specs.weighing.Mass.{round_mass, failed_mass}
 use Rattle.gcl_core.specs.meaning.Syntax.{SourceProgram}
-use Rattle.frac128.specs.Fraction.{IsEqual}
-use Rattle.mass_tables.specs.Width.{round_width}
+use Rattle.numbers.specs.Fraction.{IsEqual}
+use Rattle.table_flow.specs.Width.{round_width}
 use Rattle.mass_fold.specs.Amounts.{held, AreHeld}
 use Rattle.mass_fold.specs.inner.Rounds.{TableParts}
 use Rattle.mass_fold.specs.Rows.{Rows}

@@ -6,9 +6,9 @@ use Rattle.gcl_core.specs.meaning.Draw.{uniform_ends}
 use Rattle.gcl_core.specs.weighing.Fractions.{Fraction}
 use Rattle.gcl_core.specs.weighing.WeightedEnds.{Weighted, class_weight}
 use Rattle.gcl_core.specs.meaning.Syntax.{Expression, Statements}
-use Rattle.mass_tables.specs.Tables.{Table, Flow, block_flow}
-use Rattle.mass_tables.specs.Reached.{ReachedDraws, block_draws, loop_draws}
-use Rattle.mass_tables.specs.Scale.{whole, Whole, Within, amount}
+use Rattle.table_flow.specs.Tables.{Table, Flow, block_flow}
+use Rattle.table_flow.specs.Reached.{ReachedDraws, block_draws, loop_draws}
+use Rattle.table_flow.specs.Scale.{whole, Whole, Within, amount}
 use Rattle.mass_fold.specs.declared.ended.Ended.{Ended}
 use Rattle.mass_fold.specs.declared.meter.Meter.{Meter}
 use Rattle.mass_fold.specs.declared.meter.Meter.TheVariants.{Off, Bits, TooWide}
@@ -16,7 +16,7 @@ use Rattle.mass_fold.specs.Amounts.{held, AreHeld}
 use Rattle.mass_fold.specs.inner.Amounts.{Entries}
 use Rattle.mass_fold.specs.inner.Steps.{EachState}
 use Rattle.mass_fold.specs.inner.Fold.{Stands, EndStands, Around}
-use Rattle.frac128.specs.Fraction.{Overfills}
+use Rattle.numbers.specs.Fraction.{Overfills}
 use Rattle.mass_fold.specs.Metering.{IsPriced, Priced, price}
 
 -- ---- a meter

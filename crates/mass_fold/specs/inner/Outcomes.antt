@@ -7,7 +7,7 @@ use Rattle.gcl_core.specs.meaning.Outcomes.{outcome_of}
 use Rattle.gcl_core.specs.meaning.Syntax.{Expression}
 use Rattle.gcl_core.specs.weighing.Fractions.{Fraction}
 use Rattle.gcl_core.specs.meaning.Value.{State, value_of}
-use Rattle.mass_tables.specs.Scale.{whole, Whole, Wholes, amount}
+use Rattle.table_flow.specs.Scale.{whole, Whole, Wholes, amount}
 use Rattle.mass_fold.specs.declared.error.MassError.{MassError}
 use Rattle.mass_fold.specs.declared.ended.Ended.{Ended}
 use Rattle.mass_fold.specs.Amounts.{held, AreHeld}

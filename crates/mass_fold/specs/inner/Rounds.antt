@@ -4,7 +4,7 @@ use Rattle.gcl_core.specs.declared.answers.Limit.TheVariants.{Rounds}
 use Rattle.gcl_core.specs.declared.answers.Outcome.{Outcome}
 use Rattle.gcl_core.specs.declared.answers.Outcome.TheVariants as outcome
 use Rattle.gcl_core.specs.weighing.Fractions.{Fraction, power}
-use Rattle.mass_tables.specs.Scale.{whole, Whole}
+use Rattle.table_flow.specs.Scale.{whole, Whole}
 use Rattle.mass_fold.specs.declared.error.MassError.{MassError}
 use Rattle.mass_fold.specs.Amounts.{held, AreHeld}
 use Rattle.mass_fold.specs.inner.Amounts.{Blames}

@@ -4,10 +4,10 @@ use Rattle.gcl_core.specs.meaning.Value.{State, Value}
 use Rattle.gcl_core.specs.meaning.Blocks.{End}
 use Rattle.gcl_core.specs.weighing.Fractions.{Fraction, times, power}
 use Rattle.gcl_core.specs.weighing.WeightedEnds.{class_weight, no_class_weight}
-use Rattle.frac128.specs.Fraction.{IsEqual, Overfills}
-use Rattle.mass_tables.specs.Tables.{Table, states}
-use Rattle.mass_tables.specs.Scale.{whole, Whole, Wholes, amount, weight}
-use Rattle.mass_tables.specs.Counts.{sum_below, part_at, rest_at, drawn, undrawn}
+use Rattle.numbers.specs.Fraction.{IsEqual, Overfills}
+use Rattle.table_flow.specs.Tables.{Table, states}
+use Rattle.table_flow.specs.Scale.{whole, Whole, Wholes, amount, weight}
+use Rattle.table_flow.specs.Counts.{sum_below, part_at, rest_at, drawn, undrawn}
 use Rattle.mass_fold.specs.declared.error.MassError.{MassError}
 use Rattle.mass_fold.specs.declared.ended.Ended.{Ended}
 use Rattle.mass_fold.specs.Amounts.{held, AreHeld}

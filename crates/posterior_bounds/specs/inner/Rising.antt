@@ -1,6 +1,6 @@
 -- The bounds of the masses at one limit of turns, row by row: each mass, and it with what ran out of turns. A limit has none.
 use Rattle.std.specs.Prelude.{◌≡◌, true, [], ◌∷◌, Contains, None, if◌then◌else◌}
-use Rattle.frac128.specs.Fraction.{lowest, sum_of}
+use Rattle.numbers.specs.Fraction.{lowest, sum_of}
 use Rattle.gcl_core.specs.declared.answers.Outcome.{Outcome}
 use Rattle.gcl_core.specs.weighing.Fractions.{Fraction, zero_share, plus}
 use Rattle.gcl_core.specs.meaning.Outcomes.{same_outcome}

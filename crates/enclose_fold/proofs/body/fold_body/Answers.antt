@@ -1,9 +1,9 @@
 use Rattle.std.proofs.Common.{◌≡◌, ◌∷◌, [], ◌∙◌, Err, sym, ap, subst, arith}
-use Rattle.fixed_point.specs.declared.TheConstants.{ALL}
+use Rattle.numbers.specs.declared.units.TheConstants.{ALL}
 use Rattle.gcl_core.specs.meaning.Bounds.{BlockIsWeighed}
 use Rattle.gcl_core.specs.meaning.Outcomes.{zeros}
 use Rattle.gcl_core.specs.meaning.Views.{source_of, statements_of}
-use Rattle.mass_tables.specs.Tables.{peak_of}
+use Rattle.table_flow.specs.Tables.{peak_of}
 use Rattle.enclose_fold.specs.inner.Body.{BodyGives}
 use Rattle.enclose_fold.specs.inner.Refusals.{Refuses}
 use Rattle.enclose_fold.proofs.CycleBody.{body_gives, body_refused, body_room}

@@ -1,8 +1,8 @@
 use Rattle.std.proofs.Common.{◌≡◌, ◌∙◌, arith, [], length, sym, ap, Err}
 use Rattle.std.specs.Map.Iter.{deref_pair}
-use Rattle.rounding_law.specs.Down.{down}
-use Rattle.rounding_law.specs.Rounding.{class_units}
-use Rattle.rounding_law.specs.Units.{total}
+use Rattle.units_law.specs.Down.{down}
+use Rattle.units_law.specs.Rounding.{class_units}
+use Rattle.units_law.specs.Units.{total}
 use Rattle.enclose_fold.proofs.EachEntry.{each_class, class_one}
 use Rattle.enclose_fold.proofs.Passing.{pass_start, pass_along, pass_go, pass_room, pass_all}
 use Rattle.enclose_fold.proofs.Putting.{put_holds, put_short, put_fits}

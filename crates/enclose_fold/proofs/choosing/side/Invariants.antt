@@ -1,7 +1,7 @@
 use Rattle.std.proofs.Common.{◌≡◌, ◌≤◌, []}
-use Rattle.rounding_law.specs.Down.{down}
-use Rattle.rounding_law.specs.Rounding.{class_units}
-use Rattle.rounding_law.specs.Units.{total}
+use Rattle.units_law.specs.Down.{down}
+use Rattle.units_law.specs.Rounding.{class_units}
+use Rattle.units_law.specs.Units.{total}
 use Rattle.enclose_fold.proofs.Passing.{Passes}
 use Rattle.enclose_fold.proofs.choosing.side.Given as goal
 

@@ -1,7 +1,7 @@
 use Rattle.std.proofs.Common.{◌*◌, arith, ap}
 use Rattle.gcl_core.specs.declared.answers.Limit.TheVariants.{Attempts}
 use Rattle.gcl_core.specs.meaning.Blocks.{limit}
-use Rattle.rounding_law.specs.Units.{total}
+use Rattle.units_law.specs.Units.{total}
 use Rattle.enclose_fold.proofs.EachEntry.{undecided, each_rest}
 use Rattle.enclose_fold.proofs.Passing.{stop_start, stop_along, stop_go, stop_room, stop_all, one_ended}
 use Rattle.enclose_fold.proofs.Within.{rest_within}

@@ -1,5 +1,5 @@
 use Rattle.std.proofs.Common.{◌≤◌}
-use Rattle.rounding_law.specs.Units.{total}
+use Rattle.units_law.specs.Units.{total}
 use Rattle.enclose_fold.proofs.EachEntry.{undecided}
 use Rattle.enclose_fold.proofs.Passing.{Stops}
 use Rattle.enclose_fold.proofs.choosing.undecided.Given as goal

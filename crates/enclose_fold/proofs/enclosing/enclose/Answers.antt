@@ -3,7 +3,7 @@ use Rattle.std.specs.Prelude.{not}
 use Rattle.gcl_core.specs.meaning.Views.{source_of}
 use Rattle.gcl_core.specs.weighing.Fractions.{IsBelowOne}
 use Rattle.gcl_core.specs.weighing.Mass.{failed_mass}
-use Rattle.enclosure_law.specs.Enclosures.{NothingPasses, SomePasses}
+use Rattle.units_law.specs.Enclosures.{NothingPasses, SomePasses}
 use Rattle.enclose_fold.proofs.Enclosed.{rows_are, other_is}
 use Rattle.enclose_fold.proofs.Ending.{unlimited, anyway, limited, implied, may_end}
 use Rattle.enclose_fold.proofs.NonePass.{none_pass}

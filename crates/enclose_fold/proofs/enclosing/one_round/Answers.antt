@@ -1,7 +1,7 @@
 use Rattle.std.proofs.Common.{subst}
 use Rattle.gcl_core.specs.meaning.Views.{source_of}
 use Rattle.mass_fold.proofs.Listing.{outcomes_ascend}
-use Rattle.rounding_law.specs.Down.{down}
+use Rattle.units_law.specs.Down.{down}
 use Rattle.enclose_fold.specs.inner.Outcomes.{AreOutcomes}
 use Rattle.enclose_fold.proofs.RoundOf.{all_within, round_gives}
 use Rattle.enclose_fold.proofs.enclosing.one_round.Goals as goal

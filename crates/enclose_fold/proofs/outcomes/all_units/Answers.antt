@@ -1,5 +1,5 @@
 use Rattle.std.proofs.Common.{arith, ap}
-use Rattle.rounding_law.specs.Units.{total}
+use Rattle.units_law.specs.Units.{total}
 use Rattle.enclose_fold.proofs.outcomes.all_units.Goals as goal
 
 pub loop-w-init : goal.loop-w-init

@@ -1,5 +1,5 @@
 use Rattle.std.proofs.Common.{◌≡◌, ◌+◌}
-use Rattle.rounding_law.specs.Units.{total}
+use Rattle.units_law.specs.Units.{total}
 use Rattle.enclose_fold.proofs.outcomes.all_units.Given as goal
 
 abbrev pub invariant-loop-w : goal.invariant-loop-w

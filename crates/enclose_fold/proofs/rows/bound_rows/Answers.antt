@@ -1,5 +1,5 @@
 use Rattle.std.proofs.Common.{◌∙◌, ap, arith}
-use Rattle.rounding_law.specs.Units.{total}
+use Rattle.units_law.specs.Units.{total}
 use Rattle.enclose_fold.proofs.Listed.{rows_start, rows_next, rows_end}
 use Rattle.enclose_fold.proofs.rows.bound_rows.Goals as goal
 

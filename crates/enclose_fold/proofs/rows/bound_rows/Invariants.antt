@@ -1,5 +1,5 @@
 use Rattle.std.specs.Prelude.{◌≡◌, ◌≤◌, ◌++◌}
-use Rattle.rounding_law.specs.Units.{total}
+use Rattle.units_law.specs.Units.{total}
 use Rattle.enclose_fold.specs.inner.Rows.{rows_of}
 use Rattle.enclose_fold.proofs.rows.bound_rows.Given as goal
 

@@ -4,8 +4,8 @@ use Rattle.std.proofs.lemmas.List.{length-set}
 use Rattle.gcl_core.specs.meaning.Views.{expression_of}
 use Rattle.gcl_core.specs.meaning.Value.{value_of}
 use Rattle.mass_fold.proofs.Moves.{reads_at}
-use Rattle.rounding_law.specs.Units.{set_units, fault_units}
-use Rattle.rounding_law.proofs.Losses.{set_total}
+use Rattle.units_law.specs.Units.{set_units, fault_units}
+use Rattle.units_law.proofs.Losses.{set_total}
 use Rattle.enclose_fold.proofs.EachEntry.{each_set, each_fault, set_ok, set_err, fault_ok, fault_err}
 use Rattle.enclose_fold.proofs.Passing.{pass_start, pass_along, pass_go, pass_skip, pass_room, pass_all, stop_start, stop_along, stop_go, stop_skip, stop_room, stop_all, one_ended}
 use Rattle.enclose_fold.proofs.Putting.{put_holds, put_short, put_fits}

@@ -1,7 +1,7 @@
 use Rattle.std.proofs.Common.{◌≡◌, []}
 use Rattle.gcl_core.specs.meaning.Views.{expression_of}
 use Rattle.gcl_core.specs.meaning.Value.{value_of}
-use Rattle.rounding_law.specs.Units.{set_units, fault_units}
+use Rattle.units_law.specs.Units.{set_units, fault_units}
 use Rattle.enclose_fold.proofs.Passing.{Passes, Stops}
 use Rattle.enclose_fold.proofs.steps.assign.Given as goal
 

@@ -1,5 +1,5 @@
 use Rattle.std.proofs.Common.{◌≡◌, ◌∙◌, [], ◌∷◌, ◌++◌, refl, sym, Err, arith}
-use Rattle.rounding_law.proofs.Held.{held_append}
+use Rattle.units_law.proofs.Held.{held_append}
 use Rattle.enclose_fold.proofs.EachEntry.{each_itself}
 use Rattle.enclose_fold.proofs.Passing.{pass_start, pass_along, pass_go, pass_room, pass_end}
 use Rattle.enclose_fold.proofs.Putting.{put_holds, put_short, put_refused, refused_in, is_merged}

@@ -3,9 +3,9 @@ use Rattle.std.proofs.lemmas.Int.{to_z-of_z}
 use Rattle.gcl_core.specs.meaning.Views.{expression_of}
 use Rattle.gcl_core.specs.meaning.Value.{value_of}
 use Rattle.mass_fold.proofs.Moves.{reads_at}
-use Rattle.mass_tables.specs.Tables.{holds, fails}
-use Rattle.rounding_law.specs.Units.{only_units, fault_units}
-use Rattle.rounding_law.proofs.Losses.{guard_total}
+use Rattle.table_flow.specs.Tables.{holds, fails}
+use Rattle.units_law.specs.Units.{only_units, fault_units}
+use Rattle.units_law.proofs.Losses.{guard_total}
 use Rattle.enclose_fold.proofs.EachEntry.{each_only, each_fault, zero_holds, zero_fails, not_holds, not_fails, err_holds, err_fails, fault_ok, fault_err}
 use Rattle.enclose_fold.proofs.Passing.{pass_start, pass_along, pass_go, pass_skip, pass_room, pass_all, stop_start, stop_along, stop_go, stop_skip, stop_room, stop_all, one_ended}
 use Rattle.enclose_fold.proofs.Putting.{put_holds, put_short, put_fits}

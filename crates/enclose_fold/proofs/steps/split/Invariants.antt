@@ -1,8 +1,8 @@
 use Rattle.std.proofs.Common.{◌≡◌, []}
 use Rattle.gcl_core.specs.meaning.Views.{expression_of}
 use Rattle.gcl_core.specs.meaning.Value.{value_of}
-use Rattle.mass_tables.specs.Tables.{holds, fails}
-use Rattle.rounding_law.specs.Units.{only_units, fault_units}
+use Rattle.table_flow.specs.Tables.{holds, fails}
+use Rattle.units_law.specs.Units.{only_units, fault_units}
 use Rattle.enclose_fold.proofs.Passing.{Passes, Stops}
 use Rattle.enclose_fold.proofs.steps.split.Given as goal
 

@@ -1,7 +1,7 @@
 use Rattle.std.proofs.Common.{rules, ◌≡◌, ◌∙◌, None, Some, sym, arith}
 use Rattle.std.specs.BTreeMap.{is_at}
 use Rattle.std.specs.Map.{lookup}
-use Rattle.rounding_law.specs.Merged.{order}
+use Rattle.units_law.specs.Merged.{order}
 use Rattle.enclose_fold.proofs.Putting.{put_new, at_some, at_most}
 use Rattle.enclose_fold.proofs.table.put.Goals as goal
 

@@ -7,14 +7,14 @@ use Rattle.gcl_core.specs.meaning.Syntax.{Skip, Set, Uniform, Observe}
 use Rattle.gcl_core.specs.meaning.Views.{expression_of, statement_of, statements_of, list_of, arm_list_of, list_of_arms}
 use Rattle.gcl_core.specs.meaning.Value.{value_of}
 use Rattle.gcl_core.proofs.ViewLemmas.{skip_view, set_view, observe_view, if_view, while_view, choice_view, choose_view, uniform_view}
-use Rattle.loop_law.specs.Alike.{Alike}
-use Rattle.loop_law.specs.Settling.{EachState, BlockSettles}
+use Rattle.unlimited_law.specs.Alike.{Alike}
+use Rattle.unlimited_law.specs.Settling.{EachState, BlockSettles}
 use Rattle.mass_fold.proofs.Fitting.{below_as, weights_as, list_step, below_next, weights_next, along_list, below_list}
 use Rattle.mass_fold.proofs.Folds.{fold_skip, fold_assign, fold_observe, fold_draw}
 use Rattle.mass_fold.specs.inner.Steps.{UniformTo}
 use Rattle.mass_fold.proofs.Sizes.{sized_at}
 use Rattle.std.specs.List.{sum}
-use Rattle.frac128.specs.Fraction.{IsEqual}
+use Rattle.numbers.specs.Fraction.{IsEqual}
 use Rattle.gcl_core.specs.meaning.Arms.{parts_of}
 use Rattle.mass_fold.proofs.ArmsLeft.{arms_done, arms_next}
 use Rattle.exact_fold.proofs.Arms.{arms_start, arms_as, arm_turn, arms_end}

@@ -5,8 +5,8 @@ use Rattle.gcl_core.specs.meaning.Arms.{parts_of}
 use Rattle.exact_fold.proofs.Arms.{ArmsFrom}
 use Rattle.gcl_core.specs.meaning.Views.{list_of, arm_list_of, list_of_arms, expression_of, statements_of}
 use Rattle.gcl_core.specs.meaning.Value.{value_of}
-use Rattle.loop_law.specs.Alike.{Alike}
-use Rattle.loop_law.specs.Settling.{EachState, BlockSettles}
+use Rattle.unlimited_law.specs.Alike.{Alike}
+use Rattle.unlimited_law.specs.Settling.{EachState, BlockSettles}
 use Rattle.exact_fold.specs.inner.Turning.{StaysIn, keys_in}
 use Rattle.exact_fold.proofs.Steps.{SettlesRest}
 use Rattle.exact_fold.proofs.settle.+settle.Given as goal

@@ -1,5 +1,5 @@
 use Rattle.std.proofs.Common.{◌≡◌, ◌∙◌, true, false, not, cond, [], refl, sym, ap}
-use Rattle.mass_tables.specs.Counts.{kept_if, none_stopped}
+use Rattle.table_flow.specs.Counts.{kept_if, none_stopped}
 use Rattle.mass_fold.proofs.Doings.{doing_start, doing_along, doing_go, doing_skip, doing_all}
 use Rattle.mass_fold.proofs.Sizes.{sized_at}
 use Rattle.exact_fold.specs.inner.Turning.{inside, outside}

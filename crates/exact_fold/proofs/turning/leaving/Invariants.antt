@@ -1,7 +1,7 @@
 use Rattle.std.proofs.Common.{◌≡◌, []}
 use Rattle.mass_fold.specs.declared.ended.Ended.{Ended}
 use Rattle.mass_fold.specs.inner.Steps.{StepsOn}
-use Rattle.mass_tables.specs.Counts.{kept_if, none_stopped}
+use Rattle.table_flow.specs.Counts.{kept_if, none_stopped}
 use Rattle.exact_fold.specs.inner.Turning.{outside}
 use Rattle.exact_fold.proofs.turning.leaving.Given as goal
 

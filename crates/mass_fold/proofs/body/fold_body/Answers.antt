@@ -2,8 +2,8 @@ use Rattle.std.proofs.Common.{◌≡◌, ◌∷◌, [], ◌∙◌, Err, sym, ap,
 use Rattle.gcl_core.specs.meaning.Bounds.{BlockIsWeighed}
 use Rattle.gcl_core.specs.meaning.Outcomes.{zeros}
 use Rattle.gcl_core.specs.meaning.Views.{source_of, statements_of}
-use Rattle.mass_tables.specs.Tables.{peak_of}
-use Rattle.mass_tables.specs.Width.{round_width}
+use Rattle.table_flow.specs.Tables.{peak_of}
+use Rattle.table_flow.specs.Width.{round_width}
 use Rattle.mass_fold.specs.inner.Amounts.{Blames}
 use Rattle.mass_fold.specs.inner.Body.{BodyGives, BodyMeters}
 use Rattle.mass_fold.proofs.Beginning.{body_gives, body_blames, body_meters}

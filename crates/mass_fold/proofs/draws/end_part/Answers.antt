@@ -1,5 +1,5 @@
 use Rattle.std.proofs.Common.{◌<◌, [], refl, arith, ◌≡◌, Err}
-use Rattle.mass_tables.specs.Counts.{none_kept, all_stopped}
+use Rattle.table_flow.specs.Counts.{none_kept, all_stopped}
 use Rattle.mass_fold.specs.inner.Ended.{end_of}
 use Rattle.mass_fold.specs.declared.error.MassError.TheVariants.{TooWide}
 use Rattle.mass_fold.proofs.Drawings.{drawing_start, drawing_along, drawing_turn, drawing_blame, added_none, stopped_end, blamed_end, blamed_rest}

@@ -1,5 +1,5 @@
 use Rattle.std.proofs.Common.{[]}
-use Rattle.mass_tables.specs.Counts.{none_kept, all_stopped}
+use Rattle.table_flow.specs.Counts.{none_kept, all_stopped}
 use Rattle.mass_fold.specs.inner.Ended.{end_of}
 use Rattle.mass_fold.specs.inner.Steps.{DrawsOn}
 use Rattle.mass_fold.proofs.draws.end_part.Given as goal

@@ -1,6 +1,6 @@
 use Rattle.std.proofs.Common.{◌<◌, ◌∙◌, length, refl, sym, ap, arith, ◌≡◌, Err}
 use Rattle.std.specs.Map.Iter.{deref_pair}
-use Rattle.mass_tables.specs.Counts.{all_kept, none_stopped}
+use Rattle.table_flow.specs.Counts.{all_kept, none_stopped}
 use Rattle.mass_fold.proofs.Sizes.{sized_at}
 use Rattle.mass_fold.specs.declared.error.MassError.TheVariants.{TooWide}
 use Rattle.mass_fold.proofs.Drawings.{drawing_start, drawing_along, drawing_turn, drawing_blame, added_put, stopped_none, blamed_put, blamed_part}

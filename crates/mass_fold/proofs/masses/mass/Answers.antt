@@ -1,8 +1,8 @@
 use Rattle.std.proofs.Common.{◌≡◌, ◌-◌, ◌<◌, Err, Some, None, IfOk, IfNone, sym, subst, arith}
 use Rattle.gcl_core.specs.weighing.Mass.{failed_mass, mass_of, mass_of_those}
 use Rattle.gcl_core.specs.meaning.Views.{source_of}
-use Rattle.mass_tables.specs.Scale.{whole}
-use Rattle.mass_tables.specs.Width.{round_width, width_of}
+use Rattle.table_flow.specs.Scale.{whole}
+use Rattle.table_flow.specs.Width.{round_width, width_of}
 use Rattle.mass_fold.specs.Amounts.{WholeWithin}
 use Rattle.mass_fold.specs.Refused.{MassRefused}
 use Rattle.mass_fold.specs.Rounds.{scale_of}

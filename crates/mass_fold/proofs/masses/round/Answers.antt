@@ -1,7 +1,7 @@
 use Rattle.std.proofs.Common.{◌≡◌, Err, arith}
 use Rattle.gcl_core.specs.weighing.Mass.{round_mass}
 use Rattle.gcl_core.specs.meaning.Views.{source_of}
-use Rattle.mass_tables.specs.Width.{round_width}
+use Rattle.table_flow.specs.Width.{round_width}
 use Rattle.mass_fold.specs.declared.error.MassError.TheVariants.{OutOfMemory}
 use Rattle.mass_fold.proofs.AllRounds.{failed_is}
 use Rattle.mass_fold.proofs.OutcomeRows.{rows_are}

@@ -1,4 +1,4 @@
-use Rattle.mass_tables.specs.Scale.{whole, Whole}
+use Rattle.table_flow.specs.Scale.{whole, Whole}
 use Rattle.mass_fold.specs.inner.Metering.{CountsRest}
 use Rattle.mass_fold.proofs.meter.add_each.Given as goal
 

@@ -1,6 +1,6 @@
 use Rattle.std.proofs.Common.{◌≡◌, ◌-◌, ◌<◌, Err, arith}
-use Rattle.frac128.specs.Fraction.{IsEqual}
-use Rattle.mass_tables.specs.Scale.{whole}
+use Rattle.numbers.specs.Fraction.{IsEqual}
+use Rattle.table_flow.specs.Scale.{whole}
 use Rattle.mass_fold.proofs.Passing.{passing_next, passing_blames, parts_here}
 use Rattle.mass_fold.proofs.Powers.{as_given}
 use Rattle.mass_fold.proofs.Rest.{over_is, over_refused, rest_above, blames_more}

@@ -1,5 +1,5 @@
 use Rattle.std.specs.Prelude.{◌-◌}
-use Rattle.mass_tables.specs.Scale.{whole}
+use Rattle.table_flow.specs.Scale.{whole}
 use Rattle.mass_fold.proofs.Passing.{PassesOn}
 use Rattle.mass_fold.proofs.rounds.over_rest.Given as goal
 

@@ -3,7 +3,7 @@ use Rattle.std.proofs.lemmas.Int.{to_z-of_z}
 use Rattle.std.proofs.lemmas.List.{length-set}
 use Rattle.gcl_core.specs.meaning.Views.{expression_of}
 use Rattle.gcl_core.specs.meaning.Value.{value_of}
-use Rattle.mass_tables.specs.Counts.{moved, stopped}
+use Rattle.table_flow.specs.Counts.{moved, stopped}
 use Rattle.mass_fold.proofs.Doings.{doing_start, doing_along, doing_go, doing_stop, doing_all, blame_go, blame_stop}
 use Rattle.mass_fold.proofs.Moves.{moved_ok, stopped_ok, moved_err, stopped_err, reads_at}
 use Rattle.mass_fold.proofs.Sizes.{sized_at}

@@ -2,7 +2,7 @@ use Rattle.std.proofs.Common.{◌≡◌, []}
 use Rattle.gcl_core.specs.meaning.Views.{expression_of}
 use Rattle.gcl_core.specs.meaning.Value.{value_of}
 use Rattle.mass_fold.specs.inner.Steps.{StepsOn}
-use Rattle.mass_tables.specs.Counts.{moved, stopped}
+use Rattle.table_flow.specs.Counts.{moved, stopped}
 use Rattle.mass_fold.proofs.steps.assign.Given as goal
 
 abbrev pub invariant-loop-s : goal.invariant-loop-s

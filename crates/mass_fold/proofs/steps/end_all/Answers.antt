@@ -1,6 +1,6 @@
 use Rattle.std.proofs.Common.{[], refl}
 use Rattle.mass_fold.specs.inner.Ended.{end_of}
-use Rattle.mass_tables.specs.Counts.{none_kept, all_stopped}
+use Rattle.table_flow.specs.Counts.{none_kept, all_stopped}
 use Rattle.mass_fold.proofs.Doings.{doing_along, doing_stop, doing_all}
 use Rattle.mass_fold.proofs.steps.end_all.Goals as goal
 

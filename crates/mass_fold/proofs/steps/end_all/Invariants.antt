@@ -1,7 +1,7 @@
 use Rattle.std.proofs.Common.{[]}
 use Rattle.mass_fold.specs.inner.Ended.{end_of}
 use Rattle.mass_fold.specs.inner.Steps.{StepsOn}
-use Rattle.mass_tables.specs.Counts.{none_kept, all_stopped}
+use Rattle.table_flow.specs.Counts.{none_kept, all_stopped}
 use Rattle.mass_fold.proofs.steps.end_all.Given as goal
 
 abbrev pub invariant-loop-f : goal.invariant-loop-f

@@ -1,5 +1,5 @@
 use Rattle.std.proofs.Common.{◌∙◌, refl, sym}
-use Rattle.mass_tables.specs.Counts.{all_kept, none_stopped}
+use Rattle.table_flow.specs.Counts.{all_kept, none_stopped}
 use Rattle.mass_fold.proofs.Doings.{doing_along, doing_go}
 use Rattle.mass_fold.proofs.Sizes.{sized_at}
 use Rattle.mass_fold.proofs.steps.merge.Goals as goal

@@ -1,7 +1,7 @@
 use Rattle.std.proofs.Common.{◌≡◌}
 use Rattle.mass_fold.specs.declared.ended.Ended.{Ended}
 use Rattle.mass_fold.specs.inner.Steps.{StepsOn}
-use Rattle.mass_tables.specs.Counts.{all_kept, none_stopped}
+use Rattle.table_flow.specs.Counts.{all_kept, none_stopped}
 use Rattle.mass_fold.proofs.steps.merge.Given as goal
 
 abbrev pub invariant-loop-s : goal.invariant-loop-s

@@ -2,8 +2,8 @@ use Rattle.std.proofs.Common.{◌≡◌, ◌∙◌, [], length, pos, of_z, w64, 
 use Rattle.std.proofs.lemmas.Int.{to_z-of_z}
 use Rattle.gcl_core.specs.meaning.Views.{expression_of}
 use Rattle.gcl_core.specs.meaning.Value.{value_of}
-use Rattle.mass_tables.specs.Tables.{holds, fails}
-use Rattle.mass_tables.specs.Counts.{kept_if, stopped}
+use Rattle.table_flow.specs.Tables.{holds, fails}
+use Rattle.table_flow.specs.Counts.{kept_if, stopped}
 use Rattle.mass_fold.proofs.Doings.{doing_along, doing_go, doing_skip, doing_stop, doing_all, blame_go, blame_stop, blame_within}
 use Rattle.mass_fold.proofs.Moves.{stopped_ok, stopped_err, reads_at, kept_most, first_zero, second_zero, first_not, second_not, first_err, second_err}
 use Rattle.mass_fold.proofs.Sizes.{sized_at}

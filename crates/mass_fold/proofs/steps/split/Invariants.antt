@@ -1,9 +1,9 @@
 use Rattle.std.proofs.Common.{◌≡◌, []}
 use Rattle.gcl_core.specs.meaning.Views.{expression_of}
 use Rattle.gcl_core.specs.meaning.Value.{value_of}
-use Rattle.mass_tables.specs.Tables.{holds, fails}
+use Rattle.table_flow.specs.Tables.{holds, fails}
 use Rattle.mass_fold.specs.inner.Steps.{StepsOn}
-use Rattle.mass_tables.specs.Counts.{kept_if, stopped}
+use Rattle.table_flow.specs.Counts.{kept_if, stopped}
 use Rattle.mass_fold.proofs.steps.split.Given as goal
 
 abbrev pub invariant-loop-s : goal.invariant-loop-s

@@ -1,7 +1,7 @@
 use Rattle.std.proofs.Common.{◌∙◌, ℕ, ◌+◌, ap, rules}
 use Rattle.weighted_roll.specs.WeightedRoll.{weighted_roll}
 use Rattle.zar_io.specs.StreamBits.{stream_bits}
-use Rattle.stream_draws.proofs.Slots.{written_more}
+use Rattle.stream_runs.proofs.Slots.{written_more}
 use Rattle.stream_rolls.specs.Ends.{end_of, label_of}
 use Rattle.stream_rolls.proofs.rolling.fill.Goals as goal
 

@@ -1,5 +1,5 @@
 use Rattle.std.proofs.Common.{◌∙◌, ap}
-use Rattle.frac128.specs.Fraction.{lowest}
+use Rattle.numbers.specs.Fraction.{lowest}
 use Rattle.weighted_roll.specs.Rollers.{decided}
 use Rattle.weighted_roll.specs.WeightedRoll.{weighted}
 use Rattle.weighted_roll.specs.Shares.{share_of}

@@ -1,5 +1,5 @@
 use Rattle.std.proofs.Common.{◌≡◌, ◌∙◌, ◌-◌, ◌*◌, ◌^◌, suc, ap, arith}
-use Rattle.frac128.specs.Fraction.{lowest}
+use Rattle.numbers.specs.Fraction.{lowest}
 use Rattle.weighted_roll.proofs.Growing.{power_pos}
 use Rattle.weighted_roll.proofs.Weighing.{twice_lowest}
 use Rattle.weighted_roll.proofs.sharing.over_strings.Goals as goal

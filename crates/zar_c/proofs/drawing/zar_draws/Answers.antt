@@ -2,7 +2,7 @@ use Rattle.std.proofs.Common.{subst}
 use Rattle.gcl_core.specs.declared.answers.Limits.{Limits}
 use Rattle.gcl_core.specs.meaning.Syntax.{SourceProgram}
 use Rattle.gcl_core.specs.meaning.Views.{source_of}
-use Rattle.stream_draws.specs.Draws.{AreDrawn}
+use Rattle.stream_runs.specs.Draws.{AreDrawn}
 use Rattle.zar_c.specs.Draws.{limits_of}
 use Rattle.zar_c.proofs.drawing.zar_draws.Goals as goal
 

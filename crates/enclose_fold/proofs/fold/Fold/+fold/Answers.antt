@@ -11,11 +11,11 @@ use Rattle.gcl_core.specs.meaning.Views.{expression_of, statement_of, statements
 use Rattle.gcl_core.proofs.ViewLemmas.{skip_view, set_view, observe_view, if_view, while_view, choice_view, choose_view, uniform_view}
 use Rattle.mass_fold.proofs.ArmsLeft.{arms_done, sum_next, arms_next}
 use Rattle.mass_fold.proofs.Fitting.{below_as, weights_as, list_step, below_next, weights_next, along_list, below_list}
-use Rattle.mass_tables.specs.Tables.{holds, fails}
-use Rattle.rounding_law.specs.Down.{down}
-use Rattle.rounding_law.specs.Flows.{block_units}
-use Rattle.rounding_law.specs.Rounding.{class_units, rest_units}
-use Rattle.rounding_law.specs.Units.{only_units, fault_units, end_units}
+use Rattle.table_flow.specs.Tables.{holds, fails}
+use Rattle.units_law.specs.Down.{down}
+use Rattle.units_law.specs.Flows.{block_units}
+use Rattle.units_law.specs.Rounding.{class_units, rest_units}
+use Rattle.units_law.specs.Units.{only_units, fault_units, end_units}
 use Rattle.enclose_fold.specs.inner.Folding.{FlowRefused}
 use Rattle.enclose_fold.proofs.CycleArms.{arms_start, arms_as, arms_turn, arms_end, arm_room, merge_room, side_fails, block_fails, merge_fails, side_as, choose_within, choose_gives}
 use Rattle.enclose_fold.proofs.CycleFlows.{goes_next, goes_fails, block_spends, empty_gives, both_give, first_refused, second_refused, merge_refused}

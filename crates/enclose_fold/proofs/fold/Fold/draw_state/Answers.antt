@@ -1,9 +1,9 @@
 use Rattle.std.proofs.Common.{◌≡◌, ◌++◌, ◌∙◌, ◌*◌, ℕ, Option, Err, arith, ap, subst}
 use Rattle.gcl_core.specs.meaning.Blocks.{limit}
 use Rattle.gcl_core.specs.declared.answers.Limit.TheVariants.{Attempts}
-use Rattle.rounding_law.specs.Down.{share_of, rest_of}
-use Rattle.rounding_law.specs.Merged.{merged}
-use Rattle.rounding_law.specs.Units.{total, below_units}
+use Rattle.units_law.specs.Down.{share_of, rest_of}
+use Rattle.units_law.specs.Merged.{merged}
+use Rattle.units_law.specs.Units.{total, below_units}
 use Rattle.enclose_fold.specs.inner.Refusals.{RefusedAt}
 use Rattle.enclose_fold.proofs.Spreading.{state_within}
 use Rattle.enclose_fold.proofs.Passing.{one_ended}

@@ -1,7 +1,7 @@
 use Rattle.std.proofs.Common.{◌≡◌, ◌∙◌, length, sym, arith, Err}
 use Rattle.gcl_core.specs.meaning.Views.{expression_of}
 use Rattle.gcl_core.specs.meaning.Value.{value_of}
-use Rattle.mass_tables.specs.Counts.{part_at, rest_at, drawn, undrawn}
+use Rattle.table_flow.specs.Counts.{part_at, rest_at, drawn, undrawn}
 use Rattle.mass_fold.proofs.Moves.{reads_at}
 use Rattle.mass_fold.proofs.Sizes.{sized_at}
 use Rattle.mass_fold.proofs.Drawings.{drawing_start, drawing_along, drawing_turn, drawing_blame}

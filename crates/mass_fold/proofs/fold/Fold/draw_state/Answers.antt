@@ -10,7 +10,7 @@ use Rattle.mass_fold.proofs.Bounds.{class_above}
 use Rattle.mass_fold.proofs.Drawings.{added_spread, blamed_spread, blamed_part, blamed_rest, blamed_parts, blamed_end, stopped_end}
 use Rattle.mass_fold.proofs.Fits.{fits, none_where_wide, is_wide, some_fits, on_wide}
 use Rattle.mass_fold.proofs.fold.Fold.draw_state.Goals as goal
-use Rattle.mass_tables.proofs.Kept.{sum_ones}
+use Rattle.table_flow.proofs.Kept.{sum_ones}
 
 pub returns-in_err-part-clause-cause : goal.returns-in_err-part-clause-cause
 returns-in_err-part-clause-cause c =

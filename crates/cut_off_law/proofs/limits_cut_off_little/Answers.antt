@@ -1,8 +1,0 @@
-use Rattle.cut_off_law.proofs.CutOffLaw.{cut_off_at_most, cut_off_vanishes}
-use Rattle.cut_off_law.proofs.limits_cut_off_little.Goals as goal
-
-pub returns-clause-at_most : goal.returns-clause-at_most
-returns-clause-at_most c = λ p l ok passes some. cut_off_at_most p l ok passes some
-
-pub returns-clause-vanishes : goal.returns-clause-vanishes
-returns-clause-vanishes c = cut_off_vanishes

@@ -1,4 +1,0 @@
-use Rattle.draw_cost.proofs.uniforms.+undecided.Given as goal
-
-abbrev pub decreases-undecided : goal.decreases-undecided
-decreases-undecided l = l.depth

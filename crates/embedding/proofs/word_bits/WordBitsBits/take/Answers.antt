@@ -1,5 +1,0 @@
-use Rattle.embedding.proofs.LowBits.{without_first}
-use Rattle.embedding.proofs.word_bits.WordBitsBits.take.Goals as goal
-
-pub returns-clause-bits : goal.returns-clause-bits
-returns-clause-bits c file = without_first c.args.count c.args.self.now.count c.args.self.now.word c.requires

@@ -1,4 +1,0 @@
-pub mod SomeRounds
-pub mod Between
-pub mod Enclosures
-pub mod Holding

@@ -1,2 +1,0 @@
-pub mod Quotients
-pub mod Settling

@@ -1,8 +1,0 @@
-use Rattle.std.proofs.Common.{arith, sym, ◌∙◌}
-use Rattle.fixed_point.proofs.Settling.{down_stays}
-use Rattle.fixed_point.proofs.powers.power_down.Goals as goal
-
-pub returns-then-next-power-clause-value : goal.returns-then-next-power-clause-value
-returns-then-next-power-clause-value c =
-    down_stays c.args.q c.loop.counter c.args.count _ (omega arith) c.loop.invariant.0
-    (sym c.share_down-next.ensures.value ∙ c.if-next-power.true)

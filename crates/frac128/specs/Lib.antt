@@ -1,2 +1,0 @@
-pub mod Divisor
-pub mod Fraction

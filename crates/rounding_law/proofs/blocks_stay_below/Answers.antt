@@ -1,5 +1,0 @@
-use Rattle.rounding_law.proofs.Blocks.{block_below}
-use Rattle.rounding_law.proofs.blocks_stay_below.Goals as goal
-
-pub returns : goal.returns
-returns c cut h N L n some r b w J I s k = block_below cut h N L n some r b w J I s k

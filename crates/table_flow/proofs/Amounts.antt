@@ -1,0 +1,126 @@
+-- Amounts of tables and of what ended.
+use Rattle.std.proofs.Common.{◌≡◌, ℕ, zero, suc, ◌+◌, ◌*◌, Bool, true, false, List, [], ◌∷◌, ◌++◌, Ok, Err, refl, ap, ◌∙◌, arith}
+use Rattle.gcl_core.specs.meaning.Blocks.{End, on, failed, fault, limit}
+use Rattle.gcl_core.specs.meaning.Value.{State, Value}
+use Rattle.gcl_core.specs.weighing.Fractions.{Fraction}
+use Rattle.gcl_core.specs.weighing.WeightedEnds.{Weighted, sure, scaled, taken_on}
+use Rattle.table_flow.specs.Counts.{stopped, kept_if, all_stopped}
+use Rattle.table_flow.specs.Tables.{Table, Flow, going_on, gone, only, faults, all_end, both}
+use Rattle.table_flow.specs.Scale.{whole, amount, Wholes, AllWhole, TablesWithin, Within}
+
+-- ---- amounts
+
+pub amount_append : {A : Type 0} (N : ℕ) (G : A → ℕ) (m n : Weighted A) → amount N G (m ++ n) ≡ amount N G m + amount N G n
+amount_append N G [] n = omega arith
+amount_append N G (e ∷ m) n = let i = amount_append N G m n in omega arith
+
+pub amount_only : (N : ℕ) (G : State → ℕ) (test : State → Bool) (I : Table) → amount N G (only test I) ≡ amount N (kept_if test G) I
+amount_only N G test [] = refl
+amount_only N G test (e ∷ I) = at_head (test e.1) refl (amount_only N G test I)
+  where
+    at_head : (b : Bool) → test e.1 ≡ b → amount N G (only test I) ≡ amount N (kept_if test G) I → amount N G (only test (e ∷ I)) ≡ amount N (kept_if test G) (e ∷ I)
+    at_head true p i = rw p (omega arith)
+    at_head false p i = rw p (omega arith)
+
+pub amount_faults : (N : ℕ) (G : End → ℕ) (v : State → Value) (I : Table) → amount N G (faults v I) ≡ amount N (stopped v G) I
+amount_faults N G v [] = refl
+amount_faults N G v (e ∷ I) = at_head (v e.1) refl (amount_faults N G v I)
+  where
+    at_head : (o : Value) → v e.1 ≡ o → amount N G (faults v I) ≡ amount N (stopped v G) I → amount N G (faults v (e ∷ I)) ≡ amount N (stopped v G) (e ∷ I)
+    at_head (Ok z) p i = rw p (omega arith)
+    at_head (Err f) p i = rw p (omega arith)
+
+pub amount_all_end : (N : ℕ) (G : End → ℕ) (x : End) (I : Table) → amount N G (all_end x I) ≡ amount N (all_stopped x G) I
+amount_all_end N G x [] = refl
+amount_all_end N G x (e ∷ I) = let i = amount_all_end N G x I in omega arith
+
+-- a step that gives one end
+abbrev pub at_on : (State → ℕ) → End → ℕ
+at_on G (on s) = G s
+at_on G failed = 0
+at_on G (fault f) = 0
+at_on G (limit l) = 0
+
+abbrev pub at_gone : (End → ℕ) → End → ℕ
+at_gone G (on s) = 0
+at_gone G failed = G failed
+at_gone G (fault f) = G (fault f)
+at_gone G (limit l) = G (limit l)
+
+pub amount_going : (N : ℕ) (G : State → ℕ) (m : Weighted End) → amount N G (going_on m) ≡ amount N (at_on G) m
+amount_going N G [] = refl
+amount_going N G ((w, on s) ∷ m) = let i = amount_going N G m in omega arith
+amount_going N G ((w, failed) ∷ m) = let i = amount_going N G m in omega arith
+amount_going N G ((w, fault f) ∷ m) = let i = amount_going N G m in omega arith
+amount_going N G ((w, limit l) ∷ m) = let i = amount_going N G m in omega arith
+
+pub amount_gone : (N : ℕ) (G : End → ℕ) (m : Weighted End) → amount N G (gone m) ≡ amount N (at_gone G) m
+amount_gone N G [] = refl
+amount_gone N G ((w, on s) ∷ m) = let i = amount_gone N G m in omega arith
+amount_gone N G ((w, failed) ∷ m) = let i = amount_gone N G m in omega arith
+amount_gone N G ((w, fault f) ∷ m) = let i = amount_gone N G m in omega arith
+amount_gone N G ((w, limit l) ∷ m) = let i = amount_gone N G m in omega arith
+
+pub whole_zero : (N d : ℕ) → whole N (0, d) ≡ 0
+whole_zero N d = grind arith
+
+pub amount_sure : (N : ℕ) (G : End → ℕ) (w : Fraction) (x : End) → amount N G (scaled w (sure x)) ≡ whole N w * G x
+amount_sure N G (zero, d) x = let z = ap (λ u. u * G x) (whole_zero N d) in omega arith
+amount_sure N G (suc n, d) x = let p : suc n * 1 ≡ suc n = omega arith in let q : d * 1 ≡ d = omega arith in rw (p, q) (omega arith)
+
+pub amount_each : (N : ℕ) (G : End → ℕ) (step : State → Weighted End) (x : State → End) (I : Table) → ((s : State) → step s ≡ sure (x s)) → amount N G (taken_on I step) ≡ amount N (λ s. G (x s)) I
+amount_each N G step x [] h = refl
+amount_each N G step x (e ∷ I) h =
+    let a = amount_append N G (scaled e.0 (step e.1)) (taken_on I step) in
+    let b : amount N G (scaled e.0 (step e.1)) ≡ whole N e.0 * G (x e.1) = ap (λ m. amount N G (scaled e.0 m)) (h e.1) ∙ amount_sure N G e.0 (x e.1) in
+    let i = amount_each N G step x I h in
+    omega arith
+
+pub amount_ext : {A : Type 0} (N : ℕ) (G H : A → ℕ) (I : Weighted A) → ((s : A) → G s ≡ H s) → amount N G I ≡ amount N H I
+amount_ext N G H [] h = refl
+amount_ext N G H (e ∷ I) h = let i = amount_ext N G H I h in let j = ap (λ x. whole N e.0 * x) (h e.1) in omega arith
+
+-- ---- what is whole
+
+pub tables_first : (N L : ℕ) (Is Js : List Table) → TablesWithin N L (Is ++ Js) → TablesWithin N L Is
+tables_first N L [] Js w = tt
+tables_first N L (I ∷ Is) Js w = (w.0, w.1, tables_first N L Is Js w.2)
+
+pub tables_second : (N L : ℕ) (Is Js : List Table) → TablesWithin N L (Is ++ Js) → TablesWithin N L Js
+tables_second N L [] Js w = w
+tables_second N L (I ∷ Is) Js w = tables_second N L Is Js w.2
+
+pub ends_first : {A : Type 0} (N : ℕ) (m n : Weighted A) → Wholes N (m ++ n) → Wholes N m
+ends_first N [] n w = tt
+ends_first N (e ∷ m) n w = (w.0, ends_first N m n w.1)
+
+pub ends_second : {A : Type 0} (N : ℕ) (m n : Weighted A) → Wholes N (m ++ n) → Wholes N n
+ends_second N [] n w = w
+ends_second N (e ∷ m) n w = ends_second N m n w.1
+
+pub all_first : (N : ℕ) (ps qs : List Fraction) → AllWhole N (ps ++ qs) → AllWhole N ps
+all_first N [] qs w = tt
+all_first N (p ∷ ps) qs w = (w.0, all_first N ps qs w.1)
+
+pub all_second : (N : ℕ) (ps qs : List Fraction) → AllWhole N (ps ++ qs) → AllWhole N qs
+all_second N [] qs w = w
+all_second N (p ∷ ps) qs w = all_second N ps qs w.1
+
+pub both_first : (N L : ℕ) (x : Weighted End) (f g : Flow) → Within N L (both x f g) → Within N L f
+both_first N L x f g s = record { tables = tables_first N L f.tables g.tables s.tables; ended = ends_first N f.ended g.ended (ends_second N x (f.ended ++ g.ended) s.ended); draws = all_first N f.draws g.draws s.draws }
+
+pub both_second : (N L : ℕ) (x : Weighted End) (f g : Flow) → Within N L (both x f g) → Within N L g
+both_second N L x f g s = record { tables = tables_second N L f.tables g.tables s.tables; ended = ends_second N f.ended g.ended (ends_second N x (f.ended ++ g.ended) s.ended); draws = all_second N f.draws g.draws s.draws }
+
+-- ---- statements
+
+pub regroup : (H : End → ℕ) (N : ℕ) (J x y : Weighted End) → amount N H ((J ++ x) ++ y) ≡ amount N H (J ++ (x ++ y))
+regroup H N J x y =
+    let a = amount_append N H (J ++ x) y in
+    let b = amount_append N H J x in
+    let c = amount_append N H J (x ++ y) in
+    let d = amount_append N H x y in
+    omega arith
+
+abbrev pub joined : Table → Flow → Flow → Flow
+joined I f g = record { next = g.next; ended = f.ended ++ g.ended; tables = I ∷ (f.tables ++ g.tables); draws = f.draws ++ g.draws }

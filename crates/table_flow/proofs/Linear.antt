@@ -1,0 +1,406 @@
+-- The tables of a block hold what the paths from each state give: a flow is linear in its table.
+use Rattle.std.proofs.Common.{◌≡◌, ℕ, zero, suc, ◌+◌, ◌*◌, ◌-◌, Bool, true, false, not, cond, List, [], ◌∷◌, ◌++◌, map, Ok, Err, Option, refl, sym, ap, ◌∙◌, arith}
+use Rattle.std.specs.List.{sum}
+use Rattle.gcl_core.specs.declared.answers.Limit.TheVariants.{Turns, Attempts}
+use Rattle.gcl_core.specs.meaning.Arms.{parts_of}
+use Rattle.gcl_core.specs.meaning.Syntax.{Statement, Skip, Set, If, While, Choice, Choose, Uniform, Observe, Statements, done, ◌▸◌, ArmList, no_arm, arm}
+use Rattle.gcl_core.specs.meaning.Value.{State, Value, value_of, is_zero}
+use Rattle.gcl_core.specs.meaning.Blocks.{End, on, failed, fault, limit, by_value, by_truth, by_end}
+use Rattle.table_flow.specs.Scale.{Wholes, whole, amount}
+use Rattle.gcl_core.specs.weighing.Fractions.{Fraction, plus, one, times}
+use Rattle.gcl_core.specs.weighing.WeightedEnds.{Weighted, sure, scaled, taken_on, class_weight, no_class_weight, statement_weighted, weighted_ends, end_weighted}
+use Rattle.table_flow.proofs.WeightedParts.{loop_weighted, value_weighted}
+use Rattle.gcl_core.specs.weighing.Mass.{sum_of}
+use Rattle.table_flow.specs.Tables.{Table, Flow, going_on, gone, holds, fails, only, faults, all_end, each, both, loop_flow, statement_flow, block_flow, arms_flow}
+use Rattle.table_flow.proofs.ArmEnds.{arm_ends, choose_weighted}
+use Rattle.table_flow.proofs.Amounts.{whole_zero}
+
+-- what F gives the entries, added
+abbrev pub sum_of_all : {A : Type 0} → (Fraction → A → ℕ) → Weighted A → ℕ
+sum_of_all F [] = 0
+sum_of_all F (e ∷ m) = F e.0 e.1 + sum_of_all F m
+
+abbrev pub after_weight : {A : Type 0} → Fraction → (Fraction → A → ℕ) → Fraction → A → ℕ
+after_weight w F v x = F (times w v) x
+
+-- a weight of 0 counts nothing
+abbrev pub Zero : {A : Type 0} → (Fraction → A → ℕ) → Type 0
+Zero {A} F = (d : ℕ) (x : A) → F (0, d) x ≡ 0
+
+-- each entry of a table taken on by itself
+abbrev pub spread : {A B : Type 0} → (Fraction → B → ℕ) → Weighted A → (A → Weighted B) → ℕ
+spread F [] k = 0
+spread F (e ∷ m) k = sum_of_all (after_weight e.0 F) (k e.1) + spread F m k
+
+pub sum_append : {A : Type 0} (F : Fraction → A → ℕ) (m n : Weighted A) → sum_of_all F (m ++ n) ≡ sum_of_all F m + sum_of_all F n
+sum_append F [] n = omega arith
+sum_append F (e ∷ m) n = let i = sum_append F m n in omega arith
+
+sum_map : {A : Type 0} (F : Fraction → A → ℕ) (w : Fraction) (m : Weighted A) → sum_of_all F (map (λ e. (times w e.0, e.1)) m) ≡ sum_of_all (after_weight w F) m
+sum_map F w [] = refl
+sum_map F w (e ∷ m) = ap (λ x. F (times w e.0) e.1 + x) (sum_map F w m)
+
+after_zero : {A : Type 0} (F : Fraction → A → ℕ) (d : ℕ) (v : Fraction) (x : A) → Zero F → F (times (0, d) v) x ≡ 0
+after_zero F d v x z = let p : 0 * v.0 ≡ 0 = omega arith in ap (λ n. F (n, d * v.1) x) p ∙ z (d * v.1) x
+
+sum_none : {A : Type 0} (F : Fraction → A → ℕ) (d : ℕ) (m : Weighted A) → Zero F → sum_of_all (after_weight (0, d) F) m ≡ 0
+sum_none F d [] z = refl
+sum_none F d (e ∷ m) z = let a = after_zero F d e.0 e.1 z in let b = sum_none F d m z in omega arith
+
+pub sum_scaled : {A : Type 0} (F : Fraction → A → ℕ) (w : Fraction) (m : Weighted A) → Zero F → sum_of_all F (scaled w m) ≡ sum_of_all (after_weight w F) m
+sum_scaled F (zero, d) m z = sym (sum_none F d m z)
+sum_scaled F (suc n, d) m z = sum_map F (suc n, d) m
+
+pub sum_taken : {A B : Type 0} (F : Fraction → B → ℕ) (m : Weighted A) (k : A → Weighted B) → Zero F → sum_of_all F (taken_on m k) ≡ spread F m k
+sum_taken F [] k z = refl
+sum_taken F (e ∷ m) k z =
+    let a = sum_append F (scaled e.0 (k e.1)) (taken_on m k) in
+    let b = sum_scaled F e.0 (k e.1) z in
+    let c = sum_taken F m k z in
+    omega arith
+
+pub zero_after : {A : Type 0} (F : Fraction → A → ℕ) (w : Fraction) → Zero F → Zero (after_weight w F)
+zero_after F w z d x = let p : w.0 * 0 ≡ 0 = omega arith in ap (λ n. F (n, w.1 * d) x) p ∙ z (w.1 * d) x
+
+pub spread_append : {A B : Type 0} (F : Fraction → B → ℕ) (m n : Weighted A) (k : A → Weighted B) → spread F (m ++ n) k ≡ spread F m k + spread F n k
+spread_append F [] n k = omega arith
+spread_append F (e ∷ m) n k = let i = spread_append F m n k in omega arith
+
+pub times_assoc : (p q r : Fraction) → times (times p q) r ≡ times p (times q r)
+times_assoc p q r = let a : p.0 * q.0 * r.0 ≡ p.0 * (q.0 * r.0) = omega arith in let b : p.1 * q.1 * r.1 ≡ p.1 * (q.1 * r.1) = omega arith in ap (λ x. (x, p.1 * q.1 * r.1)) a ∙ ap (λ y. (p.0 * (q.0 * r.0), y)) b
+
+pub times_one : (p : Fraction) → times p one ≡ p
+times_one p = let a : p.0 * 1 ≡ p.0 = omega arith in let b : p.1 * 1 ≡ p.1 = omega arith in ap (λ x. (x, p.1 * 1)) a ∙ ap (λ y. (p.0, y)) b
+
+sum_ext : {A : Type 0} (F G : Fraction → A → ℕ) (m : Weighted A) → ((w : Fraction) (x : A) → F w x ≡ G w x) → sum_of_all F m ≡ sum_of_all G m
+sum_ext F G [] h = refl
+sum_ext F G (e ∷ m) h = let a = h e.0 e.1 in let i = sum_ext F G m h in omega arith
+
+spread_scaled : {A B : Type 0} (F : Fraction → B → ℕ) (w : Fraction) (m : Weighted A) (k : A → Weighted B) → Zero F → spread F (scaled w m) k ≡ spread (after_weight w F) m k
+spread_scaled F (zero, d) [] k z = refl
+spread_scaled {B = B} F (zero, d) (e ∷ m) k z =
+    let i = spread_scaled F (zero, d) m k z in
+    let a = sum_ext (after_weight e.0 (after_weight (zero, d) F)) (λ w x. 0) (k e.1) (λ w x. after_zero F d (times e.0 w) x z) in
+    let b = sum_zero (k e.1) in
+    omega arith
+  where
+    sum_zero : (m : Weighted B) → sum_of_all (λ w x. 0) m ≡ 0
+    sum_zero [] = refl
+    sum_zero (e ∷ m) = let i = sum_zero m in omega arith
+spread_scaled F (suc n, d) [] k z = refl
+spread_scaled F (suc n, d) (e ∷ m) k z =
+    let i = spread_scaled F (suc n, d) m k z in
+    let a = sum_ext (after_weight (times (suc n, d) e.0) F) (after_weight e.0 (after_weight (suc n, d) F)) (k e.1) (λ w x. ap (λ v. F v x) (times_assoc (suc n, d) e.0 w)) in
+    omega arith
+
+-- what goes on, counted by where it goes on to, and what ended
+abbrev pub flowed : (Fraction → End → ℕ) → Flow → ℕ
+flowed F f = sum_of_all (λ w s. F w (on s)) f.next + sum_of_all F f.ended
+
+split_sum : (F : Fraction → End → ℕ) (m : Weighted End) → sum_of_all (λ w s. F w (on s)) (going_on m) + sum_of_all F (gone m) ≡ sum_of_all F m
+split_sum F [] = refl
+split_sum F ((w, on s) ∷ m) = let i = split_sum F m in omega arith
+split_sum F ((w, failed) ∷ m) = let i = split_sum F m in omega arith
+split_sum F ((w, fault f) ∷ m) = let i = split_sum F m in omega arith
+split_sum F ((w, limit l) ∷ m) = let i = split_sum F m in omega arith
+
+pub flow_each : (F : Fraction → End → ℕ) (step : State → Weighted End) (draws : List Fraction) (I : Table) → Zero F → flowed F (each step draws I) ≡ spread F I step
+flow_each F step draws I z = split_sum F (taken_on I step) ∙ sum_taken F I step z
+
+-- no entry that ended goes on
+abbrev pub NoOn : Weighted End → Type 0
+NoOn [] = Unit {0}
+NoOn ((w, on s) ∷ m) = ⊥
+NoOn ((w, failed) ∷ m) = NoOn m
+NoOn ((w, fault f) ∷ m) = NoOn m
+NoOn ((w, limit l) ∷ m) = NoOn m
+
+-- one statement, then the others
+abbrev pub onward : (Fraction → End → ℕ) → (State → Weighted End) → Fraction → End → ℕ
+onward F k w x = sum_of_all (after_weight w F) (by_end x sure k)
+
+onward_zero : (F : Fraction → End → ℕ) (k : State → Weighted End) → Zero F → Zero (onward F k)
+onward_zero F k z d x = sum_none F d (by_end x sure k) z
+
+onward_ended : (F : Fraction → End → ℕ) (k : State → Weighted End) (m : Weighted End) → NoOn m → sum_of_all (onward F k) m ≡ sum_of_all F m
+onward_ended F k [] h = refl
+onward_ended F k ((w, on s) ∷ m) h = absurd h
+onward_ended F k ((w, failed) ∷ m) h = let i = onward_ended F k m h in let a = ap (λ v. F v failed) (times_one w) in omega arith
+onward_ended F k ((w, fault f) ∷ m) h = let i = onward_ended F k m h in let a = ap (λ v. F v (fault f)) (times_one w) in omega arith
+onward_ended F k ((w, limit l) ∷ m) h = let i = onward_ended F k m h in let a = ap (λ v. F v (limit l)) (times_one w) in omega arith
+
+onward_next : (F : Fraction → End → ℕ) (k : State → Weighted End) (m : Table) → sum_of_all (λ w s. onward F k w (on s)) m ≡ spread F m k
+onward_next F k [] = refl
+onward_next F k (e ∷ m) = ap (λ x. sum_of_all (after_weight e.0 F) (k e.1) + x) (onward_next F k m)
+
+onward_taken : (F : Fraction → End → ℕ) (k : State → Weighted End) (w : Fraction) (m : Weighted End) → Zero F → sum_of_all (after_weight w F) (end_weighted m k) ≡ sum_of_all (after_weight w (onward F k)) m
+onward_taken F k w [] z = refl
+onward_taken F k w (e ∷ m) z =
+    let a = sum_append (after_weight w F) (scaled e.0 (by_end e.1 sure k)) (end_weighted m k) in
+    let b = sum_scaled (after_weight w F) e.0 (by_end e.1 sure k) (zero_after F w z) in
+    let c = sum_ext (after_weight e.0 (after_weight w F)) (after_weight (times w e.0) F) (by_end e.1 sure k) (λ v x. ap (λ u. F u x) (sym (times_assoc w e.0 v))) in
+    let i = onward_taken F k w m z in
+    omega arith
+
+spread_onward : (F : Fraction → End → ℕ) (k : State → Weighted End) (step : State → Weighted End) (I : Table) → Zero F → spread (onward F k) I step ≡ spread F I (λ s. end_weighted (step s) k)
+spread_onward F k step [] z = refl
+spread_onward F k step (e ∷ I) z = let a = onward_taken F k e.0 (step e.1) z in let i = spread_onward F k step I z in omega arith
+
+pub flow_joined : (F : Fraction → End → ℕ) (k : State → Weighted End) (step : State → Weighted End) (I next : Table) (ended : Weighted End) → Zero F → NoOn ended →
+    ((G : Fraction → End → ℕ) → Zero G → sum_of_all (λ w s. G w (on s)) next + sum_of_all G ended ≡ spread G I step) →
+    spread F next k + sum_of_all F ended ≡ spread F I (λ s. end_weighted (step s) k)
+flow_joined F k step I next ended z clear h =
+    let a = h (onward F k) (onward_zero F k z) in
+    let b = onward_next F k next in
+    let c = onward_ended F k ended clear in
+    let d = spread_onward F k step I z in
+    omega arith
+
+-- a guard's parts
+spread_guard : (F : Fraction → End → ℕ) (v : State → Value) (a c : State → Weighted End) (I : Table) → Zero F →
+    sum_of_all F (faults v I) + (spread F (only (holds v) I) a + spread F (only (fails v) I) c) ≡ spread F I (λ s. value_weighted (v s) (λ z. by_truth z (a s) (c s)))
+spread_guard F v a c [] z = refl
+spread_guard F v a c (e ∷ I) z = at_head (v e.1) refl (spread_guard F v a c I z)
+  where
+    at_head : (o : Value) → v e.1 ≡ o → sum_of_all F (faults v I) + (spread F (only (holds v) I) a + spread F (only (fails v) I) c) ≡ spread F I (λ s. value_weighted (v s) (λ z. by_truth z (a s) (c s))) →
+        sum_of_all F (faults v (e ∷ I)) + (spread F (only (holds v) (e ∷ I)) a + spread F (only (fails v) (e ∷ I)) c) ≡ spread F (e ∷ I) (λ s. value_weighted (v s) (λ z. by_truth z (a s) (c s)))
+    at_head (Err f) p i = rw p (let q = ap (λ u. F u (fault f)) (times_one e.0) in omega arith)
+    at_head (Ok n) p i = rw p (by_zero (is_zero n) i)
+      where
+        by_zero : (b : Bool) → sum_of_all F (faults v I) + (spread F (only (holds v) I) a + spread F (only (fails v) I) c) ≡ spread F I (λ s. value_weighted (v s) (λ z. by_truth z (a s) (c s))) →
+            sum_of_all F (faults v I) + (spread F (cond (not b) (e ∷ only (holds v) I) (only (holds v) I)) a + spread F (cond b (e ∷ only (fails v) I) (only (fails v) I)) c)
+            ≡ sum_of_all (after_weight e.0 F) (cond b (c e.1) (a e.1)) + spread F I (λ s. value_weighted (v s) (λ z. by_truth z (a s) (c s)))
+        by_zero true i = omega arith
+        by_zero false i = omega arith
+
+-- ---- what ended does not go on
+no_append : (m n : Weighted End) → NoOn m → NoOn n → NoOn (m ++ n)
+no_append [] n h k = k
+no_append ((w, on s) ∷ m) n h k = absurd h
+no_append ((w, failed) ∷ m) n h k = no_append m n h k
+no_append ((w, fault f) ∷ m) n h k = no_append m n h k
+no_append ((w, limit l) ∷ m) n h k = no_append m n h k
+
+no_gone : (m : Weighted End) → NoOn (gone m)
+no_gone [] = tt
+no_gone ((w, on s) ∷ m) = no_gone m
+no_gone ((w, failed) ∷ m) = no_gone m
+no_gone ((w, fault f) ∷ m) = no_gone m
+no_gone ((w, limit l) ∷ m) = no_gone m
+
+no_faults : (v : State → Value) (I : Table) → NoOn (faults v I)
+no_faults v [] = tt
+no_faults v (e ∷ I) = at_head (v e.1) (no_faults v I)
+  where
+    at_head : (o : Value) → NoOn (faults v I) → NoOn (by_value o (λ f. (e.0, fault f) ∷ faults v I) (λ z. faults v I))
+    at_head (Ok z) h = h
+    at_head (Err f) h = h
+
+no_limits : (l : _) (I : Table) → NoOn (all_end (limit l) I)
+no_limits l [] = tt
+no_limits l (e ∷ I) = no_limits l I
+
+module _ (n : ℕ) (r : Option ℕ) where
+  no_turns : (v : State → Value) (b : Statements) → ((I : Table) → NoOn (block_flow n r b I).ended) → (t : ℕ) (J : Table) → NoOn (loop_flow v (block_flow n r b) t J).ended
+  no_turns v b h zero J = no_append (faults v J) _ (no_faults v J) (no_limits Turns (only (holds v) J))
+  no_turns v b h (suc t) J = no_append (faults v J) _ (no_faults v J) (no_append (block_flow n r b (only (holds v) J)).ended _ (h (only (holds v) J)) (no_turns v b h t (block_flow n r b (only (holds v) J)).next))
+
+  mutual
+    pub no_one : (st : Statement) (I : Table) → NoOn (statement_flow n r st I).ended
+    no_one Skip I = no_gone (taken_on I (statement_weighted n r Skip))
+    no_one (Set x e) I = no_gone (taken_on I (statement_weighted n r (Set x e)))
+    no_one (Observe e) I = no_gone (taken_on I (statement_weighted n r (Observe e)))
+    no_one (Uniform x e) I = no_gone (taken_on I (statement_weighted n r (Uniform x e)))
+    no_one (If e a c) I = no_append (faults (value_of e) I) _ (no_faults (value_of e) I) (no_append (block_flow n r a (only (holds (value_of e)) I)).ended _ (no_all a (only (holds (value_of e)) I)) (no_all c (only (fails (value_of e)) I)))
+    no_one (Choice p a c) I =
+        no_append (all_end (limit Attempts) (scaled (no_class_weight p.den r) I)) _ (no_limits Attempts (scaled (no_class_weight p.den r) I))
+        (no_append (block_flow n r a (scaled (class_weight p.den r p.num) I)).ended _ (no_all a (scaled (class_weight p.den r p.num) I)) (no_all c (scaled (class_weight p.den r (p.den - p.num)) I)))
+    no_one (Choose arms) I =
+        let b = sum (parts_of arms) in
+        no_append (all_end (limit Attempts) (scaled (no_class_weight b r) I)) _ (no_limits Attempts (scaled (no_class_weight b r) I)) (no_arms b arms I)
+    no_one (While e a) I = no_turns (value_of e) a (no_all a) n I
+
+    pub no_all : (b : Statements) (I : Table) → NoOn (block_flow n r b I).ended
+    no_all done I = tt
+    no_all (st ▸ b) I = no_append (statement_flow n r st I).ended _ (no_one st I) (no_all b (statement_flow n r st I).next)
+
+    no_arms : (b : ℕ) (arms : ArmList) (I : Table) → NoOn (arms_flow n r b arms I).ended
+    no_arms b no_arm I = tt
+    no_arms b (arm p a arms) I = no_append (block_flow n r a (scaled (class_weight b r p) I)).ended _ (no_all a (scaled (class_weight b r p) I)) (no_arms b arms I)
+
+-- ---- a flow holds the paths
+spread_sure : (F : Fraction → End → ℕ) (x : State → End) (I : Table) → sum_of_all (λ w s. F w (x s)) I ≡ spread F I (λ s. sure (x s))
+spread_sure F x [] = refl
+spread_sure F x (e ∷ I) = let i = spread_sure F x I in let q = ap (λ u. F u (x e.1)) (times_one e.0) in omega arith
+
+flowed_both : (F : Fraction → End → ℕ) (x : Weighted End) (f g : Flow) → flowed F (both x f g) ≡ sum_of_all F x + (flowed F f + flowed F g)
+flowed_both F x f g =
+    let a = sum_append (λ w s. F w (on s)) f.next g.next in
+    let b = sum_append F x (f.ended ++ g.ended) in
+    let c = sum_append F f.ended g.ended in
+    omega arith
+
+sum_all_end : (F : Fraction → End → ℕ) (x : End) (I : Table) → sum_of_all F (all_end x I) ≡ sum_of_all (λ w s. F w x) I
+sum_all_end F x [] = refl
+sum_all_end F x (e ∷ I) = ap (λ y. F e.0 x + y) (sum_all_end F x I)
+
+turned : (p q w : Fraction) → times p (times q w) ≡ times q (times p w)
+turned p q w = let b : p.0 * (q.0 * w.0) ≡ q.0 * (p.0 * w.0) = omega arith in let d : p.1 * (q.1 * w.1) ≡ q.1 * (p.1 * w.1) = omega arith in ap (λ x. (x, p.1 * (q.1 * w.1))) b ∙ ap (λ y. (q.0 * (p.0 * w.0), y)) d
+
+-- what each entry gives, by other words of the same
+spread_ext : {A B : Type 0} (F : Fraction → B → ℕ) (I : Weighted A) (k l : A → Weighted B) → ((x : A) → k x ≡ l x) → spread F I k ≡ spread F I l
+spread_ext F [] k l h = refl
+spread_ext F (e ∷ I) k l h = let i = spread_ext F I k l h in let a = ap (sum_of_all (after_weight e.0 F)) (h e.1) in omega arith
+
+spread_none : {A B : Type 0} (F : Fraction → B → ℕ) (I : Weighted A) → spread F I (λ x. []) ≡ 0
+spread_none F [] = refl
+spread_none {B = B} F (e ∷ I) = let i = spread_none {B = B} F I in omega arith
+
+-- two lists from each entry
+spread_beside : {A B : Type 0} (F : Fraction → B → ℕ) (I : Weighted A) (k l : A → Weighted B) → spread F I (λ x. k x ++ l x) ≡ spread F I k + spread F I l
+spread_beside F [] k l = refl
+spread_beside F (e ∷ I) k l = let i = spread_beside F I k l in let a = sum_append (after_weight e.0 F) (k e.1) (l e.1) in omega arith
+
+-- what a scaled table gives is what each entry gives, scaled
+spread_weighed : {A B : Type 0} (F : Fraction → B → ℕ) (u : Fraction) (I : Weighted A) (k : A → Weighted B) → Zero F → spread F (scaled u I) k ≡ spread F I (λ x. scaled u (k x))
+spread_weighed {A = A} F u I k z = spread_scaled F u I k z ∙ by_entry I
+  where
+    by_entry : (I : Weighted A) → spread (after_weight u F) I k ≡ spread F I (λ x. scaled u (k x))
+    by_entry [] = refl
+    by_entry (e ∷ I) =
+        let i = by_entry I in
+        let p = sum_scaled (after_weight e.0 F) u (k e.1) (zero_after F e.0 z) ∙ sum_ext _ (after_weight e.0 (after_weight u F)) (k e.1) (λ w y. ap (λ t. F t y) (turned e.0 u w)) in
+        omega arith
+
+-- all of a table end in one way, by a weight
+spread_ended : (F : Fraction → End → ℕ) (l : Fraction) (x : End) (I : Table) → Zero F → sum_of_all F (all_end x (scaled l I)) ≡ spread F I (λ s. scaled l (sure x) ++ [])
+spread_ended F l x I z =
+    let a = sum_all_end F x (scaled l I) in
+    let b = spread_sure F (λ s. x) (scaled l I) in
+    let c = spread_weighed F l I (λ s. sure x) z in
+    let d = spread_beside F I (λ s. scaled l (sure x)) (λ s. []) in
+    let e = spread_none F I in
+    omega arith
+
+-- a list of three drawn sides
+spread_drawn : (F : Fraction → End → ℕ) (u v l : Fraction) (a c : State → Weighted End) (x : End) (I : Table) → Zero F →
+    sum_of_all F (all_end x (scaled l I)) + (spread F (scaled u I) a + spread F (scaled v I) c)
+    ≡ spread F I (λ s. scaled u (a s) ++ (scaled v (c s) ++ (scaled l (sure x) ++ [])))
+spread_drawn F u v l a c x I z =
+    let p = spread_weighed F u I a z in
+    let q = spread_weighed F v I c z in
+    let o = spread_ended F l x I z in
+    let i = spread_beside F I (λ s. scaled u (a s)) (λ s. scaled v (c s) ++ (scaled l (sure x) ++ [])) in
+    let j = spread_beside F I (λ s. scaled v (c s)) (λ s. scaled l (sure x) ++ []) in
+    omega arith
+
+module _ (n : ℕ) (r : Option ℕ) where
+  abbrev pub Linear : Statements → Type 0
+  Linear b = (F : Fraction → End → ℕ) (I : Table) → Zero F → flowed F (block_flow n r b I) ≡ spread F I (weighted_ends n r b)
+
+  flow_loop : (v : State → Value) (b : Statements) → Linear b → (t : ℕ) (F : Fraction → End → ℕ) (J : Table) → Zero F → flowed F (loop_flow v (block_flow n r b) t J) ≡ spread F J (loop_weighted v (weighted_ends n r b) t)
+  flow_loop v b h zero F J z =
+      let a = spread_guard F v (λ s. sure (limit Turns)) (λ s. sure (on s)) J z in
+      let c = sum_append F (faults v J) (all_end (limit Turns) (only (holds v) J)) in
+      let d = sum_all_end F (limit Turns) (only (holds v) J) ∙ spread_sure F (λ s. limit Turns) (only (holds v) J) in
+      let e = spread_sure F (λ s. on s) (only (fails v) J) in
+      omega arith
+  flow_loop v b h (suc t) F J z =
+      let k = loop_weighted v (weighted_ends n r b) t in
+      let A = only (holds v) J in
+      let f = block_flow n r b A in
+      let a = spread_guard F v (λ s. end_weighted (weighted_ends n r b s) k) (λ s. sure (on s)) J z in
+      let c = flow_joined F k (weighted_ends n r b) A f.next f.ended z (no_all n r b A) (λ G zg. h G A zg) in
+      let g = flow_loop v b h t F f.next z in
+      let o = sum_append (λ w s. F w (on s)) (only (fails v) J) (loop_flow v (block_flow n r b) t f.next).next in
+      let p = sum_append F (faults v J) (f.ended ++ (loop_flow v (block_flow n r b) t f.next).ended) in
+      let q = sum_append F f.ended (loop_flow v (block_flow n r b) t f.next).ended in
+      let e = spread_sure F (λ s. on s) (only (fails v) J) in
+      omega arith
+
+  mutual
+    pub flow_statement : (st : Statement) (F : Fraction → End → ℕ) (I : Table) → Zero F → flowed F (statement_flow n r st I) ≡ spread F I (statement_weighted n r st)
+    flow_statement Skip F I z = flow_each F (statement_weighted n r Skip) [] I z
+    flow_statement (Set x e) F I z = flow_each F (statement_weighted n r (Set x e)) [] I z
+    flow_statement (Observe e) F I z = flow_each F (statement_weighted n r (Observe e)) [] I z
+    flow_statement (Uniform x e) F I z = flow_each F (statement_weighted n r (Uniform x e)) [] I z
+    flow_statement (If e a c) F I z =
+        let A = only (holds (value_of e)) I in
+        let C = only (fails (value_of e)) I in
+        let g = spread_guard F (value_of e) (weighted_ends n r a) (weighted_ends n r c) I z in
+        let b = flowed_both F (faults (value_of e) I) (block_flow n r a A) (block_flow n r c C) in
+        let x = flow_paths a F A z in
+        let y = flow_paths c F C z in
+        omega arith
+    flow_statement (Choice p a c) F I z =
+        let u = class_weight p.den r p.num in
+        let v = class_weight p.den r (p.den - p.num) in
+        let l = no_class_weight p.den r in
+        let q : p.num ≡ p.num - 0 = omega arith in
+        let g = spread_drawn F u v l (weighted_ends n r a) (weighted_ends n r c) (limit Attempts) I z in
+        let k : spread F I (λ s. scaled u (weighted_ends n r a s) ++ (scaled v (weighted_ends n r c s) ++ (scaled l (sure (limit Attempts)) ++ []))) ≡ spread F I (statement_weighted n r (Choice p a c))
+        = ap (λ m. spread F I (λ s. scaled (class_weight p.den r m) (weighted_ends n r a s) ++ (scaled v (weighted_ends n r c s) ++ (scaled l (sure (limit Attempts)) ++ [])))) q in
+        let b = flowed_both F (all_end (limit Attempts) (scaled l I)) (block_flow n r a (scaled u I)) (block_flow n r c (scaled v I)) in
+        let x = flow_paths a F (scaled u I) z in
+        let y = flow_paths c F (scaled v I) z in
+        omega arith
+    flow_statement (Choose arms) F I z =
+        let b = sum (parts_of arms) in
+        let l = no_class_weight b r in
+        let f = arms_flow n r b arms I in
+        let a = sum_append F (all_end (limit Attempts) (scaled l I)) f.ended in
+        let x = arms_paths b arms F I z in
+        let o = spread_ended F l (limit Attempts) I z in
+        let i = spread_beside F I (arm_ends n r b arms) (λ s. scaled l (sure (limit Attempts)) ++ []) in
+        let k = spread_ext F I (statement_weighted n r (Choose arms)) (λ s. arm_ends n r b arms s ++ (scaled l (sure (limit Attempts)) ++ [])) (choose_weighted n r arms) in
+        omega arith
+    flow_statement (While e a) F I z = flow_loop (value_of e) a (flow_paths a) n F I z
+
+    -- the tables of a block on I hold what MassS gives from each state of I
+    pub flow_paths : (b : Statements) → Linear b
+    flow_paths done F I z = let a = spread_sure F (λ s. on s) I in omega arith
+    flow_paths (st ▸ b) F I z =
+        let f = statement_flow n r st I in
+        let g = block_flow n r b f.next in
+        let a = flow_joined F (weighted_ends n r b) (statement_weighted n r st) I f.next f.ended z (no_one n r st I) (λ G zg. flow_statement st G I zg) in
+        let c = flow_paths b F f.next z in
+        let d = sum_append F f.ended g.ended in
+        omega arith
+
+    arms_paths : (b : ℕ) (arms : ArmList) (F : Fraction → End → ℕ) (I : Table) → Zero F → flowed F (arms_flow n r b arms I) ≡ spread F I (arm_ends n r b arms)
+    arms_paths b no_arm F I z = let e = spread_none {B = End} F I in omega arith
+    arms_paths b (arm p a arms) F I z =
+        let u = class_weight b r p in
+        let o = flowed_both F [] (block_flow n r a (scaled u I)) (arms_flow n r b arms I) in
+        let x = flow_paths a F (scaled u I) z in
+        let y = spread_weighed F u I (weighted_ends n r a) z in
+        let i = arms_paths b arms F I z in
+        let j = spread_beside F I (λ s. scaled u (weighted_ends n r a s)) (arm_ends n r b arms) in
+        omega arith
+
+-- the same at a scale
+pub amount_is : {A : Type 0} (N : ℕ) (H : A → ℕ) (m : Weighted A) → amount N H m ≡ sum_of_all (λ w x. whole N w * H x) m
+amount_is N H [] = refl
+amount_is N H (e ∷ m) = ap (λ y. whole N e.0 * H e.1 + y) (amount_is N H m)
+
+pub amounts_paths : (n : ℕ) (r : Option ℕ) (N : ℕ) (H : End → ℕ) (b : Statements) (I : Table) →
+    amount N (λ s. H (on s)) (block_flow n r b I).next + amount N H (block_flow n r b I).ended ≡ amount N H (taken_on I (weighted_ends n r b))
+amounts_paths n r N H b I =
+    let F : Fraction → End → ℕ = λ w x. whole N w * H x in
+    let z : Zero F = λ d x. let a = ap (λ y. y * H x) (whole_zero N d) in let c : 0 * H x ≡ 0 = omega arith in a ∙ c in
+    let f = block_flow n r b I in
+    let a = amount_is N (λ s. H (on s)) f.next in
+    let c = amount_is N H f.ended in
+    let d = amount_is N H (taken_on I (weighted_ends n r b)) in
+    let e = sum_taken F I (weighted_ends n r b) z in
+    let g = flow_paths n r b F I z in
+    omega arith
+
+-- the sum of the weights that are meant, from their amount
+pub counted : (b : Bool) (N u v : ℕ) (e p : Fraction) → e.1 * u ≡ e.0 * N → p.1 * v ≡ p.0 * N → (cond b (plus e p) p).1 * (u * cond b 1 0 + v) ≡ (cond b (plus e p) p).0 * N
+counted true N u v e p q h = let a = ap (λ x. p.1 * x) q in let b = ap (λ x. e.1 * x) h in omega arith
+counted false N u v e p q h = let a : u * 0 + v ≡ v = omega arith in ap (λ x. p.1 * x) a ∙ h
+
+pub sum_amount : {A : Type 0} (N : ℕ) (is : A → Bool) (m : Weighted A) → Wholes N m → (sum_of is m).1 * amount N (λ x. cond (is x) 1 0) m ≡ (sum_of is m).0 * N
+sum_amount N is [] w = omega arith
+sum_amount N is (e ∷ m) w = counted (is e.1) N (whole N e.0) (amount N (λ x. cond (is x) 1 0) m) e.0 (sum_of is m) w.0.exact (sum_amount N is m w.1)

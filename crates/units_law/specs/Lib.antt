@@ -1,0 +1,12 @@
+pub mod Units
+pub mod Merged
+pub mod Rounding
+pub mod Flows
+pub mod Below
+pub mod Down
+pub mod Rounds
+pub mod Roundings
+pub mod SomeRounds
+pub mod Between
+pub mod Enclosures
+pub mod Holding

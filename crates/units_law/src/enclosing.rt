@@ -1,0 +1,51 @@
+// Bounds between which masses lie, from one round in units.
+
+ghost use Rattle.std.specs.Prelude.{◌≡◌, ◌*◌, ◌≤◌, ◌<◌, ℕ, Bool, true, false, Option, None};
+ghost use Rattle.numbers.specs.declared.units.TheConstants.{ALL};
+ghost use Rattle.gcl_core.specs.declared.answers.Outcome.{Outcome};
+ghost use Rattle.gcl_core.specs.meaning.Checked.{IsChecked};
+ghost use Rattle.gcl_core.specs.meaning.Syntax.{SourceProgram};
+ghost use Rattle.gcl_core.specs.weighing.Fractions.{Fraction, times, power, power_sum, IsBelowOne, IsOne};
+ghost use Rattle.gcl_core.specs.weighing.Mass.{failed_mass};
+ghost use Rattle.posterior_bounds.specs.Rows.{Rows};
+ghost use Rattle.units_law.specs.Down.{down};
+ghost use Rattle.units_law.specs.Rounding.{LosesFew};
+ghost use Rattle.units_law.specs.Roundings.{round_roundings};
+ghost use Rattle.units_law.specs.Rounds.{StandsBelow};
+ghost use Rattle.units_law.specs.SomeRounds.{InRounds, in_rounds};
+ghost use Rattle.units_law.specs.Enclosures.{fails_in, lost_units, upper_of_others, SomePasses, AreEnclosures};
+ghost use Rattle.units_law.specs.Holding.{IsFor, MayEnd, IsBetween, Enclose, most_apart, AreClose};
+
+/// It does nothing: its clauses say that the units of R rounds, worked out by the binary digits of R, are at most the exact weights:
+/// those of what fails in all of them, and of what some outcomes have in them.
+pub fn some_rounds_stay_below()
+    ensures fails { (p : Fraction) → 1 ≤ p.1 → (one : InRounds) → StandsBelow one.0 p → (R : ℕ) → StandsBelow (in_rounds one R).0 (power p R) }
+    ensures gives { (m p : Fraction) → 1 ≤ m.1 → 1 ≤ p.1 → (one : InRounds) → StandsBelow one.0 p → StandsBelow one.1 m →
+        (R : ℕ) → StandsBelow (in_rounds one R).1 (times m (power_sum p R)) }
+{}
+
+/// It does nothing: its clauses say that the masses of a program lie between the bounds that one round gives, rounded down, for every
+/// checked program, all limits, and for all turns every greater limit of turns at which a round fails with probability below 1, where
+/// there is no limit of rounds. So it is for every set of outcomes, and for each row; outcomes without a row have together at most the
+/// bound of the others. Where the round has a unit that does not fail, it fails with probability below 1; where all units fail, with
+/// probability 1.
+pub fn masses_lie_between()
+    ensures events { (p : SourceProgram) (n n' : ℕ) (r R : Option ℕ) (all_turns : Bool) → IsChecked p → IsFor all_turns n n' → MayEnd p n' r R →
+        (meant : Outcome → Bool) → IsBetween p n n' r R all_turns meant }
+    ensures rows { (p : SourceProgram) (n n' : ℕ) (r R : Option ℕ) (all_turns : Bool) → IsChecked p → IsFor all_turns n n' → MayEnd p n' r R →
+        (rows : Rows) (other : Fraction) → AreEnclosures p n r R all_turns rows → other ≡ upper_of_others p n r R all_turns →
+        Enclose p n' r R rows other }
+    ensures passes { (p : SourceProgram) (n : ℕ) (r : Option ℕ) → IsChecked p → SomePasses p n r → IsBelowOne (failed_mass p n r) }
+    ensures fails { (p : SourceProgram) (n : ℕ) (r : Option ℕ) → IsChecked p → fails_in p n r ≡ ALL → IsOne (failed_mass p n r) }
+{}
+
+/// It does nothing: its clauses say how far apart the bounds are: no further than the bound of the others, but for a unit, and with a
+/// limit of rounds one for each round. Without a limit of rounds, and but for all turns, what no outcome has is no more than what the
+/// roundings of the round lose; for all turns what ran out of turns is lost, too.
+pub fn bounds_are_as_wide_as_what_is_lost()
+    ensures rows { (p : SourceProgram) (n : ℕ) (r R : Option ℕ) (all_turns : Bool) → IsChecked p → MayEnd p n r R →
+        (rows : Rows) (other : Fraction) → AreEnclosures p n r R all_turns rows → other ≡ upper_of_others p n r R all_turns →
+        AreClose (most_apart R) rows other }
+    ensures lost { (p : SourceProgram) (n k : ℕ) (r : Option ℕ) → IsChecked p → LosesFew k ALL r down →
+        lost_units p n r None false ≤ k * round_roundings down p n r }
+{}
