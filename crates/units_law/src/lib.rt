@@ -7,18 +7,16 @@
 //! its mass (`rounds_stay_below`). A block makes no unit, and loses at most k for each product where each product loses at most k
 //! (`units_are_lost_by_rounding`): k is 1 without a limit of attempts, and 6 with one (`products_are_rounded_down`).
 //!
-//! Proved, for every checked program and all limits, and for all turns at every greater limit of turns, where without a limit of
+//! And, for every checked program and all limits, and for all turns at every greater limit of turns, where without a limit of
 //! rounds a round fails with probability below 1: the mass of an outcome that has a row lies between its two bounds, and all
 //! outcomes without a row have together at most the bound of the others (`masses_lie_between`). Two bounds of a row are no
 //! further apart than that bound and a unit of 2^-120, and with a limit of rounds one unit more for each. Without one, and but
 //! for all turns, what is lost is at most k units for each product, where each loses at most k
 //! (`bounds_are_as_wide_as_what_is_lost`).
 //!
-//! No clause is of code: `enclose_fold` works with such tables and relies on these laws. No clause says that few units are lost
-//! in all: the number of products grows with the states and the turns of a program.
-//!
-//! No clause is of code: `enclose_fold` gives these bounds. No clause says that they are narrow: without a limit of rounds what
-//! is lost is divided by what does not fail, and for all turns what ran out of turns counts as lost.
+//! No clause is of code: `enclose_fold` works with such tables and gives these bounds. No clause says that few units are lost in
+//! all, or that bounds are narrow: the number of products grows with the states and the turns of a program; without a limit of
+//! rounds what is lost is divided by what does not fail, and for all turns what ran out of turns counts as lost.
 #![tactic(auto)]
 
 mod enclosing;

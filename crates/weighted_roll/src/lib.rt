@@ -4,12 +4,13 @@
 //! Proved: `roll`, and `Loaded::roll` by weights that are laid out once, answer the walk with remainders down the tree of Knuth
 //! and Yao on the bits of a source, and just the bits that they count are gone (`answer`, `taken`). Of the strings of T bits
 //! exactly floor(2^T a / b) give a label of weight a in a sum b, and no exact roller has decided more after any number of flips,
-//! nor makes fewer on average (`weighted_rolls_are_optimal`). `weigh_labels` gives these shares and the expected number of flips.
+//! nor makes fewer on average (`weighted_rolls_are_optimal`); a draw by attempts, as the compiler makes it, never decides sooner
+//! (`draws_by_attempts_stay_behind`). `weigh_labels` gives these shares and the expected number of flips.
 //!
-//! No clause says that bits are fair, how fast a roll is, or that memory suffices for `Loaded::new`, `weights_in` and
-//! `weigh_labels`; a roll takes none, since the caller lends a room of one number for each label. Callers have to hand in weights
-//! that `are_weights` accepts: at most 2^32, with a sum from 1 to 2^62, none of them all of it; and `Loaded::new` lays out at
-//! most 64 columns.
+//! No clause says that bits are fair, how fast a roll is, how much later a draw by attempts comes to its class, or that memory
+//! suffices for `Loaded::new`, `weights_in` and `weigh_labels`; a roll takes none, since the caller lends a room of one number for
+//! each label. Callers have to hand in weights that `are_weights` accepts: at most 2^32, with a sum from 1 to 2^62, none of them
+//! all of it; and `Loaded::new` lays out at most 64 columns.
 #![tactic(auto)]
 
 mod columns;
