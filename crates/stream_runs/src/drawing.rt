@@ -10,10 +10,10 @@ ghost use Rattle.stream_runs.specs.Homes.{IsHome};
 ghost use Rattle.zar_io.specs.declared.stream_bits.TheConstants.{MOST_BUDGET};
 
 use crate::ends::{end_of, value_of};
+use crate::running::answer_on_stream;
 use gcl_core::Limits;
 use sampler_run::{Sampler, State};
 use std::alloc::{AllocError, Global};
-use stream_runs::answer_on_stream;
 use zar_io::StreamBits;
 
 /// The streams from `first` on of a seed, and how many bits of each a run may read.
