@@ -10,7 +10,7 @@ use std::sync::atomic::Ordering::SeqCst;
 use std::test::Fail;
 use std::thread;
 use std::thread::Threads;
-use zar_cli::zar;
+use zar_cli::{Call, zar};
 use zar_io::{Gate, MemFiles, MemSink};
 
 // Holds the block that is entered first until the three others were entered.
@@ -78,10 +78,11 @@ fn says<R: Threads + Sync>(
     files.add("p.gcl", b"return 7;")?;
     let mut out = MemSink::new(alloc, 16, 4096, &[])?;
     let mut err = MemSink::new(alloc, 16, 4096, &[])?;
+    let call = Call::of(alloc, words.as_slice());
     let status = zar(
         rt,
         alloc,
-        words.as_slice(),
+        &call,
         &mut files,
         &mut out,
         &mut err,

@@ -5,7 +5,7 @@ use crate::in_memory::spelled;
 use std::alloc::{AllocError, Global};
 use std::test::Fail;
 use std::thread::Threads;
-use zar_cli::zar;
+use zar_cli::{Call, zar};
 use zar_io::{MemSink, Open};
 
 // Which calls fail in turn.
@@ -189,10 +189,11 @@ fn says<R: Threads + Sync>(
     let mut files = files_of(alloc, Some(row.program), Some(row.bits), step, fails[0])?;
     let mut out = MemSink::new(alloc, 1, 4096, fails[1])?;
     let mut err = MemSink::new(alloc, 1, 4096, fails[2])?;
+    let call = Call::of(alloc, words.as_slice());
     let status = zar(
         rt,
         alloc,
-        words.as_slice(),
+        &call,
         &mut files,
         &mut out,
         &mut err,

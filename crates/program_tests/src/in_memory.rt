@@ -12,7 +12,7 @@ ghost use Rattle.zar_cli.specs.Words.{command_of};
 
 use std::alloc::{AllocError, Global};
 use std::thread::Threads;
-use zar_cli::zar;
+use zar_cli::{Call, zar};
 use zar_io::{MemFiles, MemSink, Open};
 
 // The words of a call.
@@ -46,5 +46,6 @@ pub(crate) fn call<R: Threads + Sync>(
         × (written (sink_answered out.new) ≡ written (sink_answered out.old) ++ out_text output)
         × (written (sink_answered err.new) ≡ written (sink_answered err.old) ++ err_text output) }
 {
-    zar(rt, alloc, words, files, out, err, &Open)
+    let call = Call::of(alloc, words);
+    zar(rt, alloc, &call, files, out, err, &Open)
 }

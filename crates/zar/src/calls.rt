@@ -3,7 +3,7 @@
 use std::alloc::{AllocError, Global};
 use terminal::Nearest;
 use terminal::excerpt::shown;
-use zar_cli::{Form, HELP, Row, Setting, VERBS, VERSION_WORD, Verb, stands_alone};
+use zar_cli::{Form, HELP, Options, Row, Setting, VERBS, VERSION_WORD, Verb};
 
 /// The row of the command that the first word is.
 pub fn row_of(words: &[String]) -> Option<Row> {
@@ -25,23 +25,45 @@ fn setting_of(takes: &[Setting], word: &str) -> Option<Setting> {
     None
 }
 
-// The word at this place is that of an option, by those before it, and no value.
-fn is_option(words: &[String], at: usize) -> bool {
-    let mut is_value = false;
-    for (i, word) in words.iter().enumerate().skip(2) {
-        if i < at {
-            is_value = !is_value && !stands_alone(word.as_str());
-        }
+// The options behind the command and the word behind it.
+fn options<'a>(takes: &'a [Setting], words: &'a [String]) -> Options<'a> {
+    Options {
+        takes,
+        words: words.get(2..).unwrap_or(&[]),
     }
-    !is_value
 }
 
-// The option stands among the words before this place.
-fn is_given(words: &[String], at: usize, option: &str) -> bool {
-    for (i, word) in words.iter().enumerate().skip(2) {
-        if i < at && is_option(words, i) && word.as_str() == option {
+// The option whose name stands at this place, or whose value does or is missing there: its name, and whether it is the value.
+fn option_at<'a>(takes: &'a [Setting], words: &'a [String], at: usize) -> Option<(&'a str, bool)> {
+    let mut options = options(takes, words);
+    let mut place = 2;
+    while let Some((name, value, rest)) = options.first() {
+        if at == place {
+            return Some((name, false));
+        }
+        if at == place + 1 && !stands_alone(takes, name) {
+            return Some((name, true));
+        }
+        place += if value.is_some() { 2 } else { 1 };
+        options = rest;
+    }
+    None
+}
+
+fn stands_alone(takes: &[Setting], name: &str) -> bool {
+    matches!(setting_of(takes, name), Some((_, Form::Alone)))
+}
+
+// The option is one of those that begin before this place.
+fn is_given(takes: &[Setting], words: &[String], at: usize, option: &str) -> bool {
+    let mut options = options(takes, words);
+    let mut place = 2;
+    while let Some((name, value, rest)) = options.first() {
+        if place < at && name == option {
             return true;
         }
+        place += if value.is_some() { 2 } else { 1 };
+        options = rest;
     }
     false
 }
@@ -137,7 +159,7 @@ fn of_option(
     if takes.is_empty() {
         return String::from_str(alloc, "this command takes no options");
     }
-    if is_given(words, at, word) {
+    if is_given(takes, words, at, word) {
         return format!(in alloc; "{word} was given before");
     }
     if setting_of(takes, word).is_some() {
@@ -175,7 +197,7 @@ fn of_value(alloc: Global, row: &Row, option: &str, is_there: bool) -> Result<St
 // Something is missing behind all words, or the range is none.
 fn of_end(alloc: Global, row: &Row, words: &[String]) -> Result<String, AllocError> {
     for setting in row.3 {
-        if !is_given(words, words.len(), setting.0) {
+        if !is_given(row.2, words, words.len(), setting.0) {
             return format!(in alloc;
                 "{} is missing: {}",
                 setting.0,
@@ -198,20 +220,13 @@ fn of_end(alloc: Global, row: &Row, words: &[String]) -> Result<String, AllocErr
 
 // What is wrong with the word of this number behind the command of a row.
 fn of_row(alloc: Global, row: &Row, words: &[String], at: usize) -> Result<String, AllocError> {
-    match (at, words.get(at)) {
-        (0 | 1, _) => of_first(alloc, row.1),
-        (_, None) if is_option(words, at) => of_end(alloc, row, words),
-        (_, Some(word)) if is_option(words, at) => of_option(
-            alloc,
-            row.2,
-            words,
-            at,
-            word.as_str(),
-        ),
-        (_, value) => match words.get(at.saturating_sub(1)) {
-            Some(option) => of_value(alloc, row, option.as_str(), value.is_some()),
-            None => String::from_str(alloc, "a word is missing here"),
-        },
+    if at < 2 {
+        return of_first(alloc, row.1);
+    }
+    match option_at(row.2, words, at) {
+        Some((name, false)) => of_option(alloc, row.2, words, at, name),
+        Some((name, true)) => of_value(alloc, row, name, at < words.len()),
+        None => of_end(alloc, row, words),
     }
 }
 

@@ -2,7 +2,7 @@
 //! a terminal.
 //!
 //! Proved: `on_host`, the one call that `main` makes for a command, has the clause `answer` of `zar` in `zar_cli`, with the files
-//! and the writers of the host, from empty records on. It asks for fewer than 2^32 words, which `main` tests, and for nothing of
+//! and the writers of the host, from empty records on. A call has fewer than 2^32 words, which `main` tests; nothing is asked of
 //! the host.
 //!
 //! No clause speaks of `main` itself, which hands over the words and the streams and gives the status to the system: it is
@@ -10,22 +10,19 @@
 //! terminal alone, as `explain` and the line of progress do.
 #![tactic(auto)]
 
-ghost use Rattle.std.specs.Prelude.{◌<◌, ◌^◌, length};
-
 mod calls;
 mod explaining;
 mod on_host;
 
 use crate::explaining::explain;
 use crate::on_host::on_host;
-use std::alloc::{AllocError, Global};
 use std::io::IsTerminal;
 use std::process::ExitCode;
 use std::rt::Env;
 use std::{env, io};
 use terminal::Progress;
 use zar_cli::statuses::{NO_WORDS, OUT_OF_MEMORY};
-use zar_cli::{Command, Work, read_words};
+use zar_cli::Call;
 
 // The words after the program's name, or the status that says why there are none.
 fn words<R: Env + AllocGlobal>(rt: &R) -> Result<Vec<String>, u8> {
@@ -40,23 +37,6 @@ fn words<R: Env + AllocGlobal>(rt: &R) -> Result<Vec<String>, u8> {
     Ok(words)
 }
 
-// How many streams the words go over, if they name a range and memory suffices. The lines of runs tell themselves how far they
-// are where they are seen.
-fn streams_of_range(alloc: Global, words: &[String], out_is_seen: bool) -> Option<u64>
-    requires { length words.now < 2 ^ 32 }
-{
-    match read_words(alloc, words) {
-        Ok(Command::Checked(_, Work::Runs(_, _))) if out_is_seen => None,
-        Ok(
-            Command::Checked(
-                _,
-                Work::Tally(range, _) | Work::Runs(range, _) | Work::Hunt(range, _, _),
-            ),
-        ) => Some(range.to.saturating_sub(range.from)),
-        _ => None,
-    }
-}
-
 fn main(rt: HostRuntime) -> ExitCode {
     let words = match words(&rt) {
         Ok(words) => words,
@@ -67,8 +47,11 @@ fn main(rt: HostRuntime) -> ExitCode {
     }
     let out_is_seen = rt.stdout().is_terminal();
     let err_is_seen = rt.stderr().is_terminal();
-    let streams = if err_is_seen {
-        streams_of_range(rt.alloc(), words.as_slice(), out_is_seen)
+    let call = Call::of(rt.alloc(), words.as_slice());
+
+    // The lines of runs tell themselves how far they are where they are seen.
+    let streams = if err_is_seen && !(out_is_seen && call.writes_runs()) {
+        call.streams()
     } else {
         None
     };
@@ -76,7 +59,7 @@ fn main(rt: HostRuntime) -> ExitCode {
     let (status, _files, _out, err) = on_host(
         &rt,
         rt.alloc(),
-        words.as_slice(),
+        &call,
         rt.stdout(),
         rt.stderr(),
         &progress,
@@ -84,7 +67,7 @@ fn main(rt: HostRuntime) -> ExitCode {
     );
     progress.wipe();
     if err_is_seen {
-        explain(&rt, words.as_slice(), err.kept());
+        explain(&rt, call.words(), err.kept());
     }
     ExitCode::from(status)
 }

@@ -1,5 +1,5 @@
 //! A call over the files and the writers of the host.
-ghost use Rattle.std.specs.Prelude.{◌^◌, ◌<◌, [], map, length, string_bytes};
+ghost use Rattle.std.specs.Prelude.{[], map, string_bytes};
 ghost use Rattle.zar_cli.specs.Answer.{IsAnswer};
 
 use std::alloc::Global;
@@ -8,10 +8,10 @@ use std::rt;
 use std::thread::Threads;
 use std::time::Clock;
 use terminal::{KeepingSink, Progress, WipingSink};
-use zar_cli::zar;
+use zar_cli::{Call, zar};
 use zar_io::{Files, HostFiles, HostSink, Sink};
 
-/// Runs the command that the words spell over the files of the host and two of its writers. It answers the status, and the files
+/// Runs the command that the words of the call spell over the files of the host and two of its writers. It answers the status, and the files
 /// and both sinks with their records.
 pub fn on_host<
     'p,
@@ -21,7 +21,7 @@ pub fn on_host<
 >(
     rt: &'p R,
     alloc: Global,
-    words: &[String],
+    call: &Call<'_>,
     out: O,
     err: E,
     progress: &'p Progress<'p, R>,
@@ -32,12 +32,10 @@ pub fn on_host<
     WipingSink<'p, HostSink<O>, R>,
     KeepingSink<WipingSink<'p, HostSink<E>, R>>,
 )
-    requires { length words.now < 2 ^ 32 }
-
     // By what the host answered: for every set of files that agrees with the record, the output is what is said of the words
     // over these files; there are such files where no name is sought twice; and the writers took the text of the output, or a
     // part of its front.
-    ensures answer { IsAnswer (map string_bytes words.now) result.0
+    ensures answer { IsAnswer (map string_bytes call.now.words.now) result.0
         [] (⟦<HostFiles<'p, R> as Files>⟧.answered result.1)
         [] (⟦<WipingSink<'p, HostSink<O>, R> as Sink>⟧.answered result.2)
         [] (⟦<KeepingSink<WipingSink<'p, HostSink<E>, R>> as Sink>⟧.answered result.3) }
@@ -45,6 +43,6 @@ pub fn on_host<
     let mut files = HostFiles::new(rt);
     let mut out = WipingSink::new(HostSink::new(out), progress, out_is_seen);
     let mut err = KeepingSink::new(WipingSink::new(HostSink::new(err), progress, true));
-    let status = zar(rt, alloc, words, &mut files, &mut out, &mut err, progress);
+    let status = zar(rt, alloc, call, &mut files, &mut out, &mut err, progress);
     (status, files, out, err)
 }

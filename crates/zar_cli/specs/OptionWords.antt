@@ -1,5 +1,6 @@
 -- The options among the words of a call: each with its value behind it, or alone, in any order, and each once.
-use Rattle.std.specs.Prelude.{ℕ, ◌+◌, ◌-◌, nat_le, Bool, false, ◌&&◌, ◌||◌, List, [], ◌∷◌, ◌++◌, Option, Some, None, is_some, unwrap_or, if◌then◌else◌}
+use Rattle.std.specs.Prelude.{ℕ, ◌+◌, ◌-◌, nat_le, Bool, true, false, ◌&&◌, ◌||◌, List, [], ◌∷◌, ◌++◌, Option, Some, None, is_some, option_map, unwrap_or, if◌then◌else◌}
+use Rattle.std.specs.List.{list_any}
 use Rattle.std.specs.Option.{option_or, option_and_then}
 use Rattle.std.specs.Str.{bytes_eq}
 use Rattle.gcl_core.specs.text.Names.{value_named}
@@ -13,7 +14,7 @@ use Rattle.zar_cli.specs.declared.command.Source.{Source}
 use Rattle.zar_cli.specs.declared.command.Source.TheVariants as source
 use Rattle.zar_cli.specs.declared.settings.Form.{Form}
 use Rattle.zar_cli.specs.declared.settings.Form.TheVariants as form
-use Rattle.zar_cli.specs.declared.settings.TheConstants.{BITS, SEED, STREAM, BUDGET, FROM, TO, WORKERS, TURNS, ATTEMPTS, ROUNDS, WANT, ALL_TURNS, USUAL_LIMIT, USUAL_BUDGET, USUAL_WORKERS}
+use Rattle.zar_cli.specs.declared.settings.TheConstants.{BITS, SEED, STREAM, BUDGET, FROM, TO, WORKERS, TURNS, ATTEMPTS, ROUNDS, WANT, USUAL_LIMIT, USUAL_BUDGET, USUAL_WORKERS}
 use Rattle.gcl_core.specs.text.Numbers.{number_in}
 use Rattle.zar_cli.specs.Forms.{CallWord, is_name, key_named}
 
@@ -33,10 +34,6 @@ fits form.Wanted word = is_some (key_named word)
 fits form.Weights word = is_some (weights_in word)
 fits form.Alone word = false
 
--- no value is behind this option
-abbrev pub stands_alone : CallWord → Bool
-stands_alone name = bytes_eq ALL_TURNS.0.now name
-
 -- bits of a file and bits of a stream exclude each other
 abbrev pub excludes : CallWord → CallWord → Bool
 excludes a b = bytes_eq BITS.0.now a && (bytes_eq SEED.0.now b || bytes_eq STREAM.0.now b || bytes_eq BUDGET.0.now b)
@@ -45,58 +42,60 @@ excludes a b = bytes_eq BITS.0.now a && (bytes_eq SEED.0.now b || bytes_eq STREA
 abbrev pub bars : CallWord → CallWord → Bool
 bars other name = bytes_eq other name || excludes other name || excludes name other
 
--- the option was given before, or one that was excludes it
-abbrev pub is_barred : CallWord → List CallWord → Bool
-is_barred name [] = false
-is_barred name (other ∷ []) = bars other name
-is_barred name (other ∷ value ∷ before) =
-    bars other name || (if stands_alone other then is_barred name (value ∷ before) else is_barred name before)
-
--- the form of the value behind an option, if it is one of these and not barred
-abbrev pub form_behind : List Setting → List CallWord → CallWord → Option Form
-form_behind takes before name = if is_barred name before then None else value_named takes name
-
--- the wrong word of a pair at place i, by the form of its value
-abbrev pub wrong_in_pair : Option Form → ℕ → CallWord → Option ℕ
-wrong_in_pair None i value = Some i
-wrong_in_pair (Some form) i value = if fits form value then None else Some (i + 1)
-
--- the same of an option that stands alone, and of one behind which nothing is left
-abbrev pub wrong_alone : Option Form → ℕ → Option ℕ
-wrong_alone form i = if is_some form then None else Some i
-
-abbrev pub wrong_at_end : Option Form → ℕ → Option ℕ
-wrong_at_end form i = Some (if is_some form then i + 1 else i)
-
--- the first wrong word of those from place i on, behind the options before them
-abbrev pub wrong_option : List Setting → ℕ → List CallWord → List CallWord → Option ℕ
-wrong_option takes i before [] = None
-wrong_option takes i before (name ∷ []) =
-    if stands_alone name then wrong_alone (form_behind takes before name) i else wrong_at_end (form_behind takes before name) i
-wrong_option takes i before (name ∷ value ∷ rest) =
-    if stands_alone name
-    then option_or (wrong_alone (form_behind takes before name) i) (wrong_option takes (i + 1) (before ++ name ∷ []) (value ∷ rest))
-    else option_or (wrong_in_pair (form_behind takes before name) i value)
-    (wrong_option takes (i + 2) (before ++ name ∷ value ∷ []) rest)
-
--- ---- what the options give, where none is wrong
-
--- the words of the options
+-- what options a command was given, in order: each with the word behind it, unless it stands alone or is the last word
 abbrev pub Options : Type 0
-Options = List CallWord
+Options = List (CallWord × Option CallWord)
 
 abbrev pub no_options : Options
 no_options = []
 
--- the word behind an option that is given; it is empty where no word is behind it
+-- no value is behind an option of this form
+abbrev pub is_alone : Option Form → Bool
+is_alone (Some form.Alone) = true
+is_alone form = false
+
+-- words cut into the options that they give, by those that the command takes
+abbrev pub given : List Setting → List CallWord → Options
+given takes [] = []
+given takes (name ∷ []) = (name, None) ∷ []
+given takes (name ∷ value ∷ words) =
+    if is_alone (value_named takes name) then (name, None) ∷ given takes (value ∷ words) else (name, Some value) ∷ given takes words
+
+-- ---- the first that is wrong
+
+-- the option was given before, or one that was excludes it
+abbrev pub is_barred : CallWord → Options → Bool
+is_barred name before = list_any (λ other. bars other.0 name) before
+
+-- the form of the value behind an option, if it is one of these and not barred
+abbrev pub form_behind : List Setting → Options → CallWord → Option Form
+form_behind takes before name = if is_barred name before then None else value_named takes name
+
+-- how many words from the name on the wrong one stands, by the form of the value: 0 for the name itself
+abbrev pub wrong_behind : Option Form → Option CallWord → Option ℕ
+wrong_behind None value = Some 0
+wrong_behind (Some form) None = if is_alone (Some form) then None else Some 1
+wrong_behind (Some form) (Some value) = if fits form value then None else Some 1
+
+abbrev pub words_of : Option CallWord → ℕ
+words_of None = 1
+words_of (Some value) = 2
+
+-- the place of the first wrong word of options that begin at place i, behind those before them
+abbrev pub wrong_option : List Setting → ℕ → Options → Options → Option ℕ
+wrong_option takes i before [] = None
+wrong_option takes i before (o ∷ rest) =
+    option_or (option_map (λ k. i + k) (wrong_behind (form_behind takes before o.0) o.1))
+    (wrong_option takes (i + words_of o.1) (before ++ o ∷ []) rest)
+
+-- ---- what the options give, where none is wrong
+
+-- the word behind an option, where the option is given and a word is behind it
 abbrev pub value_of : CallWord → Options → Option CallWord
-value_of word [] = None
-value_of word (name ∷ []) = if bytes_eq word name then Some [] else None
-value_of word (name ∷ value ∷ o) =
-    if bytes_eq word name then Some value else (if stands_alone name then value_of word (value ∷ o) else value_of word o)
+value_of word o = unwrap_or (value_named o word) None
 
 abbrev pub is_given : Setting → Options → Bool
-is_given s o = is_some (value_of s.0 o)
+is_given s o = is_some (value_named o s.0)
 
 abbrev pub number_of : Form → CallWord → Option ℕ
 number_of form.Name word = None
