@@ -14,9 +14,9 @@ ghost use Rattle.gcl_core.specs.declared.answers.Limits.{Limits};
 ghost use Rattle.gcl_core.specs.meaning.Syntax.{SourceProgram};
 
 use crate::error::CostError;
-use numbers::Frac;
 use gcl_core::{Checked, Limits};
 use mass_fold::{MassError, repeated, round_bits};
+use numbers::Frac;
 use std::alloc::Global;
 
 // Why one round is refused, as a cause of all rounds. That all attempts fail is no cause.

@@ -9,8 +9,8 @@ ghost use Rattle.units_law.specs.Between.{whole_of, least_of};
 ghost use Rattle.enclose_fold.specs.inner.Rows.{bounds_at, upper_of_rest};
 
 use crate::rounds::in_rounds;
-use numbers::{ALL, Frac, over_down, over_up};
 use gcl_core::{Limit, Outcome};
+use numbers::{ALL, Frac, over_down, over_up};
 
 // Whether it is the limit of rounds.
 fn is_rounds(x: &Outcome) -> bool

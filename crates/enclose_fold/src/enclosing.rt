@@ -20,13 +20,16 @@ use crate::bounding::Round;
 use crate::error::EncloseError;
 use crate::outcomes::{all_units, outcome_units, passing};
 use crate::rows::bound_rows;
-use units_law::{bounds_are_as_wide_as_what_is_lost, masses_lie_between, products_are_rounded_down, units_are_lost_by_rounding};
-use numbers::ALL;
 use gcl_core::{Checked, Outcome, outcomes_are_ordered};
 use mass_fold::is_ordered;
+use numbers::ALL;
 use posterior_bounds::Bounds;
 use std::alloc::Global;
 use std::collections::BTreeMap;
+use units_law::{
+    bounds_are_as_wide_as_what_is_lost, masses_lie_between, products_are_rounded_down,
+    units_are_lost_by_rounding,
+};
 
 // What one round gives: the units of each outcome that counts, of a failed observation, and of all that does not fail.
 #[derive(Drop)]

@@ -7,8 +7,8 @@ ghost use Rattle.enclose_fold.specs.inner.Rows.{with_row, rows_of};
 
 use crate::bounding::Round;
 use crate::error::EncloseError;
-use numbers::Frac;
 use gcl_core::Outcome;
+use numbers::Frac;
 use posterior_bounds::BoundRows;
 use std::alloc::Global;
 use std::collections::BTreeMap;

@@ -12,8 +12,8 @@ ghost use Rattle.enclose_fold.specs.declared.error.EncloseError.TheVariants.{Out
 ghost use Rattle.enclose_fold.specs.inner.Refusals.{Refuses};
 
 use crate::error::EncloseError;
-use numbers::ALL;
 use mass_fold::{MOST_STATES, State};
+use numbers::ALL;
 use std::alloc::Global;
 use std::collections::BTreeMap;
 use std::collections::btree_map::Entry;

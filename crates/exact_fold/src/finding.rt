@@ -6,8 +6,8 @@ use crate::error::SettleError;
 use crate::primes::PRIMES;
 use crate::residues::{Moduli, Residues};
 use crate::solving::solved;
-use numbers::Frac;
 use mass_fold::{State, Table, scale};
+use numbers::Frac;
 use std::alloc::Global;
 use std::collections::BTreeMap;
 

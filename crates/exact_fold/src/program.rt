@@ -14,9 +14,9 @@ ghost use Rattle.exact_fold.specs.inner.Rounds.{SumsTo, RoundOf, DividesTo};
 use crate::error::{ExactError, SettleError};
 use crate::loops::block_loops;
 use crate::settle::settle_block;
-use numbers::Frac;
 use gcl_core::{Checked, Outcome};
 use mass_fold::{Ended, FracRows, Table, add_ended, add_results, mass, over_rest};
+use numbers::Frac;
 use std::alloc::Global;
 use std::collections::BTreeMap;
 

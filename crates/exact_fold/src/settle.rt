@@ -23,12 +23,12 @@ ghost use Rattle.exact_fold.specs.inner.Turning.{TurnsTo, IsClosed, StaysIn, key
 use crate::error::SettleError;
 use crate::finding::{Found, Seen, copied, put};
 use crate::turning::{above, all_stand, alone, is_none, leaving, passes, same};
-use numbers::Frac;
 use gcl_core::{Arms, Block, Expr, Stmt};
 use mass_fold::choosing::{sides, total, weighed};
 use mass_fold::{
     Attempts, Ended, Fold, Gone, MOST_STATES, State, Table, assign, end_all, merge, split,
 };
+use numbers::Frac;
 use std::alloc::Global;
 
 /// The table after a block, as the turns of its loops grow without bound; what ended is added.

@@ -12,9 +12,9 @@ ghost use Rattle.exact_fold.specs.inner.Settled.{AreAbove};
 ghost use Rattle.exact_fold.specs.inner.Turning.{Alone, NothingIn, AllInside, inside, outside};
 
 use crate::error::SettleError;
-use numbers::Frac;
 use gcl_core::{Expr, eval};
 use mass_fold::{Ended, State, Table};
+use numbers::Frac;
 use std::alloc::Global;
 
 /// Whether the state stands in the table.

@@ -1,8 +1,8 @@
 // Programs that are drawn from and weighed, with answers worked out by hand.
 
 use crate::{ReadError, WordBits, chance, draw, draw_row, limit_chance, program};
-use numbers::Frac;
 use gcl_core::{Answer, Limit, Limits, Outcome};
+use numbers::Frac;
 use std::test::Fail;
 
 const TWO_THIRDS: &[u8] = b"choice 2/3 { x := 1; } or { x := 2; } return x;";

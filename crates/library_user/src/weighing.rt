@@ -13,9 +13,9 @@ ghost use Rattle.library_user.specs.Chance.{IsChance};
 ghost use Rattle.library_user.specs.LimitChance.{IsLimitChance};
 
 use exact_fold::{ExactError, exact, exact_masses_are_limits};
-use numbers::Frac;
 use gcl_core::{Checked, Limits, Outcome};
 use mass_fold::{FracRows, MassError, mass};
+use numbers::Frac;
 use std::alloc::Global;
 use weighing_law::runs_weigh_exactly;
 

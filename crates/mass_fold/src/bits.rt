@@ -14,8 +14,8 @@ use crate::attempts::Attempts;
 use crate::body::fold_body;
 use crate::error::MassError;
 use crate::meter::Meter;
-use numbers::Frac;
 use gcl_core::Checked;
+use numbers::Frac;
 use std::alloc::Global;
 
 // What a meter counted.

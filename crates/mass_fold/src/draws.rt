@@ -18,8 +18,8 @@ use crate::state::State;
 use crate::steps::ended_by;
 use crate::table::Table;
 use draw_tree::bits_for;
-use numbers::Frac;
 use gcl_core::{Expr, eval};
+use numbers::Frac;
 use std::alloc::Global;
 
 /// The power of a fraction of at most 1; none where it does not fit.

@@ -21,8 +21,8 @@ use crate::error::MassError;
 use crate::meter::{Meter, count_arms, count_choice, count_uniform};
 use crate::steps::{assign, end_all, merge, split};
 use crate::table::Table;
-use numbers::Frac;
 use gcl_core::{Arms, Block, Expr, Stmt};
+use numbers::Frac;
 use std::alloc::Global;
 
 /// How tables go through blocks: where their memory comes from, the most turns for each entry of a loop, and the most attempts

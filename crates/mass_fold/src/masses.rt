@@ -20,8 +20,8 @@ use crate::meter::Meter;
 use crate::outcomes::{add_ended, add_results};
 use crate::rounds::{in_rounds, over_rest};
 use crate::rows::{FracRows, Round};
-use numbers::Frac;
 use gcl_core::{Checked, Outcome};
+use numbers::Frac;
 use std::alloc::Global;
 use std::collections::BTreeMap;
 

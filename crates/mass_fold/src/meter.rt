@@ -18,8 +18,8 @@ use crate::draws::parts;
 use crate::state::State;
 use crate::table::Table;
 use attempt_bits::{arms_bits, choice_bits, uniform_bits};
-use numbers::Frac;
 use gcl_core::{Arms, Expr, MOST_ARMS, Weight, eval};
+use numbers::Frac;
 
 /// How many bits the draws that are reached read on average, each by the weight with which it is reached.
 #[derive(Clone, Copy)]

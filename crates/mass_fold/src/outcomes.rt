@@ -11,8 +11,8 @@ use crate::ended::Ended;
 use crate::error::MassError;
 use crate::state::State;
 use crate::table::Table;
-use numbers::Frac;
 use gcl_core::{Expr, Fault, Limit, Outcome, eval, outcomes_are_ordered};
+use numbers::Frac;
 use std::collections::BTreeMap;
 
 /// What a state of the body ends the run in: the value of the program's result, or its fault.

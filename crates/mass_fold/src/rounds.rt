@@ -8,8 +8,8 @@ ghost use Rattle.mass_fold.specs.inner.Steps.{IsPower, PowerBlames};
 use crate::draws::power;
 use crate::error::MassError;
 use crate::outcomes::add;
-use numbers::Frac;
 use gcl_core::{Limit, Outcome};
+use numbers::Frac;
 use std::alloc::Global;
 use std::collections::BTreeMap;
 

@@ -6,8 +6,8 @@ ghost use Rattle.mass_fold.specs.Rows.{Ascending, EachLowest};
 
 use crate::error::MassError;
 use crate::ordered::is_ordered;
-use numbers::Frac;
 use gcl_core::{Outcome, outcomes_are_ordered};
+use numbers::Frac;
 use std::alloc::Global;
 use std::collections::BTreeMap;
 use std::marker::Model;

@@ -9,9 +9,9 @@ ghost use Rattle.mass_lines.specs.MassLines.{mass_rows_text};
 
 use crate::narrow::is_narrow;
 use exact_fold::ExactMasses;
-use numbers::Frac;
 use gcl_print::Text;
 use mass_fold::FracRows;
+use numbers::Frac;
 use posterior_bounds::{BoundRows, Bounds};
 use report_text::{bound_line, cost_line, endless_line, mass_line, other_line};
 use std::alloc::{AllocError, Global};

@@ -4,9 +4,9 @@ ghost use Rattle.std.specs.Prelude.{◌≡◌, true, IfSome};
 ghost use Rattle.mass_fold.specs.Refused.{IsLimit};
 
 use enclose_fold::{EncloseError, enclose};
-use numbers::Frac;
 use gcl_core::{Limit, Outcome};
 use gcl_text::check_text;
+use numbers::Frac;
 use posterior_bounds::BoundRows;
 use std::alloc::Global;
 

@@ -1,8 +1,8 @@
 // Fractions and rows of masses, beside those that are wanted.
 
-use numbers::Frac;
 use gcl_core::Outcome;
 use mass_fold::FracRows;
+use numbers::Frac;
 
 // A numerator over a denominator.
 pub(crate) type Pair = (u128, u128);

@@ -10,9 +10,9 @@ ghost use Rattle.posterior_bounds.specs.PosteriorBounds.{is_settled};
 ghost use Rattle.posterior_bounds.specs.inner.Rising.{mass_in, raised, RaiseRefused};
 
 use crate::rows::BoundRows;
-use numbers::Frac;
 use gcl_core::{Limit, Outcome};
 use mass_fold::{FracRows, MassError};
+use numbers::Frac;
 use std::alloc::Global;
 
 // Whether it is the limit of turns.

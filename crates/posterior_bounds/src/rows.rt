@@ -2,8 +2,8 @@
 
 ghost use Rattle.std.specs.Prelude.{◌≡◌, ◌<◌, length, Some, slice_get};
 
-use numbers::Frac;
 use gcl_core::Outcome;
+use numbers::Frac;
 use std::marker::Model;
 
 /// Outcomes in ascending order, each with its lower and its upper bound.

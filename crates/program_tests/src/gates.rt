@@ -79,15 +79,7 @@ fn says<R: Threads + Sync>(
     let mut out = MemSink::new(alloc, 16, 4096, &[])?;
     let mut err = MemSink::new(alloc, 16, 4096, &[])?;
     let call = Call::of(alloc, words.as_slice());
-    let status = zar(
-        rt,
-        alloc,
-        &call,
-        &mut files,
-        &mut out,
-        &mut err,
-        gate,
-    );
+    let status = zar(rt, alloc, &call, &mut files, &mut out, &mut err, gate);
     Ok(status == 0 && out.bytes() == line)
 }
 

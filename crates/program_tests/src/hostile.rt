@@ -190,15 +190,7 @@ fn says<R: Threads + Sync>(
     let mut out = MemSink::new(alloc, 1, 4096, fails[1])?;
     let mut err = MemSink::new(alloc, 1, 4096, fails[2])?;
     let call = Call::of(alloc, words.as_slice());
-    let status = zar(
-        rt,
-        alloc,
-        &call,
-        &mut files,
-        &mut out,
-        &mut err,
-        &Open,
-    );
+    let status = zar(rt, alloc, &call, &mut files, &mut out, &mut err, &Open);
     Ok(status == said.0 && out.bytes() == said.1 && err.bytes() == said.2)
 }
 

@@ -4,8 +4,8 @@ ghost use Rattle.std.specs.Prelude.{◌≡◌, ◌+◌, ◌≤◌, ◌++◌, [],
 ghost use Rattle.report_text.specs.Lines.{fraction_text};
 ghost use Rattle.report_text.specs.declared.line.TheConstants as rule;
 
-use numbers::Frac;
 use itoa::{Buffer, Integer};
+use numbers::Frac;
 use std::marker::Model;
 
 /// The greatest length of a line: that of an outcome with two fractions fits.

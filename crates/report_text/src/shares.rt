@@ -5,8 +5,8 @@ ghost use Rattle.report_text.specs.Lines.{mass_text, bound_text, other_text, und
 
 use crate::line::Line;
 use crate::outcomes::outcome_line;
-use numbers::Frac;
 use gcl_core::Outcome;
+use numbers::Frac;
 
 /// The line of an outcome and its mass, a fraction in lowest terms. It takes no memory.
 pub fn mass_line(outcome: &Outcome, mass: &Frac) -> Line

@@ -1,8 +1,8 @@
 // The tests of `stream_rolls`: rolls on a stream whose bits are published.
 
 use std::test::Fail;
-use stream_runs::{MORE_BITS, StreamsFrom, VALUE};
 use stream_rolls::{FLIPS, rolls_into};
+use stream_runs::{MORE_BITS, StreamsFrom, VALUE};
 use weighted_roll::are_weights;
 
 // Of the weights 3, 2 and 1 the label 1 comes on 10. The stream 0 of the seed 0 begins with 1010 (RFC 8439, appendix A.1, test

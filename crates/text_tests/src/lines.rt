@@ -1,7 +1,7 @@
 // The tests of `report_text`: the lines, byte by byte.
 
-use numbers::Frac;
 use gcl_core::{Answer, Fault, Limit, Outcome, TallyKey};
+use numbers::Frac;
 use report_text::{
     Refusal, bound_line, check_line, cost_line, fault_line, hunt_line, mass_line, other_line,
     sample_line, tally_line, undecided_line,

@@ -22,5 +22,10 @@
 mod enclosing;
 mod rounding;
 
-pub use enclosing::{bounds_are_as_wide_as_what_is_lost, masses_lie_between, some_rounds_stay_below};
-pub use rounding::{blocks_stay_below, products_are_rounded_down, rounds_stay_below, tables_are_merged, units_are_lost_by_rounding};
+pub use enclosing::{
+    bounds_are_as_wide_as_what_is_lost, masses_lie_between, some_rounds_stay_below,
+};
+pub use rounding::{
+    blocks_stay_below, products_are_rounded_down, rounds_stay_below, tables_are_merged,
+    units_are_lost_by_rounding,
+};

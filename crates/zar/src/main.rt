@@ -21,8 +21,8 @@ use std::process::ExitCode;
 use std::rt::Env;
 use std::{env, io};
 use terminal::Progress;
-use zar_cli::statuses::{NO_WORDS, OUT_OF_MEMORY};
 use zar_cli::Call;
+use zar_cli::statuses::{NO_WORDS, OUT_OF_MEMORY};
 
 // The words after the program's name, or the status that says why there are none.
 fn words<R: Env + AllocGlobal>(rt: &R) -> Result<Vec<String>, u8> {

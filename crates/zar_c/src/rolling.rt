@@ -9,8 +9,8 @@ use crate::asking::{ZarRollLimits, can_roll};
 use crate::said::{ZarSaid, said};
 use crate::statuses::{DONE, NUMBERS_REFUSED, OUT_OF_MEMORY};
 use std::alloc::Global;
-use stream_runs::StreamsFrom;
 use stream_rolls::rolls_into;
+use stream_runs::StreamsFrom;
 
 /// Writes what rolls by weights give, with at most `flips` flips each: place k of both arrays gets the end of the roll on the
 /// first `budget` bits of the stream `first` + k of the seed. The status is 0 where it did, 2 where no roll may have the
