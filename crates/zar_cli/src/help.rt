@@ -2,11 +2,12 @@
 
 ghost use Rattle.std.specs.Prelude.{◌≡◌, ◌++◌, [], map, flat_map, unwrap_or, slice_get};
 ghost use Rattle.zar_cli.specs.Help.{piece_text, refusal_page, topic_text};
-ghost use Rattle.zar_cli.specs.Words.{code_named, topic_named};
+ghost use Rattle.zar_cli.specs.Words.{code_behind, code_named, is_one_of, topic_named};
+ghost use Rattle.zar_cli.specs.declared.settings.TheConstants.{HELP};
 
 use crate::explained::REFUSALS;
 use crate::settings::{
-    LEAST_GENERATED, USUAL_BUDGET, USUAL_COST_ATTEMPTS, USUAL_COST_ROUNDS, USUAL_FLIPS,
+    HELP, LEAST_GENERATED, USUAL_BUDGET, USUAL_COST_ATTEMPTS, USUAL_COST_ROUNDS, USUAL_FLIPS,
     USUAL_LIMIT, USUAL_MASS_TURNS, USUAL_WEIGHED_FLIPS, USUAL_WORKERS, Verb, row_named,
 };
 use audit_walk::MOST_DEPTH;
@@ -76,6 +77,12 @@ const ALL_TURNS: Piece = (
     "--all-turns   bounds for every greater limit of turns\n",
     None,
 );
+
+// Every command takes it.
+const EXPLAIN: Part = &[(
+    "--explain     what a refusal means, behind its line; also by ZAR_EXPLAIN=1\n",
+    None,
+)];
 
 // The limits of a run.
 const LIMITS: Part = &[TURNS, USUAL, END, ATTEMPTS, USUAL, END, ROUNDS, USUAL, END];
@@ -193,7 +200,7 @@ zar sample FILE --seed N
     run the program once, and print the outcome and how many bits were read
 
 ",
-    &[ONE_RUN, LIMITS],
+    &[ONE_RUN, LIMITS, EXPLAIN],
 );
 
 pub const MASS: Page = (
@@ -201,7 +208,7 @@ pub const MASS: Page = (
     print each outcome with its exact mass
 
 ",
-    &[MASS_TURNS, &[ATTEMPTS, NO_LIMIT, ROUNDS, NO_LIMIT]],
+    &[MASS_TURNS, &[ATTEMPTS, NO_LIMIT, ROUNDS, NO_LIMIT], EXPLAIN],
 );
 
 pub const COST: Page = (
@@ -219,6 +226,7 @@ pub const COST: Page = (
             END,
         ],
         MASS_TURNS,
+        EXPLAIN,
     ],
 );
 
@@ -227,14 +235,15 @@ pub const POSTERIOR: Page = (
     print each value and fault with bounds that hold for every greater limit of turns
 
 ",
-    &[MASS_TURNS],
+    &[MASS_TURNS, EXPLAIN],
 );
 
 pub const EXACT: Page = (
     "zar exact FILE
     print each outcome with its exact mass where nothing is limited, and what never ends
+
 ",
-    &[],
+    &[EXPLAIN],
 );
 
 pub const ENCLOSE: Page = (
@@ -245,6 +254,7 @@ pub const ENCLOSE: Page = (
     &[
         MASS_TURNS,
         &[ATTEMPTS, NO_LIMIT, ROUNDS, NO_LIMIT, ALL_TURNS],
+        EXPLAIN,
     ],
 );
 
@@ -253,7 +263,7 @@ pub const AUDIT: Page = (
     print how all strings of N bits end
 
 ",
-    &[&[DEPTH, REQUIRED], LIMITS],
+    &[&[DEPTH, REQUIRED], LIMITS, EXPLAIN],
 );
 
 pub const TALLY: Page = (
@@ -261,7 +271,7 @@ pub const TALLY: Page = (
     count how the runs on a range of streams end
 
 ",
-    &[RANGE, WORK, LIMITS],
+    &[RANGE, WORK, LIMITS, EXPLAIN],
 );
 
 pub const RUNS: Page = (
@@ -269,7 +279,7 @@ pub const RUNS: Page = (
     run the program on each stream of a range, and print the outcomes in order
 
 ",
-    &[RANGE, WORK, LIMITS],
+    &[RANGE, WORK, LIMITS, EXPLAIN],
 );
 
 pub const HUNT: Page = (
@@ -277,38 +287,44 @@ pub const HUNT: Page = (
     print the least stream of a range with a wanted outcome
 
 ",
-    &[RANGE, &[WANT], WORK, LIMITS],
+    &[RANGE, &[WANT], WORK, LIMITS, EXPLAIN],
 );
 
 pub const CHECK: Page = (
     "zar check FILE
     check the program, and count its statements and names
+
 ",
-    &[],
+    &[EXPLAIN],
 );
 
 pub const SHOW: Page = (
     "zar show FILE
     print the canonical text of the program
+
 ",
-    &[],
+    &[EXPLAIN],
 );
 
 pub const CODE: Page = (
     "zar code FILE
     list the code that samples the program
+
 ",
-    &[],
+    &[EXPLAIN],
 );
 
 pub const GEN: Page = (
     "zar gen N
     generate a program from a number, ",
-    &[&[
-        ("", Some(LEAST_GENERATED)),
-        (" to ", Some(GREATEST_NUMBER as u64)),
-        (", and print its size and a tally of it\n", None),
-    ]],
+    &[
+        &[
+            ("", Some(LEAST_GENERATED)),
+            (" to ", Some(GREATEST_NUMBER as u64)),
+            (", and print its size and a tally of it\n\n", None),
+        ],
+        EXPLAIN,
+    ],
 );
 
 pub const FAST: Page = (
@@ -330,6 +346,7 @@ zar fast N --seed N
         ],
         ONE_RUN,
         FLIPS,
+        EXPLAIN,
     ],
 );
 
@@ -341,7 +358,7 @@ zar roll W,W,.. --seed N
     draw a label by these weights
 
 ",
-    &[WEIGHTS, ONE_RUN, FLIPS],
+    &[WEIGHTS, ONE_RUN, FLIPS, EXPLAIN],
 );
 
 // The page at a place of a table, which has none behind its end.
@@ -367,20 +384,41 @@ fn refusal_page(code: u8) -> Page
     page_at(&REFUSALS, usize::from(code))
 }
 
-// The number of the code that a word is: E, and the number.
-fn code_named(word: &str) -> Option<u8>
-    ensures { result ≡ code_named word.now }
+// The number of a code behind its letter.
+fn code_behind(letter: char, word: &str) -> Option<u8>
+    requires { letter < 128 }
+    ensures { result ≡ code_behind letter word.now }
 {
-    match word.strip_prefix('E') {
+    match word.strip_prefix(letter) {
         Some(digits) => Some(number_in(1, u64::from(TOO_UNLIKELY), digits)? as u8),
         None => None,
     }
 }
 
-/// What help is asked for by the word of a command, or by the code of a refusal.
+// The number of the code that a word is.
+fn code_named(word: &str) -> Option<u8>
+    ensures { result ≡ code_named word.now }
+{
+    match code_behind('E', word) {
+        Some(code) => Some(code),
+        None => code_behind('e', word),
+    }
+}
+
+/// The word asks for help.
+pub fn asks_for_help(word: &str) -> bool
+    ensures { result ≡ is_one_of HELP word.now }
+{
+    HELP.iter().any(|help| *help == word)
+}
+
+/// What help is asked for by the word of a command, by the code of a refusal, or by a word that asks for help.
 pub fn topic_named(word: &str) -> Option<Topic>
     ensures { result ≡ topic_named word.now }
 {
+    if asks_for_help(word) {
+        return Some(Topic::Everything);
+    }
     match row_named(word) {
         Some(row) => Some(Topic::One(row.0)),
         None => Some(Topic::Refused(code_named(word)?)),

@@ -13,8 +13,8 @@ ghost use Rattle.zar_io.specs.Trace.{World, Agrees};
 
 use crate::source::open_bits;
 use dice_roll::{Roll, roll, share};
-use numbers::Frac;
 use gcl_print::Text;
+use numbers::Frac;
 use report_text::{Refusal, each_line, flips_line};
 use std::alloc::{AllocError, Global};
 use zar_io::{Failed, FileBits, Files, StreamBits};

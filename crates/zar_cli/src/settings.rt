@@ -83,22 +83,31 @@ pub const WANT: Setting = ("--want", Form::Wanted);
 
 pub const ALL_TURNS: Setting = ("--all-turns", Form::Alone);
 
+/// What a refusal means is written behind its line.
+pub const EXPLAIN: Setting = ("--explain", Form::Alone);
+
 // The options of commands.
-const SAMPLE: &[Setting] = &[BITS, SEED, STREAM, BUDGET, TURNS, ATTEMPTS, ROUNDS];
+const SAMPLE: &[Setting] = &[BITS, SEED, STREAM, BUDGET, TURNS, ATTEMPTS, ROUNDS, EXPLAIN];
 
-const LIMITS: &[Setting] = &[TURNS, ATTEMPTS, ROUNDS];
+const LIMITS: &[Setting] = &[TURNS, ATTEMPTS, ROUNDS, EXPLAIN];
 
-const ENCLOSE: &[Setting] = &[TURNS, ATTEMPTS, ROUNDS, ALL_TURNS];
+const ONE_LIMIT: &[Setting] = &[TURNS, EXPLAIN];
 
-const AUDIT: &[Setting] = &[DEPTH, TURNS, ATTEMPTS, ROUNDS];
+const NO_OTHER: &[Setting] = &[EXPLAIN];
 
-const TALLY: &[Setting] = &[SEED, FROM, TO, BUDGET, WORKERS, TURNS, ATTEMPTS, ROUNDS];
+const ENCLOSE: &[Setting] = &[TURNS, ATTEMPTS, ROUNDS, ALL_TURNS, EXPLAIN];
 
-const HUNT: &[Setting] = &[
-    SEED, FROM, TO, WANT, BUDGET, WORKERS, TURNS, ATTEMPTS, ROUNDS,
+const AUDIT: &[Setting] = &[DEPTH, TURNS, ATTEMPTS, ROUNDS, EXPLAIN];
+
+const TALLY: &[Setting] = &[
+    SEED, FROM, TO, BUDGET, WORKERS, TURNS, ATTEMPTS, ROUNDS, EXPLAIN,
 ];
 
-const ROLL: &[Setting] = &[BITS, SEED, STREAM, BUDGET, FLIPS];
+const HUNT: &[Setting] = &[
+    SEED, FROM, TO, WANT, BUDGET, WORKERS, TURNS, ATTEMPTS, ROUNDS, EXPLAIN,
+];
+
+const ROLL: &[Setting] = &[BITS, SEED, STREAM, BUDGET, FLIPS, EXPLAIN];
 
 // The numbers behind `gen` and `fast`.
 const GENERATED: Form = Form::Number(LEAST_GENERATED, GREATEST_NUMBER as u64);
@@ -113,8 +122,8 @@ pub const VERBS: [(&str, Row); 16] = [
     ("sample", (Verb::Sample, Form::Name, SAMPLE, &[])),
     ("mass", (Verb::Mass, Form::Name, LIMITS, &[])),
     ("cost", (Verb::Cost, Form::Name, LIMITS, &[])),
-    ("posterior", (Verb::Posterior, Form::Name, &[TURNS], &[])),
-    ("exact", (Verb::Exact, Form::Name, &[], &[])),
+    ("posterior", (Verb::Posterior, Form::Name, ONE_LIMIT, &[])),
+    ("exact", (Verb::Exact, Form::Name, NO_OTHER, &[])),
     ("enclose", (Verb::Enclose, Form::Name, ENCLOSE, &[])),
     ("audit", (Verb::Audit, Form::Name, AUDIT, &[DEPTH])),
     ("tally", (Verb::Tally, Form::Name, TALLY, &[SEED, FROM, TO])),
@@ -123,16 +132,19 @@ pub const VERBS: [(&str, Row); 16] = [
         "hunt",
         (Verb::Hunt, Form::Name, HUNT, &[SEED, FROM, TO, WANT]),
     ),
-    ("check", (Verb::Check, Form::Name, &[], &[])),
-    ("show", (Verb::Show, Form::Name, &[], &[])),
-    ("code", (Verb::Code, Form::Name, &[], &[])),
-    ("gen", (Verb::Gen, GENERATED, &[], &[])),
+    ("check", (Verb::Check, Form::Name, NO_OTHER, &[])),
+    ("show", (Verb::Show, Form::Name, NO_OTHER, &[])),
+    ("code", (Verb::Code, Form::Name, NO_OTHER, &[])),
+    ("gen", (Verb::Gen, GENERATED, NO_OTHER, &[])),
     ("fast", (Verb::Fast, LABELS, ROLL, &[])),
     ("roll", (Verb::Roll, Form::Weights, ROLL, &[])),
 ];
 
 /// The words that ask for help.
 pub const HELP: [&str; 3] = ["help", "--help", "-h"];
+
+/// The words that ask for it behind a command, where a file may have the name `help`.
+pub const HELP_BEHIND: [&str; 2] = ["--help", "-h"];
 
 /// The word that asks for the version.
 pub const VERSION_WORD: &str = "--version";

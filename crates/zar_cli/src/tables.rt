@@ -5,8 +5,8 @@ ghost use Rattle.audit_walk.specs.declared.auditing.TheConstants.{MOST_DEPTH};
 ghost use Rattle.zar_cli.specs.Tables.{share_of, audit_rows_text, audit_text, tally_rows_text};
 
 use audit_walk::{Audit, AuditRows};
-use numbers::Frac;
 use gcl_print::Text;
+use numbers::Frac;
 use report_text::{mass_line, tally_line, undecided_line};
 use std::alloc::{AllocError, Global};
 use tally_range::Tally;

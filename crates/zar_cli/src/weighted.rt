@@ -14,9 +14,9 @@ ghost use Rattle.zar_io.specs.Trace.{World, Agrees};
 
 use crate::source::open_bits;
 use dice_roll::Roll;
-use numbers::Frac;
 use gcl_core::Outcome;
 use gcl_print::Text;
+use numbers::Frac;
 use report_text::{Refusal, cost_line, flips_line, mass_line};
 use std::alloc::{AllocError, Global};
 use weighted_roll::{Shares, roll, weigh_labels};
