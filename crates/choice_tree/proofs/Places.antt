@@ -1,7 +1,7 @@
 -- The members of a row, by place.
 use Rattle.std.proofs.Common.{◌≡◌, ℕ, zero, suc, ◌<◌, List, [], ◌∷◌, length, get_or, Some, refl, arith}
 use Rattle.choice_tree.specs.declared.tree.Cf.{Cf}
-use Rattle.choice_tree.specs.Tree.{count, tree_at}
+use Rattle.choice_tree.specs.TreeRows.{count, tree_at}
 use Rattle.choice_tree.specs.Views.{choice_tree_of, list_of}
 
 pub as_many : (ts : List Cf) → count (list_of ts) ≡ length ts

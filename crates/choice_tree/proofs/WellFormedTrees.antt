@@ -3,7 +3,8 @@ use Rattle.std.proofs.Common.{◌≡◌, length, Option, Some, None, refl, arith
 use Rattle.gcl_core.specs.meaning.Arms.{parts_of}
 use Rattle.gcl_core.specs.meaning.Bounds.{StatementIsWeighed, BlockIsWeighed, ArmsAreWeighed}
 use Rattle.gcl_core.specs.meaning.Syntax.{Statement, Skip, Set, If, While, Choice, Choose, Uniform, Observe, Statements, done, ◌▸◌, ArmList, no_arm, arm}
-use Rattle.choice_tree.specs.Tree.{ChoiceTree, ChoiceTrees, count}
+use Rattle.choice_tree.specs.Tree.{ChoiceTree, ChoiceTrees}
+use Rattle.choice_tree.specs.TreeRows.{count}
 use Rattle.choice_tree.specs.TreeOf.{in_front, member_of, members_of, arm_trees}
 use Rattle.choice_tree.specs.WellFormed.{IsWellFormed, AreWellFormed}
 

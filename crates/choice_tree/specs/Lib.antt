@@ -1,4 +1,5 @@
 pub mod Tree
+pub mod TreeRows
 pub mod WellFormed
 pub mod Views
 pub mod OnBits

@@ -1,9 +1,9 @@
 -- Well-formed trees: each weight is at most 1 over a number in range, and a choice among several arms has such parts, one for
 -- each arm.
 use Rattle.std.specs.Prelude.{◌≡◌, length}
-use Rattle.gcl_core.specs.meaning.Bounds.{IsWeight}
-use Rattle.gcl_core.specs.meaning.Parts.{AreParts}
-use Rattle.choice_tree.specs.Tree.{ChoiceTree, Fail, Set, Test, Choice, Choose, Uniform, Row, Fix, ChoiceTrees, no_tree, ◌▹◌, count}
+use Rattle.gcl_core.specs.meaning.Bounds.{IsWeight, AreParts}
+use Rattle.choice_tree.specs.Tree.{ChoiceTree, Fail, Set, Test, Choice, Choose, Uniform, Row, Fix, ChoiceTrees, no_tree, ◌▹◌}
+use Rattle.choice_tree.specs.TreeRows.{count}
 
 abbrev mutual
   pub IsWellFormed : ChoiceTree → Type 0

@@ -1,7 +1,7 @@
 // Choice-fix trees.
 
 ghost use Rattle.std.specs.Prelude.{◌≡◌, ◌<◌, Some};
-ghost use Rattle.choice_tree.specs.Tree.{count, tree_at};
+ghost use Rattle.choice_tree.specs.TreeRows.{count, tree_at};
 ghost use Rattle.choice_tree.specs.Views.{choice_tree_of, choice_trees_of};
 
 use crate::parts::Parts;

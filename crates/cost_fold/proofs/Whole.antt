@@ -19,7 +19,8 @@ use Rattle.cost_law.specs.Costing.{CostsExactly}
 use Rattle.cost_law.specs.ExpectedBits.{on_average, block_bits, expected_bits}
 use Rattle.cost_law.proofs.CostLaw.{costs_exactly, expected_pos}
 use Rattle.cost_law.proofs.DrawBits.{draw_bits_pos}
-use Rattle.numbers.specs.Fraction.{InLowest, IsEqual, lowest}
+use Rattle.numbers.specs.Fraction.{IsEqual, lowest}
+use Rattle.numbers.specs.Arithmetic.{InLowest}
 use Rattle.numbers.proofs.Divisors.{product_pos, lowest_equal, lowest_in_lowest, cancel}
 use Rattle.table_flow.specs.Reached.{ReachedDraws, draws_of}
 use Rattle.table_flow.specs.Scale.{whole, Whole, Wholes, amount, weight}

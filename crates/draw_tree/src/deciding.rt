@@ -5,7 +5,8 @@ ghost use Rattle.gcl_core.specs.declared.rules.TheConstants.{GREATEST_DENOMINATO
 ghost use Rattle.gcl_core.specs.meaning.Draw.{last_end, bits_for, class_of, have_one_class, attempt_on};
 ghost use Rattle.draw_tree.specs.Coalescing.{IsCoalesced, coalesced};
 ghost use Rattle.draw_tree.specs.Decided.{decided_from, decided_draw};
-ghost use Rattle.draw_tree.specs.Flips.{leaf, flip_count};
+ghost use Rattle.draw_tree.specs.Flips.{leaf};
+ghost use Rattle.draw_tree.specs.Classes.{flip_count};
 ghost use Rattle.draw_tree.specs.Perfect.{perfect_draw};
 ghost use Rattle.draw_tree.specs.Prefixes.{attempt_by};
 ghost use Rattle.draw_tree.specs.Views.{flips_of};

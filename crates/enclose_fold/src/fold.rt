@@ -4,10 +4,9 @@ ghost use Rattle.std.specs.Prelude.{◌≡◌, ◌≤◌, ◌+◌, length, IfOk,
 ghost use Rattle.std.specs.List.{sum};
 ghost use Rattle.numbers.specs.declared.units.TheConstants.{ALL};
 ghost use Rattle.gcl_core.specs.meaning.Arms.{parts_of};
-ghost use Rattle.gcl_core.specs.meaning.Bounds.{StatementIsWeighed, BlockIsWeighed, ArmsAreWeighed};
+ghost use Rattle.gcl_core.specs.meaning.Bounds.{StatementIsWeighed, BlockIsWeighed, ArmsAreWeighed, ExpressionBelow};
 ghost use Rattle.gcl_core.specs.meaning.Bounds.{StatementBelow, BlockBelow, ArmsBelow};
 ghost use Rattle.gcl_core.specs.meaning.Views.{expression_of, statement_of, statements_of, list_of_arms};
-ghost use Rattle.gcl_core.specs.meaning.Value.{ExpressionBelow};
 ghost use Rattle.units_law.specs.Units.{total};
 ghost use Rattle.enclose_fold.specs.inner.Ended.{units_of};
 ghost use Rattle.enclose_fold.specs.inner.Folding.{BlockGives, BlockRefused, StatementGives, StatementRefused};

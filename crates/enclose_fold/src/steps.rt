@@ -3,7 +3,8 @@
 ghost use Rattle.std.specs.Prelude.{◌≡◌, ◌≤◌, ◌<◌, ◌+◌, ◌++◌, IfOk, OnOk, IfErr};
 ghost use Rattle.numbers.specs.declared.units.TheConstants.{ALL};
 ghost use Rattle.gcl_core.specs.meaning.Views.{expression_of};
-ghost use Rattle.gcl_core.specs.meaning.Value.{value_of, ExpressionBelow};
+ghost use Rattle.gcl_core.specs.meaning.Value.{value_of};
+ghost use Rattle.gcl_core.specs.meaning.Bounds.{ExpressionBelow};
 ghost use Rattle.table_flow.specs.Tables.{holds, fails};
 ghost use Rattle.units_law.specs.Merged.{merged};
 ghost use Rattle.units_law.specs.Units.{total, set_units, only_units, fault_units};

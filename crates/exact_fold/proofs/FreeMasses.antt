@@ -2,7 +2,8 @@
 use Rattle.std.proofs.Common.{◌≡◌, ℕ, ◌+◌, ◌*◌, ◌-◌, ◌<◌, ◌≤◌, Bool, true, false, not, Ok, Err, [], ◌∷◌, ◌++◌, None, map, length, refl, sym, ap, ◌∙◌, subst, arith}
 use Rattle.std.proofs.Math.Nat.{le_refl, lt_of_mul-lt-mul_left, mul-lt-mul_of_pos_right, le_of_mul-le-mul_right}
 use Rattle.std.specs.Prelude.{Contains}
-use Rattle.numbers.specs.Fraction.{IsEqual, InLowest}
+use Rattle.numbers.specs.Fraction.{IsEqual}
+use Rattle.numbers.specs.Arithmetic.{InLowest}
 use Rattle.numbers.proofs.Divisors.{cancel, product_pos}
 use Rattle.gcl_core.specs.declared.answers.Limit.{Limit}
 use Rattle.gcl_core.specs.declared.answers.Limit.TheVariants.{Turns, Attempts, Rounds}

@@ -7,14 +7,14 @@ use Rattle.gcl_core.specs.declared.answers.Limit.TheVariants.{Turns}
 use Rattle.gcl_core.specs.declared.answers.Outcome.{Outcome}
 use Rattle.gcl_core.specs.declared.answers.Outcome.TheVariants as outcome
 use Rattle.gcl_core.specs.meaning.Checked.{IsChecked}
-use Rattle.gcl_core.specs.meaning.Outcomes.{same_outcome}
+use Rattle.gcl_core.specs.meaning.Outcomes.{same_outcome, is_settled}
 use Rattle.gcl_core.specs.meaning.Syntax.{SourceProgram}
 use Rattle.gcl_core.specs.weighing.Fractions.{Fraction, plus, AtMost, IsBelowOne}
 use Rattle.gcl_core.specs.weighing.Mass.{mass_of, round_mass}
 use Rattle.gcl_core.proofs.Accepted.{checked_weights}
 use Rattle.table_flow.proofs.EqualFractions.{equal_plus}
 use Rattle.mass_fold.specs.Rows.{Rows}
-use Rattle.posterior_bounds.specs.PosteriorBounds.{is_settled, fails, lower_of, upper_of}
+use Rattle.posterior_bounds.specs.PosteriorBounds.{fails, lower_of, upper_of}
 use Rattle.posterior_bounds.specs.Holding.{BoundsHold}
 use Rattle.unlimited_law.specs.SettledMasses.{settled_failed, settled_mass, gap, nth_part, IsNear, MassTends, EndlessTends, endless_mass}
 use Rattle.unlimited_law.proofs.EndlessLimits.{endless_tends}

@@ -11,7 +11,8 @@ use Rattle.gcl_core.specs.meaning.Value.{Value, value_of}
 use Rattle.gcl_core.specs.weighing.WeightedEnds.{Weighted}
 use Rattle.gcl_core.specs.weighing.Fractions.{Fraction, one, plus, divided_by_rest}
 use Rattle.gcl_core.specs.weighing.Mass.{sum_of, ends_in, is_failed}
-use Rattle.numbers.specs.Fraction.{IsEqual, InLowest, lowest}
+use Rattle.numbers.specs.Fraction.{IsEqual, lowest}
+use Rattle.numbers.specs.Arithmetic.{InLowest}
 use Rattle.numbers.proofs.Divisors.{product_pos, cancel}
 use Rattle.table_flow.specs.Scale.{whole, amount}
 use Rattle.table_flow.proofs.Amounts.{amount_ext}

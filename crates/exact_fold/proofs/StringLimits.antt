@@ -9,7 +9,7 @@ use Rattle.gcl_core.specs.declared.answers.Limits.{Limits}
 use Rattle.gcl_core.specs.declared.answers.Outcome.{Outcome}
 use Rattle.gcl_core.specs.declared.answers.Outcome.TheVariants as outcome
 use Rattle.gcl_core.specs.meaning.Checked.{IsChecked}
-use Rattle.gcl_core.specs.meaning.Outcomes.{same_outcome}
+use Rattle.gcl_core.specs.meaning.Outcomes.{same_outcome, is_settled}
 use Rattle.gcl_core.specs.meaning.Runs.{run_on}
 use Rattle.gcl_core.specs.meaning.Syntax.{SourceProgram}
 use Rattle.gcl_core.specs.weighing.Fractions.{Fraction, plus, AtMost}
@@ -24,7 +24,7 @@ use Rattle.weighing_law.proofs.CutOffLaw.{cut_off_vanishes}
 use Rattle.weighing_law.proofs.Fractions.{at_most_then, at_most_plus}
 use Rattle.mass_fold.specs.Rows.{Rows}
 use Rattle.posterior_bounds.specs.ComingTogether.{AreGreat}
-use Rattle.posterior_bounds.specs.PosteriorBounds.{is_settled, fails}
+use Rattle.posterior_bounds.specs.PosteriorBounds.{fails}
 use Rattle.posterior_bounds.specs.StringBounds.{weight_at}
 use Rattle.posterior_bounds.proofs.Between.{share_below}
 use Rattle.posterior_bounds.proofs.StringBounds.{lies_between}

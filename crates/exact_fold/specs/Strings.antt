@@ -10,7 +10,7 @@ use Rattle.gcl_core.specs.weighing.LongestReading.{longest}
 use Rattle.gcl_core.specs.weighing.StringWeight.{outcome_weight}
 use Rattle.mass_fold.specs.Rows.{Rows}
 use Rattle.posterior_bounds.specs.ComingTogether.{AreGreat}
-use Rattle.posterior_bounds.specs.PosteriorBounds.{is_settled}
+use Rattle.gcl_core.specs.meaning.Outcomes.{is_settled}
 use Rattle.posterior_bounds.specs.StringBounds.{weight_at}
 use Rattle.weighing_law.specs.Weighing.{Suffices}
 

@@ -4,17 +4,9 @@ ghost use Rattle.std.specs.Prelude.{◌≡◌, ◌≤◌, length, None, IfOk, On
 ghost use Rattle.std.specs.List.{sum};
 ghost use Rattle.numbers.specs.Fraction.{IsEqual};
 ghost use Rattle.gcl_core.specs.meaning.Arms.{parts_of};
-ghost use Rattle.gcl_core.specs.meaning.Parts.{AreParts};
-ghost use Rattle.gcl_core.specs.meaning.Bounds.{
-  StatementIsWeighed,
-  BlockIsWeighed,
-  ArmsAreWeighed,
-  StatementBelow,
-  BlockBelow,
-  ArmsBelow,
-};
+ghost use Rattle.gcl_core.specs.meaning.Bounds.{StatementIsWeighed, BlockIsWeighed, ArmsAreWeighed, StatementBelow, BlockBelow, ArmsBelow, ExpressionBelow, AreParts};
 ghost use Rattle.gcl_core.specs.meaning.Views.{expression_of, statement_of, statements_of, list_of_arms};
-ghost use Rattle.gcl_core.specs.meaning.Value.{value_of, ExpressionBelow};
+ghost use Rattle.gcl_core.specs.meaning.Value.{value_of};
 ghost use Rattle.unlimited_law.specs.Alike.{Alike};
 ghost use Rattle.unlimited_law.specs.Settling.{LoopSettles, StatementSettles, BlockSettles, ArmsSettle};
 ghost use Rattle.exact_fold.specs.inner.Settled.{SettlesFrom};

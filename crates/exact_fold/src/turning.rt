@@ -1,7 +1,8 @@
 // What the check of a loop does with tables.
 
 ghost use Rattle.std.specs.Prelude.{◌≡◌, [], true, length, IfOk};
-ghost use Rattle.gcl_core.specs.meaning.Value.{value_of, ExpressionBelow};
+ghost use Rattle.gcl_core.specs.meaning.Value.{value_of};
+ghost use Rattle.gcl_core.specs.meaning.Bounds.{ExpressionBelow};
 ghost use Rattle.gcl_core.specs.meaning.Views.{expression_of};
 ghost use Rattle.table_flow.specs.Tables.{holds};
 ghost use Rattle.mass_fold.specs.inner.Ended.{rows_of};

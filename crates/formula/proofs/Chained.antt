@@ -4,7 +4,8 @@ use Rattle.std.specs.Prelude.{if◌then◌else◌}
 use Rattle.gcl_core.specs.declared.answers.Fault.{Fault}
 use Rattle.gcl_core.specs.meaning.Syntax.{Expression}
 use Rattle.gcl_core.specs.meaning.Syntax as source
-use Rattle.gcl_core.specs.meaning.Value.{State, Value, ◌>>=◌, truth_number, is_zero, value_of, applied, ExpressionBelow}
+use Rattle.gcl_core.specs.meaning.Value.{State, Value, ◌>>=◌, truth_number, is_zero, value_of, applied}
+use Rattle.gcl_core.specs.meaning.Bounds.{ExpressionBelow}
 use Rattle.gcl_core.specs.declared.syntax.BinOp.TheVariants.{And, Or}
 use Rattle.formula.specs.declared.op.Condition.{Condition}
 use Rattle.formula.specs.declared.op.Condition.TheVariants.{Joined, Remainder}

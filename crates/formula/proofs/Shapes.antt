@@ -3,7 +3,8 @@ use Rattle.std.proofs.Common.{arith, ◌<◌, ◌≡◌, ℕ, ◌+◌, max, List
 use Rattle.std.specs.Global.{Vec}
 use Rattle.std.proofs.lemmas.Option.{same_Some}
 use Rattle.gcl_core.specs.declared.syntax.BinOp.{BinOp}
-use Rattle.gcl_core.specs.meaning.Value.{State, value_of, ExpressionBelow}
+use Rattle.gcl_core.specs.meaning.Value.{State, value_of}
+use Rattle.gcl_core.specs.meaning.Bounds.{ExpressionBelow}
 use Rattle.gcl_core.specs.declared.syntax.BinOp.TheVariants.{Add, Lt, Eq}
 use Rattle.gcl_core.specs.meaning.Syntax.{Expression}
 use Rattle.gcl_core.specs.meaning.Syntax as source

@@ -2,7 +2,8 @@
 use Rattle.std.proofs.Common.{◌≡◌, ℕ, ◌+◌, [], ◌∷◌, ◌++◌, refl, sym, ap, ◌∙◌, subst}
 use Rattle.gcl_core.specs.declared.syntax.BinOp.{BinOp}
 use Rattle.gcl_core.specs.declared.syntax.BinOp.TheVariants.{And, Or}
-use Rattle.gcl_core.specs.meaning.Value.{State, value_of, ◌>>=◌, applied, ExpressionBelow}
+use Rattle.gcl_core.specs.meaning.Value.{State, value_of, ◌>>=◌, applied}
+use Rattle.gcl_core.specs.meaning.Bounds.{ExpressionBelow}
 use Rattle.gcl_core.specs.meaning.Syntax.{Expression}
 use Rattle.gcl_core.specs.meaning.Syntax as source
 use Rattle.formula.specs.declared.op.Op.TheVariants.{Bin}

@@ -6,7 +6,8 @@ use Rattle.gcl_core.specs.declared.syntax.BinOp.{BinOp}
 use Rattle.gcl_core.specs.declared.syntax.BinOp.TheVariants.{Rem, Eq, And, Or}
 use Rattle.gcl_core.specs.meaning.Syntax.{Expression}
 use Rattle.gcl_core.specs.meaning.Syntax as source
-use Rattle.gcl_core.specs.meaning.Value.{State, Value, ◌>>=◌, truth_number, is_zero, value_of, applied, ExpressionBelow}
+use Rattle.gcl_core.specs.meaning.Value.{State, Value, ◌>>=◌, truth_number, is_zero, value_of, applied}
+use Rattle.gcl_core.specs.meaning.Bounds.{ExpressionBelow}
 use Rattle.formula.specs.declared.op.Atom.TheVariants.{Var}
 use Rattle.formula.specs.declared.op.Condition.{Condition}
 use Rattle.formula.specs.declared.op.Condition.TheVariants.{Joined, Remainder}

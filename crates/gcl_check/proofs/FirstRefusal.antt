@@ -5,7 +5,8 @@ use Rattle.std.proofs.lemmas.List.{length-map, map-append}
 use Rattle.gcl_core.specs.declared.kinds.Kind.TheVariants.{Number}
 use Rattle.gcl_core.specs.text.Acceptance.{Flaw, ProgramRefusal, too_many_names, expression_flaw, statement_flaw, first_refusal, flaws_of, refusal_of}
 use Rattle.gcl_core.proofs.Listed.{listed_all}
-use Rattle.gcl_core.specs.text.ReadingOrder.{listed, count_all}
+use Rattle.gcl_core.specs.text.ReadingOrder.{listed}
+use Rattle.gcl_core.specs.text.StatementCounts.{count_all}
 use Rattle.gcl_core.specs.meaning.Syntax.{Statement, Statements, SourceProgram}
 use Rattle.gcl_core.specs.text.Targets.{sets}
 

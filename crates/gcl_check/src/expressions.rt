@@ -2,10 +2,10 @@
 
 ghost use Rattle.std.specs.Prelude.{◌≡◌, [], ◌∷◌, length, OnOk, IsTrue};
 ghost use Rattle.gcl_core.specs.text.Acceptance.{reads_known, expression_flaw, weight_flaw, first_refusal};
-ghost use Rattle.gcl_core.specs.meaning.Bounds.{ExpressionFits};
+ghost use Rattle.gcl_core.specs.meaning.Bounds.{ExpressionFits, ExpressionBelow};
 ghost use Rattle.gcl_core.specs.text.Kinds.{has_kind};
 ghost use Rattle.gcl_core.specs.declared.kinds.Kind.TheVariants.{Number};
-ghost use Rattle.gcl_core.specs.meaning.Value.{fits_64, ExpressionBelow};
+ghost use Rattle.gcl_core.specs.meaning.Value.{fits_64};
 ghost use Rattle.gcl_core.specs.meaning.Views.{expression_of};
 ghost use Rattle.gcl_check.specs.inner.Marks.{marked};
 ghost use Rattle.gcl_check.specs.Refused.{refusal_answered};

@@ -6,9 +6,8 @@ use Rattle.gcl_core.specs.declared.rules.TheConstants.{GREATEST_DENOMINATOR}
 use Rattle.gcl_core.specs.declared.syntax.Weight.{Weight}
 use Rattle.gcl_core.specs.declared.kinds.Kind.TheVariants.{Number}
 use Rattle.gcl_core.specs.text.Acceptance.{Flaw, zero_denominator, weight_above_one, too_fine, ProgramRefusal, too_many_names, expression_flaw, weight_flaw, parts_flaw, statement_flaw, first_refusal, flaws_of, IsAccepted}
-use Rattle.gcl_core.specs.meaning.Bounds.{BlockBelow, StatementBelow, ArmsBelow, VariablesBelow, BlockFits, StatementFits, ArmsFit, NumbersFit, IsWeight, BlockWeights, StatementWeights, ArmsWeights, BlockIsWeighed, BlockCounted}
+use Rattle.gcl_core.specs.meaning.Bounds.{BlockBelow, StatementBelow, ArmsBelow, VariablesBelow, BlockFits, StatementFits, ArmsFit, NumbersFit, IsWeight, BlockWeights, StatementWeights, ArmsWeights, BlockIsWeighed, BlockCounted, HaveArmCount, AreParts}
 use Rattle.gcl_core.specs.meaning.Arms.{parts_of}
-use Rattle.gcl_core.specs.meaning.Parts.{HaveArmCount, AreParts}
 use Rattle.std.specs.List.{sum}
 use Rattle.gcl_core.specs.meaning.Checked.{IsChecked}
 use Rattle.gcl_core.specs.text.ReadingOrder.{statement_listed, listed, arms_listed}

@@ -11,7 +11,7 @@ use Rattle.std.proofs.lemmas.Nat.Gcd.{dvd_of_mod-eq-zero, mod-eq-zero_of_dvd, le
 use Rattle.std.proofs.Math.Nat.{one-dvd, dvd-add, mul_comm, mul-div_cancel', mul-dvd-mul_left, mul-le-mul_left, le_of_mul-le-mul_left, div-one}
 use Rattle.gcl_core.specs.meaning.Divisor.{divides, greatest_divisor, common_divisor}
 use Rattle.gcl_core.specs.meaning.Lowest.{lowest_parts}
-use Rattle.gcl_core.specs.meaning.Parts.{HaveArmCount}
+use Rattle.gcl_core.specs.meaning.Bounds.{HaveArmCount}
 use Rattle.gcl_core.proofs.Booleans.{both}
 use Rattle.gcl_core.proofs.Divisors.{by_test}
 

@@ -9,8 +9,8 @@ use Rattle.gcl_core.specs.declared.answers.Outcome.{Outcome}
 use Rattle.gcl_core.specs.declared.answers.Outcome.TheVariants as outcome
 use Rattle.gcl_core.specs.declared.answers.TallyKey.{TallyKey}
 use Rattle.gcl_core.specs.declared.answers.TallyKey.TheVariants as key
-use Rattle.gcl_core.specs.meaning.Order.{kind_number, value_in, is_before, is_key_before}
-use Rattle.gcl_core.specs.meaning.Outcomes.{same_outcome, same_key}
+use Rattle.gcl_core.specs.meaning.Order.{kind_number, value_in, is_before, is_key_before, same_key}
+use Rattle.gcl_core.specs.meaning.Outcomes.{same_outcome}
 use Rattle.gcl_core.proofs.SameOutcomes.{same_outcomes, same_keys}
 
 -- ---- kinds and values

@@ -9,7 +9,8 @@ use Rattle.gcl_core.specs.declared.answers.Outcome.{Outcome}
 use Rattle.gcl_core.specs.declared.answers.Outcome.TheVariants as outcome
 use Rattle.gcl_core.specs.declared.answers.TallyKey.{TallyKey}
 use Rattle.gcl_core.specs.declared.answers.TallyKey.TheVariants as key
-use Rattle.gcl_core.specs.meaning.Outcomes.{same_fault, same_limit, same_outcome, same_key}
+use Rattle.gcl_core.specs.meaning.Outcomes.{same_fault, same_limit, same_outcome}
+use Rattle.gcl_core.specs.meaning.Order.{same_key}
 
 same_faults : (f g : Fault) → same_fault f g ≡ true → f ≡ g
 same_faults Overflow Overflow e = refl

@@ -17,6 +17,7 @@ pub mod NoNegative
 pub mod Kinds
 pub mod Targets
 pub mod ReadingOrder
+pub mod StatementCounts
 pub mod Acceptance
 pub mod Marks
 pub mod Canonical

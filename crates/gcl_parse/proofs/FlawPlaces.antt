@@ -6,7 +6,8 @@ use Rattle.gcl_core.specs.declared.kinds.Kind.TheVariants.{Number}
 use Rattle.gcl_core.specs.declared.tokens.Token.{Token}
 use Rattle.gcl_core.specs.declared.words.Word.{Word}
 use Rattle.gcl_core.specs.meaning.Syntax.{SourceProgram, Statement, Statements, ArmList}
-use Rattle.gcl_core.specs.text.ReadingOrder.{listed, count_one, count_all, count_arms}
+use Rattle.gcl_core.specs.text.ReadingOrder.{listed}
+use Rattle.gcl_core.specs.text.StatementCounts.{count_one, count_all, count_arms}
 use Rattle.gcl_core.specs.text.Targets.{sets}
 use Rattle.gcl_core.specs.text.Acceptance.{Flaw, too_many_names, flawed, expression_flaw, statement_flaw, first_refusal, flaws_of, refusal_of}
 use Rattle.gcl_core.specs.text.Grammar.{ReadsStatement, a_skip, an_assignment, a_uniform, an_observation, an_if, a_while, a_choice, a_choose, ReadsArms, last_arm, one_more_arm, ReadsStatements, no_statement, a_statement, ReadsBlock, in_braces, ReadsElse, no_else, an_else}

@@ -5,11 +5,9 @@ use Rattle.gcl_core.specs.declared.words.Word.{Word}
 use Rattle.gcl_core.specs.declared.words.Word.TheVariants as w
 use Rattle.gcl_core.specs.declared.levels.Level.{Level}
 use Rattle.gcl_core.specs.meaning.Arms.{parts_of}
-use Rattle.gcl_core.specs.meaning.Parts.{HaveArmCount}
 use Rattle.gcl_core.specs.meaning.Syntax.{Expression, Statement, Statements, ArmList}
-use Rattle.gcl_core.specs.meaning.Value.{ExpressionBelow}
-use Rattle.gcl_core.specs.meaning.Bounds.{StatementBelow, BlockBelow, ArmsBelow, StatementWeights, ArmsWeights, BlockCounted}
-use Rattle.gcl_core.specs.text.ReadingOrder.{count_one, count_all, count_arms}
+use Rattle.gcl_core.specs.meaning.Bounds.{StatementBelow, BlockBelow, ArmsBelow, StatementWeights, ArmsWeights, BlockCounted, ExpressionBelow, HaveArmCount}
+use Rattle.gcl_core.specs.text.StatementCounts.{count_one, count_all, count_arms}
 use Rattle.gcl_core.specs.text.NoNegative.{ExpressionHasNoNegative, StatementHasNoNegative, BlockHasNoNegative, ArmsHaveNoNegative}
 use Rattle.gcl_core.specs.text.Grammar.{leaf, ReadsPhrase, ReadsMore, a_leaf, in_brackets, with_sign, without_sign, a_comparison, no_comparison, with_not, without_not, a_row, no_more, one_more, ReadsStatement, ReadsStatements, ReadsBlock, ReadsElse, a_skip, an_assignment, a_uniform, an_observation, an_if, a_while, a_choice, a_choose, ReadsArms, last_arm, one_more_arm, no_statement, a_statement, in_braces, no_else, an_else, ReadsProgram}
 

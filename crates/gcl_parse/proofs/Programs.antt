@@ -9,7 +9,7 @@ use Rattle.gcl_core.specs.declared.words.Word.{Word}
 use Rattle.gcl_core.specs.meaning.Syntax.{Expression, Statements, SourceProgram}
 use Rattle.gcl_core.specs.text.Names.{Name, number_of}
 use Rattle.gcl_core.specs.meaning.Bounds.{VariablesBelow, BlockCounted}
-use Rattle.gcl_core.specs.text.ReadingOrder.{count_all}
+use Rattle.gcl_core.specs.text.StatementCounts.{count_all}
 use Rattle.gcl_core.specs.text.NoNegative.{HasNoNegative}
 use Rattle.gcl_core.specs.text.Offsets.{place_of, start_or}
 use Rattle.gcl_core.specs.text.Spans.{IsInRange, StandInOrder}

@@ -4,7 +4,7 @@ ghost use Rattle.std.specs.Prelude.{◌≡◌, ℕ, ◌+◌, ◌<◌, ◌≤◌,
 ghost use Rattle.gcl_core.specs.meaning.Syntax.{SourceProgram};
 ghost use Rattle.gcl_core.specs.meaning.Views.{source_of};
 ghost use Rattle.gcl_core.specs.meaning.Bounds.{BlockCounted, VariablesBelow};
-ghost use Rattle.gcl_core.specs.text.ReadingOrder.{count_all};
+ghost use Rattle.gcl_core.specs.text.StatementCounts.{count_all};
 ghost use Rattle.gcl_core.specs.text.Spans.{StandInOrder};
 ghost use Rattle.gcl_core.specs.text.Offsets.{place_of};
 ghost use Rattle.gcl_core.specs.text.Words.{kinds_of};

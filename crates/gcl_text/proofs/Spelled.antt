@@ -1,7 +1,7 @@
 -- What a text spells, from what it has written and what the checker answers.
 use Rattle.std.proofs.Common.{◌≡◌, ℕ, List, Some, refl, sym, subst, arith}
 use Rattle.gcl_core.specs.meaning.Syntax.{Statement, Skip, Set, If, While, Choice, Choose, Uniform, Observe, Statements, done, ◌▸◌, ArmList, no_arm, arm, SourceProgram}
-use Rattle.gcl_core.specs.text.ReadingOrder.{count_one, count_all, count_arms}
+use Rattle.gcl_core.specs.text.StatementCounts.{count_one, count_all, count_arms}
 use Rattle.gcl_core.specs.meaning.Divisor.{common_divisor}
 use Rattle.gcl_core.specs.meaning.Lowest.{divided, statement_in_lowest, block_in_lowest, arms_in_lowest}
 use Rattle.gcl_core.specs.meaning.Arms.{parts_of}

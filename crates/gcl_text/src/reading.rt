@@ -4,7 +4,7 @@ ghost use Rattle.std.specs.Prelude.{◌≡◌, ◌-◌, ◌^◌, ◌<◌, Some, 
 ghost use Rattle.std.specs.List.{slice_get};
 ghost use Rattle.gcl_core.specs.meaning.Views.{source_of};
 ghost use Rattle.gcl_core.specs.meaning.Bounds.{VariablesBelow, BlockCounted};
-ghost use Rattle.gcl_core.specs.text.ReadingOrder.{count_all};
+ghost use Rattle.gcl_core.specs.text.StatementCounts.{count_all};
 ghost use Rattle.gcl_check.specs.Refused.{refusal_said};
 ghost use Rattle.gcl_text.specs.Readings.{Writes, Checks};
 ghost use Rattle.gcl_text.specs.inner.Codes.{lex_code, parse_code, check_code, HasPlace};

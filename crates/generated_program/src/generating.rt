@@ -1,7 +1,7 @@
 //! The generated program.
 ghost use Rattle.std.specs.Prelude.{◌≡◌, ◌-◌, ◌^◌, ◌<◌, ◌≤◌, IfOk};
 ghost use Rattle.gcl_core.specs.meaning.Checked.{IsChecked};
-ghost use Rattle.gcl_core.specs.text.ReadingOrder.{count_all};
+ghost use Rattle.gcl_core.specs.text.StatementCounts.{count_all};
 ghost use Rattle.gcl_core.specs.meaning.Views.{statements_of, source_of};
 ghost use Rattle.generated_program.specs.Generated.{generated};
 ghost use Rattle.generated_program.specs.declared.generating.TheConstants.{GREATEST_NUMBER};

@@ -2,7 +2,7 @@
 ghost use Rattle.std.specs.Prelude.{◌≡◌, ◌≤◌, ℕ, List, length};
 ghost use Rattle.gcl_core.specs.text.Canonical.{canonical_text};
 ghost use Rattle.gcl_core.specs.meaning.Checked.{IsChecked};
-ghost use Rattle.gcl_core.specs.text.ReadingOrder.{count_all};
+ghost use Rattle.gcl_core.specs.text.StatementCounts.{count_all};
 ghost use Rattle.gcl_core.specs.meaning.Syntax.{SourceProgram};
 ghost use Rattle.gcl_core.specs.text.Texts.{IsWrittenIn, Spells};
 ghost use Rattle.gcl_core.specs.declared.rules.TheConstants.{LONGEST_TEXT};

@@ -2,7 +2,7 @@
 use Rattle.std.specs.Prelude.{ℕ, ◌<◌, ◌≤◌, ◌≡◌, Bool, true, List, Option, Some, None}
 use Rattle.gcl_core.specs.declared.answers.Answer.{Answer}
 use Rattle.gcl_core.specs.declared.answers.TallyKey.{TallyKey}
-use Rattle.gcl_core.specs.meaning.Outcomes.{same_key}
+use Rattle.gcl_core.specs.meaning.Order.{same_key}
 use Rattle.stream_runs.specs.declared.range.SeedRange.{SeedRange}
 use Rattle.stream_runs.specs.Keys.{key_on}
 

@@ -1,7 +1,7 @@
 //! The first stream of a block that is wanted.
 ghost use Rattle.std.specs.Prelude.{◌≡◌, ◌<◌, ◌≤◌, Bool, List, IfSome};
 ghost use Rattle.gcl_core.specs.declared.answers.Answer.{Answer};
-ghost use Rattle.gcl_core.specs.meaning.Outcomes.{same_key};
+ghost use Rattle.gcl_core.specs.meaning.Order.{same_key};
 ghost use Rattle.sampler_run.specs.Held.{IsRestOf, set_back};
 ghost use Rattle.stream_runs.specs.Homes.{IsHome};
 ghost use Rattle.stream_runs.specs.Ranges.{IsRange};

@@ -6,7 +6,7 @@ use Rattle.gcl_core.specs.declared.answers.Outcome.{Outcome}
 use Rattle.gcl_core.specs.meaning.Syntax.{SourceProgram}
 use Rattle.exact_fold.specs.Limits.{AreLimits}
 use Rattle.mass_fold.specs.Rows.{Rows, AreMasses}
-use Rattle.posterior_bounds.specs.PosteriorBounds.{is_settled}
+use Rattle.gcl_core.specs.meaning.Outcomes.{is_settled}
 use Rattle.library_user.specs.Chance.{IsChance}
 use Rattle.library_user.specs.LimitChance.{IsLimitChance}
 

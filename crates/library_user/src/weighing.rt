@@ -8,7 +8,7 @@ ghost use Rattle.gcl_core.specs.meaning.Views.{source_of};
 ghost use Rattle.mass_fold.specs.Refused.{MassRefused};
 ghost use Rattle.weighing_law.specs.Weighing.{WeighsExactly, limited_mass};
 ghost use Rattle.exact_fold.specs.Refused.{WhyRefused};
-ghost use Rattle.posterior_bounds.specs.PosteriorBounds.{is_settled};
+ghost use Rattle.gcl_core.specs.meaning.Outcomes.{is_settled};
 ghost use Rattle.library_user.specs.Chance.{IsChance};
 ghost use Rattle.library_user.specs.LimitChance.{IsLimitChance};
 

@@ -6,7 +6,8 @@ use Rattle.gcl_core.specs.declared.answers.Outcome.TheVariants as outcome
 use Rattle.gcl_core.specs.weighing.Fractions.{Fraction, zero_share, plus, times, power, power_sum, IsBelowOne}
 use Rattle.gcl_core.specs.weighing.Mass.{round_mass, failed_mass, mass_of_those}
 use Rattle.gcl_core.specs.meaning.Syntax.{SourceProgram}
-use Rattle.numbers.specs.Fraction.{InLowest, IsEqual, lowest}
+use Rattle.numbers.specs.Fraction.{IsEqual, lowest}
+use Rattle.numbers.specs.Arithmetic.{InLowest}
 use Rattle.numbers.proofs.Divisors.{product_pos, cancel}
 use Rattle.table_flow.specs.Scale.{whole}
 use Rattle.table_flow.specs.Tables.{peak_of}

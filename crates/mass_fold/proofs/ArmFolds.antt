@@ -4,9 +4,8 @@ use Rattle.std.specs.List.{sum}
 use Rattle.std.proofs.lemmas.List.Sums.{sum_by-cons}
 use Rattle.gcl_core.specs.declared.answers.Limit.TheVariants as limit_kind
 use Rattle.gcl_core.specs.meaning.Arms.{parts_of}
-use Rattle.gcl_core.specs.meaning.Parts.{AreParts}
 use Rattle.gcl_core.specs.meaning.Syntax.{Choose, Statements, ArmList, no_arm, arm}
-use Rattle.gcl_core.specs.meaning.Bounds.{ArmsAreWeighed}
+use Rattle.gcl_core.specs.meaning.Bounds.{ArmsAreWeighed, AreParts}
 use Rattle.gcl_core.specs.meaning.Value.{State}
 use Rattle.gcl_core.specs.meaning.Blocks.{End, limit}
 use Rattle.gcl_core.specs.weighing.Fractions.{Fraction}

@@ -5,7 +5,8 @@ use Rattle.gcl_core.specs.meaning.Value.{State}
 use Rattle.gcl_core.specs.meaning.Blocks.{End}
 use Rattle.gcl_core.specs.weighing.Fractions.{Fraction, times, one}
 use Rattle.gcl_core.specs.weighing.WeightedEnds.{class_weight, no_class_weight}
-use Rattle.numbers.specs.Fraction.{IsEqual, product_of}
+use Rattle.numbers.specs.Fraction.{IsEqual}
+use Rattle.numbers.specs.Arithmetic.{product_of}
 use Rattle.numbers.proofs.Divisors.{product_pos}
 use Rattle.table_flow.specs.Scale.{whole, Whole, amount}
 use Rattle.table_flow.specs.Counts.{sum_below}

@@ -2,7 +2,7 @@
 use Rattle.std.proofs.Common.{◌≡◌, ℕ, ◌+◌, ◌*◌, ◌≤◌, ◌<◌, ◌^◌, Some, None, refl, sym, ap, ◌∙◌, subst, arith}
 use Rattle.gcl_core.specs.meaning.Blocks.{End}
 use Rattle.gcl_core.specs.weighing.Fractions.{Fraction}
-use Rattle.numbers.specs.Fraction.{InLowest, sum_of}
+use Rattle.numbers.specs.Arithmetic.{InLowest, sum_of}
 use Rattle.table_flow.specs.Scale.{whole, Whole, amount, Wholes}
 use Rattle.table_flow.proofs.Wholes.{sum_whole, sum_refused}
 use Rattle.mass_fold.specs.declared.ended.Gone.{Gone}

@@ -9,7 +9,7 @@ use Rattle.std.proofs.lemmas.Map.{lookup-none}
 use Rattle.std.proofs.lemmas.Map.Entries.{none_below_head}
 use Rattle.std.proofs.lemmas.Map.Keys.{sorted_tail}
 use Rattle.gcl_core.specs.weighing.Fractions.{Fraction}
-use Rattle.numbers.specs.Fraction.{InLowest, sum_of}
+use Rattle.numbers.specs.Arithmetic.{InLowest, sum_of}
 use Rattle.numbers.proofs.Divisors.{product_pos, factor_pos}
 use Rattle.table_flow.specs.Scale.{whole, Whole}
 use Rattle.table_flow.proofs.Wholes.{sum_whole, sum_refused}

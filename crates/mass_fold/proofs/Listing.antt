@@ -11,7 +11,7 @@ use Rattle.std.proofs.lemmas.Map.Views.{All-after_first}
 use Rattle.gcl_core.specs.declared.answers.Outcome.{Outcome}
 use Rattle.gcl_core.specs.weighing.Fractions.{Fraction}
 use Rattle.gcl_core.specs.meaning.Order.{is_before}
-use Rattle.numbers.specs.Fraction.{InLowest}
+use Rattle.numbers.specs.Arithmetic.{InLowest}
 use Rattle.mass_fold.specs.Rows.{Rows, outcomes_of, Ascending, EachLowest}
 use Rattle.mass_fold.proofs.OutcomeKeys.{Tells}
 

@@ -4,7 +4,8 @@ use Rattle.std.proofs.Math.Nat.{mul-le-mul_left, mul-le-mul_right}
 use Rattle.gcl_core.specs.meaning.Value.{State}
 use Rattle.gcl_core.specs.weighing.Fractions.{Fraction, times}
 use Rattle.gcl_core.specs.weighing.WeightedEnds.{class_weight}
-use Rattle.numbers.specs.Fraction.{InLowest, IsEqual, sum_of, product_of}
+use Rattle.numbers.specs.Fraction.{IsEqual}
+use Rattle.numbers.specs.Arithmetic.{InLowest, sum_of, product_of}
 use Rattle.numbers.proofs.Divisors.{product_pos}
 use Rattle.table_flow.specs.Scale.{whole, Whole}
 use Rattle.table_flow.proofs.Wholes.{whole_from, sum_whole, sum_wide, product_whole, product_wide}

@@ -2,7 +2,8 @@
 use Rattle.std.proofs.Common.{◌≡◌, ℕ, zero, suc, pos, negsuc, ℤ, length, Ok, Err, Bool, true, false, cond, not, ◌≤◌, arith, refl, sym, ap, ◌∙◌, subst, slice_set}
 use Rattle.gcl_core.specs.declared.answers.Fault.{Fault}
 use Rattle.gcl_core.specs.meaning.Syntax.{Expression}
-use Rattle.gcl_core.specs.meaning.Value.{State, Value, ExpressionBelow, is_zero}
+use Rattle.gcl_core.specs.meaning.Value.{State, Value, is_zero}
+use Rattle.gcl_core.specs.meaning.Bounds.{ExpressionBelow}
 use Rattle.gcl_core.specs.meaning.Blocks.{End, by_value}
 use Rattle.table_flow.specs.Tables.{holds, fails}
 use Rattle.mass_fold.specs.declared.ended.Gone.{Gone}

@@ -9,7 +9,8 @@ use Rattle.std.specs.Int.{IsGcd}
 use Rattle.gcl_core.specs.meaning.Draw.{bits_for, rejected_numbers}
 use Rattle.gcl_core.specs.weighing.Fractions.{Fraction, times, power}
 use Rattle.gcl_core.specs.weighing.WeightedEnds.{class_weight, no_class_weight}
-use Rattle.numbers.specs.Fraction.{lowest, InLowest, IsEqual, fits, product_of}
+use Rattle.numbers.specs.Fraction.{lowest, IsEqual, fits}
+use Rattle.numbers.specs.Arithmetic.{InLowest, product_of}
 use Rattle.numbers.proofs.Divisors.{coprime_parts, coprime_product, coprime_products, product_pos, lowest_in_lowest, lowest_equal, cancel, equal_trans}
 use Rattle.table_flow.specs.Scale.{whole, Whole}
 use Rattle.table_flow.proofs.Wholes.{whole_from, lowest_divides, product_refused}

@@ -2,7 +2,7 @@
 use Rattle.std.proofs.Common.{◌≡◌, ℕ, zero, suc, ◌+◌, ◌-◌, ◌*◌, ◌^◌, ◌≤◌, ◌<◌, Some, None, sym, ap, ◌∙◌, subst, arith}
 use Rattle.std.proofs.Math.Nat.{pow-suc, pow-zero, one-le-pow, pow-le-pow_right, mul-le-mul_left, mul-le-mul_right, le_of_mul-le-mul_left, le_of_mul-le-mul_right}
 use Rattle.gcl_core.specs.weighing.Fractions.{Fraction, times}
-use Rattle.numbers.specs.Fraction.{InLowest, sum_of, product_of}
+use Rattle.numbers.specs.Arithmetic.{InLowest, sum_of, product_of}
 use Rattle.numbers.proofs.Divisors.{product_pos, lowest_in_lowest}
 use Rattle.table_flow.specs.Scale.{whole, Whole}
 use Rattle.table_flow.proofs.Wholes.{whole_from, sum_whole, sum_wide, product_whole, product_wide, whole_multiple}

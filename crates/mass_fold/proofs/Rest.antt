@@ -4,7 +4,8 @@ use Rattle.std.specs.Prelude.{◌==◌}
 use Rattle.std.proofs.lemmas.Bool.Decides.{nat_tests}
 use Rattle.std.proofs.Math.Nat.{lt_of_mul-lt-mul_left, mul-lt-mul_of_pos_right}
 use Rattle.gcl_core.specs.weighing.Fractions.{Fraction}
-use Rattle.numbers.specs.Fraction.{IsEqual, product_of, quotient_of}
+use Rattle.numbers.specs.Fraction.{IsEqual}
+use Rattle.numbers.specs.Arithmetic.{product_of, quotient_of}
 use Rattle.numbers.proofs.Divisors.{product_pos, cancel}
 use Rattle.table_flow.specs.Scale.{whole, Whole}
 use Rattle.table_flow.proofs.Wholes.{whole_from, product_whole, product_refused}

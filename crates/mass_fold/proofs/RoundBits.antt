@@ -4,7 +4,8 @@ use Rattle.gcl_core.specs.weighing.Fractions.{Fraction}
 use Rattle.gcl_core.specs.weighing.Mass.{is_failed, failed_mass}
 use Rattle.gcl_core.specs.meaning.Bounds.{BlockIsWeighed}
 use Rattle.gcl_core.specs.meaning.Syntax.{SourceProgram}
-use Rattle.numbers.specs.Fraction.{InLowest, IsEqual, lowest}
+use Rattle.numbers.specs.Fraction.{IsEqual, lowest}
+use Rattle.numbers.specs.Arithmetic.{InLowest}
 use Rattle.table_flow.specs.Width.{round_width}
 use Rattle.mass_fold.specs.declared.meter.Meter.{Meter}
 use Rattle.mass_fold.specs.declared.meter.Meter.TheVariants.{Off, Bits, TooWide}

@@ -10,7 +10,8 @@ use Rattle.gcl_core.specs.meaning.Bounds.{IsWeight, BlockIsWeighed}
 use Rattle.gcl_core.specs.meaning.Blocks.{End, limit}
 use Rattle.gcl_core.specs.weighing.Fractions.{Fraction, times}
 use Rattle.gcl_core.specs.weighing.WeightedEnds.{Weighted, scaled, class_weight, no_class_weight}
-use Rattle.numbers.specs.Fraction.{IsEqual, product_of}
+use Rattle.numbers.specs.Fraction.{IsEqual}
+use Rattle.numbers.specs.Arithmetic.{product_of}
 use Rattle.numbers.proofs.Divisors.{product_pos, cancel}
 use Rattle.table_flow.specs.Tables.{Table, all_end, both, statement_flow, block_flow, draws_each, draw_weights}
 use Rattle.table_flow.specs.Scale.{whole, Whole, Wholes, AllWhole, Within, amount, weight}

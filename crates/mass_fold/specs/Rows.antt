@@ -1,7 +1,8 @@
 -- Rows of masses: outcomes ascend, each with its mass in lowest terms, and each outcome whose mass is above 0 has a row. This
 -- project's own rule.
 use Rattle.std.specs.Prelude.{◌≡◌, ◌<◌, true, List, [], ◌∷◌, map, AllPairs, Contains}
-use Rattle.numbers.specs.Fraction.{InLowest, lowest}
+use Rattle.numbers.specs.Fraction.{lowest}
+use Rattle.numbers.specs.Arithmetic.{InLowest}
 use Rattle.gcl_core.specs.declared.answers.Outcome.{Outcome}
 use Rattle.gcl_core.specs.weighing.Fractions.{Fraction}
 use Rattle.gcl_core.specs.meaning.Order.{is_before}

@@ -3,7 +3,7 @@
 ghost use Rattle.std.specs.Prelude.{◌≡◌, ◌<◌, ◌≤◌, ◌^◌, length, IfOk, OnOk, IfErr, IfSome, IfNone};
 ghost use Rattle.gcl_core.specs.weighing.Fractions.{power};
 ghost use Rattle.gcl_core.specs.meaning.Views.{expression_of};
-ghost use Rattle.gcl_core.specs.meaning.Value.{ExpressionBelow};
+ghost use Rattle.gcl_core.specs.meaning.Bounds.{ExpressionBelow};
 ghost use Rattle.mass_fold.specs.declared.ended.Ended.{Ended};
 ghost use Rattle.mass_fold.specs.inner.Steps.{IsParts, PartsBlame, IsPower, PowerBlames, SpreadGives, SpreadBlames};
 ghost use Rattle.mass_fold.specs.inner.Drawing.{ScaledTo, ScaleRefused, PartEnds, PartRefused};

@@ -2,7 +2,8 @@
 
 ghost use Rattle.std.specs.Prelude.{◌≡◌, length, IfOk, OnOk, IfErr};
 ghost use Rattle.gcl_core.specs.meaning.Outcomes.{outcome_of};
-ghost use Rattle.gcl_core.specs.meaning.Value.{value_of, ExpressionBelow};
+ghost use Rattle.gcl_core.specs.meaning.Value.{value_of};
+ghost use Rattle.gcl_core.specs.meaning.Bounds.{ExpressionBelow};
 ghost use Rattle.gcl_core.specs.meaning.Views.{expression_of};
 ghost use Rattle.mass_fold.specs.inner.Amounts.{SumAt};
 ghost use Rattle.mass_fold.specs.inner.Outcomes.{AddGives, AddBlames, ResultsGive, ResultsBlame, EndedGive, EndedBlame};

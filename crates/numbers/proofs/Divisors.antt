@@ -14,7 +14,8 @@ use Rattle.std.proofs.Math.Arith.{le_of_le-suc-ne}
 use Rattle.gcl_core.specs.meaning.Divisor.{divides, greatest_divisor}
 use Rattle.gcl_core.proofs.LowestParts.{sum_cons}
 use Rattle.numbers.specs.Divisor.{gcd, lcm}
-use Rattle.numbers.specs.Fraction.{lowest, InLowest, Fraction, IsEqual}
+use Rattle.numbers.specs.Fraction.{lowest, Fraction, IsEqual}
+use Rattle.numbers.specs.Arithmetic.{InLowest}
 
 -- the greatest common divisor by remainders, with at most k of them
 unfoldable euclid : ℕ → ℕ → ℕ → ℕ

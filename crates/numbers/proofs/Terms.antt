@@ -5,7 +5,8 @@ use Rattle.std.proofs.lemmas.Bool.Decides.{nat_tests}
 use native.Mathlib.Nat.{mul-div_cancel', mul-div_right, mul-div_left, dvd-mul_left}
 use Rattle.std.proofs.lemmas.Nat.Gcd.{IsGcd-swap}
 use Rattle.numbers.specs.Divisor.{gcd}
-use Rattle.numbers.specs.Fraction.{Fraction, lowest, InLowest, raised, if_all_fit, common_of, if_fits}
+use Rattle.numbers.specs.Fraction.{Fraction, lowest}
+use Rattle.numbers.specs.Arithmetic.{InLowest, raised, if_all_fit, common_of, if_fits}
 use Rattle.numbers.proofs.Divisors.{gcd_is, gcd_pos, along_to, coprime_parts, coprime_products, coprime_rests, product_pos, lcm_is, lowest_from, lowest_in_lowest, lowest_equal, factor_pos, crosswise}
 
 raised_left : (n d k : ℕ) → 1 ≤ d → n * (d * k / d) ≡ n * k

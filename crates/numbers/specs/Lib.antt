@@ -1,3 +1,4 @@
 pub mod Divisor
 pub mod Fraction
+pub mod Arithmetic
 pub mod Units

@@ -2,7 +2,8 @@
 
 ghost use Rattle.std.specs.Prelude.{◌≡◌, ◌≤◌, ◌*◌, IfSome};
 ghost use Rattle.numbers.specs.Divisor.{gcd};
-ghost use Rattle.numbers.specs.Fraction.{InLowest, IsEqual, lowest, common_of, if_fits, sum_of, difference_of, product_of, quotient_of, order_of};
+ghost use Rattle.numbers.specs.Fraction.{IsEqual, lowest};
+ghost use Rattle.numbers.specs.Arithmetic.{InLowest, common_of, if_fits, sum_of, difference_of, product_of, quotient_of, order_of};
 
 use crate::divisor::gcd;
 use std::cmp::Ordering;
@@ -22,7 +23,7 @@ impl Model for Frac {
 
     ghost Value = { ℕ × ℕ };
 
-    ghost use Rattle.numbers.specs.Fraction.{InLowest};
+    ghost use Rattle.numbers.specs.Arithmetic.{InLowest};
 
     ghost view = { λ f. (f.num, f.den) };
 

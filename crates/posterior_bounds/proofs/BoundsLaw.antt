@@ -9,12 +9,12 @@ use Rattle.gcl_core.specs.meaning.Blocks.{End}
 use Rattle.gcl_core.specs.weighing.Fractions.{Fraction, AtMost, IsBelowOne}
 use Rattle.gcl_core.specs.meaning.Checked.{IsChecked}
 use Rattle.gcl_core.specs.weighing.Mass.{is_failed}
-use Rattle.gcl_core.specs.meaning.Outcomes.{same_outcome}
+use Rattle.gcl_core.specs.meaning.Outcomes.{same_outcome, is_settled}
 use Rattle.gcl_core.specs.meaning.Syntax.{SourceProgram}
 use Rattle.gcl_core.proofs.TreeWeights.{chi}
 use Rattle.weighing_law.proofs.Shares.{Share, counts_sum, sum_pos, product_pos}
 use Rattle.weighing_law.proofs.StatedMasses.{fails_in_part}
-use Rattle.posterior_bounds.specs.PosteriorBounds.{is_settled, fails, given, ran_out, lower_of_those, upper_of_those, upper_of_others}
+use Rattle.posterior_bounds.specs.PosteriorBounds.{fails, given, ran_out, lower_of_those, upper_of_those, upper_of_others}
 use Rattle.posterior_bounds.specs.Holding.{IsBounded, BoundsHold}
 use Rattle.posterior_bounds.proofs.Growth.{Gains, scale, scale_pos, growth, gains}
 use Rattle.posterior_bounds.proofs.OneLimit.{Sums, sum_of_those, sum_of_turns, lower_share, upper_share, others_share, given_pos, lower_pos, are_bounds}

@@ -1,7 +1,8 @@
 -- The rows over the masses of n turns are the bounds, and hold; and why there are none.
 use Rattle.std.proofs.Common.{◌≡◌, ◌⊎◌, inl, inr, ◌∙◌, ℕ, zero, suc, ◌*◌, ◌^◌, ◌<◌, ◌≤◌, true, false, None, refl, sym, ap, subst, arith, le_refl, true≢false}
 use Rattle.std.specs.Prelude.{Contains}
-use Rattle.numbers.specs.Fraction.{lowest, InLowest, IsEqual, sum_of}
+use Rattle.numbers.specs.Fraction.{lowest, IsEqual}
+use Rattle.numbers.specs.Arithmetic.{InLowest, sum_of}
 use Rattle.numbers.proofs.Divisors.{lowest_in_lowest, lowest_equal}
 use Rattle.gcl_core.specs.declared.answers.Limit.TheVariants.{Turns}
 use Rattle.gcl_core.specs.declared.answers.Outcome.{Outcome}
@@ -9,7 +10,7 @@ use Rattle.gcl_core.specs.declared.answers.Outcome.TheVariants as outcome
 use Rattle.gcl_core.specs.weighing.Fractions.{Fraction, zero_share, plus, IsBelowOne}
 use Rattle.gcl_core.specs.meaning.Checked.{IsChecked}
 use Rattle.gcl_core.specs.weighing.Mass.{mass_of}
-use Rattle.gcl_core.specs.meaning.Outcomes.{same_outcome}
+use Rattle.gcl_core.specs.meaning.Outcomes.{same_outcome, is_settled}
 use Rattle.gcl_core.specs.meaning.Syntax.{SourceProgram}
 use Rattle.mass_fold.specs.declared.error.MassError.{MassError}
 use Rattle.mass_fold.specs.declared.error.MassError.TheVariants.{TooWide, TooManyStates, AllFailed, OutOfMemory}
@@ -19,7 +20,7 @@ use Rattle.mass_fold.specs.Rows as masses
 use Rattle.table_flow.specs.Width.{width_of}
 use Rattle.table_flow.proofs.Wholes.{sum_refused}
 use Rattle.weighing_law.proofs.Shares.{product_pos, factor_pos}
-use Rattle.posterior_bounds.specs.PosteriorBounds.{is_settled, fails, given, lower_of, upper_of, upper_of_others}
+use Rattle.posterior_bounds.specs.PosteriorBounds.{fails, given, lower_of, upper_of, upper_of_others}
 use Rattle.posterior_bounds.specs.Holding.{BoundsHold}
 use Rattle.posterior_bounds.specs.Rows.{Rows, AreBoundsOf, HasNone, HoldAt}
 use Rattle.posterior_bounds.specs.inner.Rising.{mass_in, raised, RaiseRefused}

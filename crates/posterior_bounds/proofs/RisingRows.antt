@@ -2,16 +2,16 @@
 use Rattle.std.proofs.Common.{◌≡◌, ◌∙◌, ℕ, suc, zero, ◌+◌, ◌*◌, ◌<◌, Bool, true, false, List, [], ◌∷◌, ◌++◌, drop, Some, sym, ap, arith, append_assoc}
 use Rattle.std.specs.List.{slice_get}
 use Rattle.std.specs.Prelude.{if◌then◌else◌}
-use Rattle.numbers.specs.Fraction.{lowest, InLowest, sum_of}
+use Rattle.numbers.specs.Fraction.{lowest}
+use Rattle.numbers.specs.Arithmetic.{InLowest, sum_of}
 use Rattle.gcl_core.specs.declared.answers.Outcome.{Outcome}
 use Rattle.gcl_core.specs.weighing.Fractions.{Fraction, plus}
-use Rattle.gcl_core.specs.meaning.Outcomes.{same_outcome}
+use Rattle.gcl_core.specs.meaning.Outcomes.{same_outcome, is_settled}
 use Rattle.mass_fold.specs.Rows as masses
 use Rattle.mass_fold.proofs.OutcomeRows.{lowest_is}
 use Rattle.table_flow.specs.Scale.{whole}
 use Rattle.table_flow.proofs.Wholes.{whole_from, sum_whole}
 use Rattle.weighing_law.proofs.Shares.{product_pos}
-use Rattle.posterior_bounds.specs.PosteriorBounds.{is_settled}
 use Rattle.posterior_bounds.specs.Rows.{Rows}
 use Rattle.posterior_bounds.specs.inner.Rising.{mass_in, raised}
 

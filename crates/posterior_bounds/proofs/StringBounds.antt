@@ -5,7 +5,7 @@ use Rattle.gcl_core.specs.declared.answers.Limits.{Limits}
 use Rattle.gcl_core.specs.declared.answers.Outcome.{Outcome}
 use Rattle.gcl_core.specs.declared.answers.Outcome.TheVariants as outcome
 use Rattle.gcl_core.specs.meaning.Checked.{IsChecked}
-use Rattle.gcl_core.specs.meaning.Outcomes.{same_outcome}
+use Rattle.gcl_core.specs.meaning.Outcomes.{same_outcome, is_settled}
 use Rattle.gcl_core.specs.meaning.Runs.{run_on}
 use Rattle.gcl_core.specs.meaning.Syntax.{SourceProgram}
 use Rattle.gcl_core.specs.weighing.Fractions.{Fraction, plus, AtMost}
@@ -16,7 +16,7 @@ use Rattle.weighing_law.proofs.LimitsLaw.{limits_cost}
 use Rattle.weighing_law.proofs.Shares.{product_pos}
 use Rattle.weighing_law.proofs.WeighingLaw.{weighs_exactly}
 use Rattle.weighing_law.proofs.Fractions.{at_most_then, at_most_plus}
-use Rattle.posterior_bounds.specs.PosteriorBounds.{is_settled, lower_of, upper_of, upper_of_others}
+use Rattle.posterior_bounds.specs.PosteriorBounds.{lower_of, upper_of, upper_of_others}
 use Rattle.posterior_bounds.specs.Holding.{IsBounded, BoundsHold}
 use Rattle.posterior_bounds.proofs.BoundsLaw.{bounds_hold}
 use Rattle.many_runs.specs.Fronts.{undecided}

@@ -6,9 +6,9 @@ use Rattle.gcl_core.specs.declared.answers.Outcome.{Outcome}
 use Rattle.gcl_core.specs.weighing.Fractions.{Fraction, AtMost}
 use Rattle.gcl_core.specs.weighing.Mass.{mass_of}
 use Rattle.gcl_core.specs.meaning.Order.{is_before}
-use Rattle.gcl_core.specs.meaning.Outcomes.{same_outcome}
+use Rattle.gcl_core.specs.meaning.Outcomes.{same_outcome, is_settled}
 use Rattle.gcl_core.specs.meaning.Syntax.{SourceProgram}
-use Rattle.posterior_bounds.specs.PosteriorBounds.{is_settled, given, lower_of, upper_of, upper_of_others}
+use Rattle.posterior_bounds.specs.PosteriorBounds.{given, lower_of, upper_of, upper_of_others}
 
 -- an outcome, its lower bound and its upper bound
 abbrev pub Rows : Type 0

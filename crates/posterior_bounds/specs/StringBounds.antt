@@ -3,14 +3,14 @@ use Rattle.std.specs.Prelude.{◌≡◌, ℕ, ◌^◌, Bool, true, List}
 use Rattle.gcl_core.specs.declared.answers.Answer.{Answer}
 use Rattle.gcl_core.specs.declared.answers.Limits.{Limits}
 use Rattle.gcl_core.specs.declared.answers.Outcome.{Outcome}
-use Rattle.gcl_core.specs.meaning.Outcomes.{same_outcome}
+use Rattle.gcl_core.specs.meaning.Outcomes.{same_outcome, is_settled}
 use Rattle.gcl_core.specs.meaning.Syntax.{SourceProgram}
 use Rattle.gcl_core.specs.weighing.Fractions.{Fraction, plus, AtMost}
 use Rattle.gcl_core.specs.weighing.StringWeight.{outcome_weight}
 use Rattle.weighing_law.specs.LimitsCost.{cut_off}
 use Rattle.weighing_law.specs.Weighing.{Suffices}
 use Rattle.many_runs.specs.Fronts.{undecided}
-use Rattle.posterior_bounds.specs.PosteriorBounds.{is_settled, given, lower_of, upper_of, upper_of_others}
+use Rattle.posterior_bounds.specs.PosteriorBounds.{given, lower_of, upper_of, upper_of_others}
 
 -- what an outcome weighs at L bits, of all
 abbrev pub weight_at : (List Bool → Answer) → Outcome → ℕ → Fraction

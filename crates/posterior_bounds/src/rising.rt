@@ -1,12 +1,12 @@
 // Each mass as a lower bound, and with what ran out of turns as an upper bound.
 
 ghost use Rattle.std.specs.Prelude.{◌≡◌, None, IfOk, IfErr, IfSome, IfNone};
-ghost use Rattle.numbers.specs.Fraction.{lowest, sum_of};
+ghost use Rattle.numbers.specs.Fraction.{lowest};
+ghost use Rattle.numbers.specs.Arithmetic.{sum_of};
 ghost use Rattle.gcl_core.specs.declared.answers.Limit.TheVariants.{Turns};
 ghost use Rattle.gcl_core.specs.declared.answers.Outcome.TheVariants as outcome;
 ghost use Rattle.gcl_core.specs.weighing.Fractions.{plus};
-ghost use Rattle.gcl_core.specs.meaning.Outcomes.{same_outcome};
-ghost use Rattle.posterior_bounds.specs.PosteriorBounds.{is_settled};
+ghost use Rattle.gcl_core.specs.meaning.Outcomes.{same_outcome, is_settled};
 ghost use Rattle.posterior_bounds.specs.inner.Rising.{mass_in, raised, RaiseRefused};
 
 use crate::rows::BoundRows;

@@ -2,9 +2,10 @@
 
 ghost use Rattle.std.specs.Prelude.{◌≡◌, ℕ, ◌+◌, ◌≤◌, List, [], ◌∷◌, ◌++◌, length, drop, IfOk, OnOk};
 ghost use Rattle.gcl_core.specs.meaning.Views.{expression_of};
-ghost use Rattle.draw_tree.specs.Flips.{ClassesBelow};
+ghost use Rattle.draw_tree.specs.Classes.{ClassesBelow};
 ghost use Rattle.draw_tree.specs.Views.{flips_of};
-ghost use Rattle.bit_tree.specs.Tree.{BitTrees, Pick, count};
+ghost use Rattle.bit_tree.specs.Tree.{BitTrees, Pick};
+ghost use Rattle.bit_tree.specs.TreeRows.{count};
 ghost use Rattle.bit_tree.specs.Views.{bit_tree_of, bit_trees_of, tied_tree_of};
 ghost use Rattle.bit_tree.specs.Sampleable.{LabelsHaveArms, RowHasArms, TiedIsSampleable};
 ghost use Rattle.sampler_code.specs.Instruction.{Instruction};

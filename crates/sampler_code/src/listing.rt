@@ -2,7 +2,7 @@
 
 ghost use Rattle.std.specs.Prelude.{◌≡◌, ℕ, ◌<◌, ◌≤◌, ◌++◌, [], length, codes, decimal, slice_index_or, OnOk, IfOk};
 ghost use Rattle.gcl_core.specs.text.Canonical.{expression_text};
-ghost use Rattle.gcl_core.specs.meaning.Value.{ExpressionBelow};
+ghost use Rattle.gcl_core.specs.meaning.Bounds.{ExpressionBelow};
 ghost use Rattle.gcl_core.specs.meaning.Views.{expression_of};
 ghost use Rattle.sampler_code.specs.Listing.{instruction_text, line_of, listing};
 ghost use Rattle.sampler_code.specs.Sound.{Knows};

@@ -7,7 +7,8 @@ use Rattle.std.proofs.lemmas.Bool.{cases_lt}
 use Rattle.std.proofs.lemmas.Bool.Decides.{nat_tests}
 use Rattle.std.proofs.lemmas.Nat.Gcd.{IsGcd-swap}
 use Rattle.numbers.specs.Divisor.{gcd}
-use Rattle.numbers.specs.Fraction.{Fraction, lowest, InLowest, fits, if_all_fit, common_of, sum_over, sum_of, if_fits, product_of}
+use Rattle.numbers.specs.Fraction.{Fraction, lowest, fits}
+use Rattle.numbers.specs.Arithmetic.{InLowest, if_all_fit, common_of, sum_over, sum_of, if_fits, product_of}
 use Rattle.table_flow.specs.Scale.{whole, Whole}
 use Rattle.numbers.proofs.Divisors.{gcd_is, gcd_pos, gauss, along_to, coprime_rests, product_pos, lowest_in_lowest, cancel, factor_pos}
 use Rattle.numbers.proofs.Terms.{common_result, some_all, some_both, part_pos}

@@ -3,7 +3,7 @@ use Rattle.std.proofs.Common.{◌≡◌, ℕ, ◌+◌, ◌-◌, ◌≤◌, Bool,
 use Rattle.std.specs.Prelude.{if◌then◌else◌}
 use Rattle.gcl_core.specs.declared.answers.Answer.{Answer}
 use Rattle.gcl_core.specs.declared.answers.TallyKey.{TallyKey}
-use Rattle.gcl_core.specs.meaning.Outcomes.{same_key}
+use Rattle.gcl_core.specs.meaning.Order.{same_key}
 use Rattle.zar_io.specs.StreamBits.{stream_bits}
 use Rattle.stream_runs.specs.Keys.{key_of_answer, key_on}
 use Rattle.tally_range.specs.Rows.{counted_at}

@@ -2,9 +2,9 @@
 use Rattle.std.proofs.Common.{◌≡◌, ℕ, zero, suc, ◌<◌, Bool, true, false, [], ◌∷◌, length, get_or, refl, sym, ap, ◌∙◌, subst, arith}
 use Rattle.std.specs.Prelude.{if◌then◌else◌, Contains}
 use Rattle.gcl_core.specs.declared.answers.TallyKey.{TallyKey}
-use Rattle.gcl_core.specs.meaning.Order.{is_key_before}
-use Rattle.gcl_core.specs.meaning.Outcomes.{same_key}
-use Rattle.tally_range.specs.Rows.{Rows, counted_at, is_before_all, keys_ascend, IsTally, IsTallyOf}
+use Rattle.gcl_core.specs.meaning.Order.{is_key_before, same_key}
+use Rattle.tally_range.specs.Rows.{Rows, counted_at, is_before_all, keys_ascend, IsTallyOf}
+use Rattle.tally_range.specs.Tallies.{IsTally}
 use Rattle.tally_range.specs.Sums.{count_in}
 use Rattle.gcl_core.proofs.OutcomeOrder.{key_before_differs, key_after_differs}
 use Rattle.gcl_core.proofs.SameOutcomes.{same_keys}

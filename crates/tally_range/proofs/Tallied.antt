@@ -16,7 +16,8 @@ use Rattle.stream_runs.specs.declared.range.SeedRange.{SeedRange}
 use Rattle.stream_runs.specs.Blocks.{blocks_over}
 use Rattle.tally_range.specs.Blocks.{count_block}
 use Rattle.tally_range.specs.Counts.{has_key, count_range}
-use Rattle.tally_range.specs.Rows.{Rows, IsTally, IsTallyOf}
+use Rattle.tally_range.specs.Rows.{Rows, IsTallyOf}
+use Rattle.tally_range.specs.Tallies.{IsTally}
 use Rattle.tally_range.specs.Sums.{count_in}
 use Rattle.stream_runs.specs.Ranges.{IsRange}
 use Rattle.tally_range.proofs.Totals.{blocks_cover}

@@ -2,6 +2,9 @@
 use Rattle.std.specs.Prelude.{ℕ, zero, suc, ◌+◌, ◌-◌, Bool, List}
 use Rattle.gcl_core.specs.declared.answers.Answer.{Answer}
 use Rattle.gcl_core.specs.declared.answers.TallyKey.{TallyKey}
+use Rattle.gcl_core.specs.declared.answers.Limits.{Limits}
+use Rattle.gcl_core.specs.meaning.Runs.{run_on}
+use Rattle.gcl_core.specs.meaning.Syntax.{SourceProgram}
 use Rattle.stream_runs.specs.declared.range.SeedRange.{SeedRange}
 use Rattle.stream_runs.specs.Keys.{key_on}
 use Rattle.tally_range.specs.Rows.{counted_at}
@@ -23,3 +26,7 @@ module _ (run : List Bool → Answer) (seed budget : ℕ) where
 -- how many streams of the range have runs with a key
 abbrev pub count_range : (List Bool → Answer) → SeedRange → TallyKey → ℕ
 count_range run r key = count_over run r.seed r.budget r.from r.to key
+
+-- how many streams of the range have runs of the program with a key
+abbrev pub count_on : SourceProgram → Limits → SeedRange → TallyKey → ℕ
+count_on p l r key = count_range (run_on p l) r key

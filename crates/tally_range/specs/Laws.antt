@@ -7,11 +7,7 @@ use Rattle.gcl_core.specs.meaning.Runs.{run_on}
 use Rattle.gcl_core.specs.meaning.Syntax.{SourceProgram}
 use Rattle.sampler_code.specs.Assembled.{Assembled, IsRunOf}
 use Rattle.stream_runs.specs.declared.range.SeedRange.{SeedRange}
-use Rattle.tally_range.specs.Counts.{count_over, count_range}
-
--- how many streams of the range have runs of the program with a key
-abbrev pub count_on : SourceProgram → Limits → SeedRange → TallyKey → ℕ
-count_on p l r key = count_range (run_on p l) r key
+use Rattle.tally_range.specs.Counts.{count_over, count_range, count_on}
 
 -- two ranges, the second of which begins where the first ends, count together what the range over both counts
 abbrev pub RangesAddUp : Type 0

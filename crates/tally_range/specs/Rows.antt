@@ -1,8 +1,7 @@
 -- Rows of a key and a count, keys ascending and counts above 0.
-use Rattle.std.specs.Prelude.{◌≡◌, ◌<◌, ◌&&◌, ℕ, Bool, true, nat_lt, List, [], ◌∷◌, if◌then◌else◌, ◌↔◌, Contains}
+use Rattle.std.specs.Prelude.{◌≡◌, ◌<◌, ◌&&◌, ℕ, Bool, true, List, [], ◌∷◌, if◌then◌else◌, ◌↔◌, Contains}
 use Rattle.gcl_core.specs.declared.answers.TallyKey.{TallyKey}
-use Rattle.gcl_core.specs.meaning.Order.{is_key_before}
-use Rattle.gcl_core.specs.meaning.Outcomes.{same_key}
+use Rattle.gcl_core.specs.meaning.Order.{is_key_before, same_key}
 
 abbrev pub Rows : Type 0
 Rows = List (TallyKey × ℕ)
@@ -20,14 +19,6 @@ is_before_all key (r ∷ rows) = is_key_before key r.0 && is_before_all key rows
 abbrev pub keys_ascend : Rows → Bool
 keys_ascend [] = true
 keys_ascend (r ∷ rows) = is_before_all r.0 rows && keys_ascend rows
-
-abbrev pub counts_are_above_zero : Rows → Bool
-counts_are_above_zero [] = true
-counts_are_above_zero (r ∷ rows) = nat_lt 0 r.1 && counts_are_above_zero rows
-
-pub record IsTally (rows : Rows) : Type 0 where
-  pub ascending : keys_ascend rows ≡ true
-  pub above_zero : counts_are_above_zero rows ≡ true
 
 -- Exactly the rows of a count that are above 0, keys ascending.
 pub record IsTallyOf (count : TallyKey → ℕ) (rows : Rows) : Type 0 where

@@ -3,7 +3,7 @@
 ghost use Rattle.std.specs.Prelude.{◌≡◌, ◌<◌, ◌^◌, [], map, reverse, All, IfOk, Ok};
 ghost use Rattle.gcl_core.specs.declared.answers.TallyKey.{TallyKey};
 ghost use Rattle.passes.specs.Total.{total};
-ghost use Rattle.tally_range.specs.Rows.{IsTally};
+ghost use Rattle.tally_range.specs.Tallies.{IsTally};
 ghost use Rattle.tally_range.specs.Sums.{count_in};
 ghost use Rattle.tally_range.specs.Shares.{pass_of, table_of, told_by};
 ghost use Rattle.tally_range.specs.inner.Worked.{entry_pass, entry_table};

@@ -1,7 +1,7 @@
 // Tables of counts.
 
 ghost use Rattle.std.specs.Prelude.{◌≡◌};
-ghost use Rattle.tally_range.specs.Rows.{IsTally};
+ghost use Rattle.tally_range.specs.Tallies.{IsTally};
 ghost use Rattle.tally_range.specs.Sums.{count_in};
 
 use gcl_core::{TallyKey, outcomes_are_ordered};
@@ -17,7 +17,8 @@ pub struct Tally {
 }
 
 impl Model for Tally {
-    ghost use Rattle.tally_range.specs.Rows.{Rows, IsTally};
+    ghost use Rattle.tally_range.specs.Rows.{Rows};
+    ghost use Rattle.tally_range.specs.Tallies.{IsTally};
 
     ghost Value = { Rows };
 
@@ -29,7 +30,8 @@ impl Model for Tally {
 impl Tally {
     ghost use Rattle.std.specs.Prelude.{◌≡◌, ◌+◌, ◌<◌, ◌^◌, [], length, IfOk, OnErr};
     ghost use Rattle.gcl_core.specs.declared.answers.TallyKey.{TallyKey};
-    ghost use Rattle.tally_range.specs.Rows.{counted_at, IsTally};
+    ghost use Rattle.tally_range.specs.Rows.{counted_at};
+    ghost use Rattle.tally_range.specs.Tallies.{IsTally};
     ghost use Rattle.tally_range.specs.Sums.{count_in};
 
     /// No counts. It takes no memory.

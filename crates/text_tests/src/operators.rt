@@ -1,7 +1,7 @@
 // Values of expressions, worked by hand.
 
 ghost use Rattle.std.specs.Prelude.{IfOk};
-ghost use Rattle.gcl_core.specs.meaning.Value.{ExpressionBelow};
+ghost use Rattle.gcl_core.specs.meaning.Bounds.{ExpressionBelow};
 ghost use Rattle.gcl_core.specs.meaning.Views.{expression_of};
 
 use gcl_core::{BinOp, Expr, Fault, eval};

@@ -1,10 +1,9 @@
 // Weights and parts in lowest terms, beyond those that a text can spell, too.
 
 ghost use Rattle.std.specs.Prelude.{◌≡◌, ◌-◌, ◌^◌, ◌<◌, length, IfOk};
-ghost use Rattle.gcl_core.specs.meaning.Bounds.{BlockBelow, BlockCounted};
-ghost use Rattle.gcl_core.specs.text.ReadingOrder.{count_all};
+ghost use Rattle.gcl_core.specs.meaning.Bounds.{BlockBelow, BlockCounted, ExpressionBelow};
+ghost use Rattle.gcl_core.specs.text.StatementCounts.{count_all};
 ghost use Rattle.gcl_core.specs.meaning.Syntax.{Choose, done, ◌▸◌, no_arm, arm};
-ghost use Rattle.gcl_core.specs.meaning.Value.{ExpressionBelow};
 ghost use Rattle.gcl_core.specs.meaning.Views.{expression_of, statement_of, statements_of};
 
 use gcl_check::{CheckError, check};

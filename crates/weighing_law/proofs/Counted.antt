@@ -4,7 +4,8 @@ use Rattle.gcl_core.specs.declared.answers.Answer.{Answer}
 use Rattle.gcl_core.specs.declared.answers.Limits.{Limits}
 use Rattle.gcl_core.specs.weighing.Fractions.{IsShare, IsWithinShare}
 use Rattle.gcl_core.specs.meaning.Syntax.{SourceProgram}
-use Rattle.weighing_law.specs.Counting.{CountsStrings, CountsMasses}
+use Rattle.weighing_law.specs.Counting.{CountsMasses}
+use Rattle.weighing_law.specs.JustRead.{CountsStrings}
 use Rattle.weighing_law.specs.Prefixes.{ReadsInOrder}
 use Rattle.weighing_law.specs.Weighing.{limited_mass, WeighsExactly}
 use Rattle.weighing_law.proofs.EndedStrings.{weight_counts}

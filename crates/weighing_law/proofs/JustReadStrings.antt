@@ -9,7 +9,8 @@ use Rattle.gcl_core.specs.declared.answers.Outcome.{Outcome}
 use Rattle.gcl_core.specs.meaning.Outcomes.{same_outcome}
 use Rattle.gcl_core.specs.weighing.StringWeight.{string_weight_from, answer_in}
 use Rattle.weighing_law.specs.Prefixes.{has_ended_in, needs_more, each_shorter_front, is_just_read}
-use Rattle.weighing_law.specs.Counting.{strings_that, just_read_weight}
+use Rattle.weighing_law.specs.Counting.{strings_that}
+use Rattle.weighing_law.specs.JustRead.{just_read_weight}
 use Rattle.weighing_law.proofs.EndedStrings.{all_alike}
 use Rattle.weighing_law.proofs.StringWeights.{weight_ended, weight_short, weight_goes_on, weight_behind}
 

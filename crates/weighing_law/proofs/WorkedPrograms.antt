@@ -14,7 +14,8 @@ use Rattle.gcl_core.specs.meaning.Syntax.{Num, Var, Bin, Set, While, Choice, Cho
 use Rattle.weighing_law.specs.Weighing.{limited_mass}
 use Rattle.weighing_law.specs.LimitsCost.{stated_mass, cut_off}
 use Rattle.weighing_law.specs.Prefixes.{is_just_read}
-use Rattle.weighing_law.specs.Counting.{ended_in, just_read_weight}
+use Rattle.weighing_law.specs.Counting.{ended_in}
+use Rattle.weighing_law.specs.JustRead.{just_read_weight}
 
 abbrev pub limits : ℕ → ℕ → ℕ → Limits
 limits n r R = record { turns = n; attempts = r; rounds = R }

@@ -6,15 +6,16 @@ use Rattle.std.specs.List.{sum}
 use Rattle.std.specs.Option.{option_eq}
 use Rattle.std.specs.Prelude.{◌==◌}
 use Rattle.gcl_core.specs.meaning.Reading.{Reading, gives, more_bits}
-use Rattle.gcl_core.specs.meaning.Draw.{bits_for, last_end, draw_on, class_size, rejected_numbers, strings_to_a_number}
+use Rattle.gcl_core.specs.meaning.Draw.{bits_for, last_end, draw_on, rejected_numbers, strings_to_a_number}
 use Rattle.gcl_core.specs.weighing.StringWeight.{reading_to}
-use Rattle.gcl_core.specs.weighing.OneDraw.{DrawWeighs, draw_weight}
+use Rattle.gcl_core.specs.weighing.OneDraw.{DrawWeighs, draw_weight, class_size}
 use Rattle.gcl_core.proofs.Classes.{bits_enough}
 use Rattle.gcl_core.proofs.DrawTrees.{parts_all}
 use Rattle.dice_roll.specs.Weights.{count_strings}
 use Rattle.dice_roll.proofs.Counting.{count_same}
 use Rattle.weighted_roll.specs.Weights.{AreWeights}
-use Rattle.weighted_roll.specs.Rollers.{is_label, decided, Keeps, HasLabels, HasAtMost}
+use Rattle.weighted_roll.specs.Rollers.{is_label, decided}
+use Rattle.weighted_roll.specs.ExactRollers.{Keeps, HasLabels, HasAtMost}
 use Rattle.weighted_roll.proofs.Growing.{power_pos, never_more, is_label-of}
 use Rattle.weighted_roll.proofs.Allowed.{are_below, are_some}
 use Rattle.weighted_roll.proofs.Optimality.{optimal}

@@ -6,7 +6,8 @@ use Rattle.numbers.specs.Divisor.{gcd}
 use Rattle.numbers.specs.Fraction.{Fraction, lowest}
 use Rattle.numbers.proofs.Divisors.{gcd_is, gcd_pos, coprime_rests, factor_pos, lowest_from}
 use native.Mathlib.Nat.{mul-div_cancel'}
-use Rattle.weighted_roll.specs.Rollers.{undecided, decided, flips_on, add_strings, sum_below}
+use Rattle.weighted_roll.specs.Rollers.{undecided, decided, flips_on, add_strings}
+use Rattle.weighted_roll.specs.ExactRollers.{sum_below}
 use Rattle.weighted_roll.specs.Shares.{all_flips, flips_expected, share_left, share_of, shares_of, values_below}
 use Rattle.weighted_roll.specs.WeightedRoll.{weighted}
 use Rattle.weighted_roll.specs.Weights.{AreWeights}

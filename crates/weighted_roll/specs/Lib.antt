@@ -3,6 +3,7 @@ pub mod Listed
 pub mod Columns
 pub mod WeightedRoll
 pub mod Rollers
+pub mod ExactRollers
 pub mod Optimal
 pub mod Shares
 pub mod inner

@@ -6,7 +6,8 @@ use Rattle.dice_roll.specs.declared.answers.Roll.TheVariants.{MoreBits}
 use Rattle.dice_roll.specs.FastRoll.{spelled, quota}
 use Rattle.dice_roll.specs.Rolled.{flips_made}
 use Rattle.weighted_roll.specs.WeightedRoll.{weighted_roll, weighted}
-use Rattle.weighted_roll.specs.Rollers.{is_no_label, decided, undecided, Keeps, HasLabels, HasAtMost, Tends, sum_below, flips_on, add_strings, fast}
+use Rattle.weighted_roll.specs.Rollers.{is_no_label, decided, undecided, flips_on, add_strings}
+use Rattle.weighted_roll.specs.ExactRollers.{Keeps, HasLabels, HasAtMost, Tends, sum_below, fast}
 
 pub record IsOptimal (ws : List ℕ) : Type 0 where
   -- within T flips the label i has the whole part of its share of the strings

@@ -2,8 +2,8 @@
 
 ghost use Rattle.std.specs.Prelude.{◌≡◌, ℕ, List, slice_index};
 ghost use Rattle.std.specs.List.{sum};
-ghost use Rattle.gcl_core.specs.meaning.Draw.{last_end, class_size};
-ghost use Rattle.gcl_core.specs.weighing.OneDraw.{Ascends};
+ghost use Rattle.gcl_core.specs.meaning.Draw.{last_end};
+ghost use Rattle.gcl_core.specs.weighing.OneDraw.{Ascends, class_size};
 ghost use Rattle.weighted_roll.specs.Weights.{AreWeights};
 ghost use Rattle.weighted_roll.specs.Drawn.{StaysBehind};
 

@@ -1,6 +1,7 @@
 // Why no roll has decided more after any number of flips.
 ghost use Rattle.std.specs.Prelude.{◌≡◌, ◌<◌, ◌≤◌, ◌*◌, ◌^◌, ◌/◌, ℕ, Bool, List, Option, length};
-ghost use Rattle.weighted_roll.specs.Rollers.{Keeps, HasAtMost, Tends, decided, fast};
+ghost use Rattle.weighted_roll.specs.Rollers.{decided};
+ghost use Rattle.weighted_roll.specs.ExactRollers.{Keeps, HasAtMost, Tends, fast};
 ghost use Rattle.weighted_roll.specs.Weights.{AreWeights};
 ghost use Rattle.weighted_roll.specs.Optimal.{IsOptimal, IsFastest};
 

@@ -17,14 +17,14 @@ use Rattle.zar_cli.specs.declared.said.Said.TheVariants.{Answered, Accepted, Cos
 use Rattle.zar_cli.specs.declared.statuses.TheConstants.{DONE, WORDS_REFUSED, READ_FAULT, WRITE_FAULT, MASS_REFUSED, LIMIT_REACHED, NO_FILE}
 use Rattle.zar_cli.specs.declared.statuses.TheConstants as status
 use Rattle.zar_cli.specs.Answer.{IsSaid, IsAnswer}
-use Rattle.zar_cli.specs.Cause.{NoneFailed, HasCause}
+use Rattle.zar_cli.specs.Cause.{NoneFailed, HasCause, is_bad}
 use Rattle.zar_cli.specs.Delivery.{answer_status, roll_status, said_status, status_of}
 use Rattle.zar_cli.specs.inner.Said.{Fits}
 use Rattle.zar_cli.specs.ByStages.{Output}
 use Rattle.zar_cli.specs.Spelling.{names_of}
 use Rattle.zar_cli.specs.Stages.{refusal_in, Misses, Leaves}
 use Rattle.zar_cli.specs.Forms.{CallWord}
-use Rattle.zar_cli.specs.Words.{command_of, is_bad}
+use Rattle.zar_cli.specs.Words.{command_of}
 use Rattle.zar_cli.proofs.Codes.{output_codes}
 
 -- ---- the statuses of what is said

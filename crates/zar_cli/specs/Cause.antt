@@ -1,12 +1,17 @@
 -- Why each status comes. It follows from the answer of a call (`answers_have_causes`), so nobody has to believe more for it.
-use Rattle.std.specs.Prelude.{◌≡◌, ℕ, ◌<◌, false, List, IsTrue, ◌⊎◌}
+use Rattle.std.specs.Prelude.{◌≡◌, ℕ, ◌<◌, false, List, IsTrue, ◌⊎◌, Bool, true, Result, Ok, Err}
 use Rattle.zar_io.specs.declared.trace.Event.{Event}
 use Rattle.zar_io.specs.Trace.{failures, is_open}
 use Rattle.zar_cli.specs.declared.statuses.TheConstants.{WORDS_REFUSED, READ_FAULT, WRITE_FAULT, NO_FILE}
 use Rattle.zar_cli.specs.Forms.{CallWord}
 use Rattle.zar_cli.specs.Spelling.{names_of}
 use Rattle.zar_cli.specs.Stages.{Misses}
-use Rattle.zar_cli.specs.Words.{command_of, is_bad}
+use Rattle.zar_cli.specs.Words.{command_of}
+
+-- the words are wrong
+abbrev pub is_bad : {A : Type 0} → Result A ℕ → Bool
+is_bad (Ok c) = false
+is_bad (Err at) = true
 
 -- a failure was recorded
 abbrev pub Failed : List Event → List Event → Type 0

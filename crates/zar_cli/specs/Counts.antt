@@ -3,7 +3,7 @@
 use Rattle.std.specs.Prelude.{◌≡◌, ℕ, ◌++◌, List, length, Result, Ok}
 use Rattle.gcl_core.specs.declared.answers.Limits.{Limits}
 use Rattle.gcl_core.specs.text.Canonical.{canonical_text}
-use Rattle.gcl_core.specs.text.ReadingOrder.{count_all}
+use Rattle.gcl_core.specs.text.StatementCounts.{count_all}
 use Rattle.gcl_core.specs.meaning.Runs.{run_on}
 use Rattle.gcl_core.specs.meaning.Syntax.{SourceProgram}
 use Rattle.audit_walk.specs.Audited.{IsAuditOf}
@@ -13,7 +13,7 @@ use Rattle.report_text.specs.Lines.{number_text}
 use Rattle.report_text.specs.declared.counts.Count.TheVariants.{Statements, Bytes, Streams}
 use Rattle.report_text.specs.declared.refusals.Refusal.{Refusal}
 use Rattle.stream_runs.specs.declared.range.SeedRange.{SeedRange}
-use Rattle.tally_range.specs.Laws.{count_on}
+use Rattle.tally_range.specs.Counts.{count_on}
 use Rattle.tally_range.specs.Rows as tallied
 use Rattle.tally_range.specs.Rows.{IsTallyOf}
 use Rattle.zar_cli.specs.declared.said.Said.{Said}

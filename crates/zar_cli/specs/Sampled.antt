@@ -8,8 +8,7 @@ use Rattle.zar_cli.specs.declared.command.Source.{Source}
 use Rattle.zar_cli.specs.declared.command.Source.TheVariants.{File, Stream}
 use Rattle.zar_cli.specs.declared.said.Said.TheVariants.{Answered}
 use Rattle.zar_cli.specs.ByStages.{Output, says, on_bits}
-use Rattle.zar_cli.specs.Forms.{CallWord}
 
-abbrev pub SaysSample : (CallWord → Option (List ℕ)) → SourceProgram → Source → Limits → Output → Type 0
+abbrev pub SaysSample : (List ℕ → Option (List ℕ)) → SourceProgram → Source → Limits → Output → Type 0
 SaysSample file p (File bits) limits = on_bits (file bits) (λ w. Answered (run_on p limits w))
 SaysSample file p (Stream seed stream budget) limits = says (Answered (run_on p limits (stream_bits seed stream budget)))

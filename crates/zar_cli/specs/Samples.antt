@@ -12,11 +12,10 @@ use Rattle.zar_cli.specs.declared.command.Source.TheVariants.{File}
 use Rattle.zar_cli.specs.declared.said.Said.TheVariants.{Answered}
 use Rattle.zar_cli.specs.ByStages.{Output, reading, if_spelled}
 use Rattle.zar_cli.specs.Sampled.{SaysSample}
-use Rattle.zar_cli.specs.Forms.{CallWord}
 
 pub record SamplesExactly (text : List ℕ) (p : SourceProgram) (l : Limits) : Type 0 where
   -- over files that hold the text and some bits, `sample` says how the program's run on the bits ends
-  pub says : (file : CallWord → Option (List ℕ)) (program bits : CallWord) (bytes : List ℕ) (output : Output)
+  pub says : (file : List ℕ → Option (List ℕ)) (program bits : List ℕ) (bytes : List ℕ) (output : Output)
       → file program ≡ Some text → file bits ≡ Some bytes
       → reading (file program) (if_spelled (λ q. SaysSample file q (File bits) l)) output
       → output ≡ Ok (Answered (run_on p l (file_bits bytes)))

@@ -1,7 +1,7 @@
 // Generated programs: how large they are, and how their runs end on the first streams of a seed.
 
 ghost use Rattle.std.specs.Prelude.{◌≡◌, ◌≤◌, ◌<◌, ◌-◌, ◌^◌, IfOk};
-ghost use Rattle.gcl_core.specs.text.ReadingOrder.{count_all};
+ghost use Rattle.gcl_core.specs.text.StatementCounts.{count_all};
 ghost use Rattle.gcl_core.specs.meaning.Views.{source_of};
 ghost use Rattle.generated_program.specs.declared.generating.TheConstants.{GREATEST_NUMBER};
 ghost use Rattle.zar_cli.specs.Counts.{size_text, generated_range, IsGeneratedText};

@@ -1,6 +1,7 @@
 -- What a round comes to in the limit of turns, as rows, and what they come to over what does not fail.
 use Rattle.std.specs.Prelude.{◌≡◌, ℕ, ◌-◌, ◌≤◌, ◌<◌}
-use Rattle.numbers.specs.Fraction.{IsEqual, InLowest}
+use Rattle.numbers.specs.Fraction.{IsEqual}
+use Rattle.numbers.specs.Arithmetic.{InLowest}
 use Rattle.gcl_core.specs.meaning.Syntax.{SourceProgram}
 use Rattle.gcl_core.specs.weighing.Fractions.{Fraction}
 use Rattle.gcl_core.specs.weighing.Mass.{ends_in}

@@ -4,7 +4,7 @@ use Rattle.std.specs.Prelude.{◌≡◌, ◌≤◌, ℕ, zero, suc, ◌+◌, ◌
 use Rattle.gcl_core.specs.declared.answers.Fault.{Fault}
 use Rattle.gcl_core.specs.meaning.Value.{State, Value, truth_number, is_zero, within_64, applied}
 use Rattle.formula.specs.declared.running.Point.{Point}
-use Rattle.gcl_core.specs.meaning.Value.{ExpressionBelow}
+use Rattle.gcl_core.specs.meaning.Bounds.{ExpressionBelow}
 use Rattle.gcl_core.specs.meaning.Syntax.{Expression}
 use Rattle.formula.specs.Steps.{steps_of, depth}
 use Rattle.formula.specs.declared.op.Op.{Op}

@@ -1,12 +1,23 @@
 -- Facts of all that a program names: its variables lie below a count, its numbers have 64 bits, and a fact of each weight and of
--- the parts of each choice among several. Programs of the code have numbers of 64 bits by their type.
-use Rattle.std.specs.Prelude.{ℕ, ◌<◌, ◌≤◌, ℤ, IsTrue, List, length}
-use Rattle.gcl_core.specs.declared.rules.TheConstants.{GREATEST_DENOMINATOR}
+-- the parts of each choice among several. Programs of the code have numbers of 64 bits by their type. How many arms a choice may
+-- have, and how great the sum of their parts, is this project's own rule.
+use Rattle.std.specs.Prelude.{ℕ, ◌<◌, ◌≤◌, ℤ, IsTrue, List, length, All}
+use Rattle.std.specs.Int.{◌∣◌}
+use Rattle.std.specs.List.{sum}
+use Rattle.gcl_core.specs.declared.rules.TheConstants.{GREATEST_DENOMINATOR, LEAST_ARMS, MOST_ARMS}
 use Rattle.gcl_core.specs.declared.syntax.Weight.{Weight}
 use Rattle.gcl_core.specs.meaning.Arms.{parts_of}
-use Rattle.gcl_core.specs.meaning.Parts.{HaveArmCount, AreParts}
 use Rattle.gcl_core.specs.meaning.Syntax.{Expression, Num, Truth, Var, Neg, Not, Bin, Statement, Skip, Set, If, While, Choice, Choose, Uniform, Observe, Statements, done, ◌▸◌, ArmList, no_arm, arm, SourceProgram}
-use Rattle.gcl_core.specs.meaning.Value.{fits_64, ExpressionBelow}
+use Rattle.gcl_core.specs.meaning.Value.{fits_64}
+
+-- each variable of the expression is below this count
+abbrev pub ExpressionBelow : Expression → ℕ → Type 0
+ExpressionBelow (Num z) count = Unit {0}
+ExpressionBelow (Truth b) count = Unit {0}
+ExpressionBelow (Var x) count = x < count
+ExpressionBelow (Neg a) count = ExpressionBelow a count
+ExpressionBelow (Not a) count = ExpressionBelow a count
+ExpressionBelow (Bin op a b) count = ExpressionBelow a count × ExpressionBelow b count
 
 -- each variable that is read or set is below a count
 module _ (count : ℕ) where
@@ -92,6 +103,19 @@ pub record IsWeight (w : Weight) : Type 0 where
   pub at_most_one : w.num ≤ w.den
   pub positive : 1 ≤ w.den
   pub coarse : w.den ≤ GREATEST_DENOMINATOR
+
+-- from LEAST_ARMS to MOST_ARMS parts
+pub record HaveArmCount (ps : List ℕ) : Type 0 where
+  pub enough : LEAST_ARMS ≤ length ps
+  pub few : length ps ≤ MOST_ARMS
+
+-- from LEAST_ARMS to MOST_ARMS parts, all of which no number above 1 divides, with a sum from 1 to the greatest denominator
+pub record AreParts (ps : List ℕ) : Type 0 where
+  pub enough : LEAST_ARMS ≤ length ps
+  pub few : length ps ≤ MOST_ARMS
+  pub lowest : (d : ℕ) → All (λ p. d ∣ p) ps → d ≤ 1
+  pub positive : 1 ≤ sum ps
+  pub coarse : sum ps ≤ GREATEST_DENOMINATOR
 
 -- a fact of each weight, and one of the parts of each choice among several
 module _ (Fact : Weight → Type 0) (PartsFact : List ℕ → Type 0) where

@@ -85,15 +85,6 @@ draw_on ends r w = attempts_with (attempt_on ends) r w
 
 -- ---- how many numbers and strings
 
--- how many numbers class i has, where the end before the first of these ends is c; none, where there is no class i
-abbrev pub class_size_from : ℕ → List ℕ → ℕ → ℕ
-class_size_from c [] i = 0
-class_size_from c (d ∷ ends) zero = d - c
-class_size_from c (d ∷ ends) (suc i) = class_size_from d ends i
-
-abbrev pub class_size : List ℕ → ℕ → ℕ
-class_size ends i = class_size_from 0 ends i
-
 -- how many numbers of `bits_for b` bits are rejected, where the first b have a class
 abbrev pub rejected_numbers : ℕ → ℕ
 rejected_numbers b = 2 ^ bits_for b - b

@@ -1,5 +1,5 @@
--- The order of outcomes: values ascend and come first, then the faults, then the limits; and that of what a tally counts, where
--- the runs that needed more bits come last. This project's own order.
+-- The order of outcomes: values ascend and come first, then the faults, then the limits; and that of the keys of a tally, and
+-- whether two of these are the same. The runs that needed more bits come last. This project's own order.
 use Rattle.std.specs.Prelude.{ℕ, ℤ, pos, Bool, true, false, nat_lt, int_lt, ◌==◌, ◌&&◌, ◌||◌}
 use Rattle.gcl_core.specs.declared.answers.Fault.TheVariants.{Overflow, ZeroDivisor, BadBound}
 use Rattle.gcl_core.specs.declared.answers.Limit.TheVariants.{Turns, Attempts, Rounds}
@@ -7,6 +7,12 @@ use Rattle.gcl_core.specs.declared.answers.Outcome.{Outcome}
 use Rattle.gcl_core.specs.declared.answers.Outcome.TheVariants as outcome
 use Rattle.gcl_core.specs.declared.answers.TallyKey.{TallyKey}
 use Rattle.gcl_core.specs.declared.answers.TallyKey.TheVariants as key
+use Rattle.gcl_core.specs.meaning.Outcomes.{same_outcome}
+
+abbrev pub same_key : TallyKey → TallyKey → Bool
+same_key (key.Outcome x) (key.Outcome y) = same_outcome x y
+same_key key.MoreBits key.MoreBits = true
+same_key _ _ = false
 
 abbrev pub kind_number : Outcome → ℕ
 kind_number (outcome.Value v) = 0

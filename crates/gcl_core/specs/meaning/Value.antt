@@ -1,6 +1,6 @@
 -- The value of an expression in a state, or the first fault: numbers of 64 bits, where a result outside them is a fault.
 -- The expressions are those of cpGCL; the width, the faults and the order of evaluation are this project's own rule.
-use Rattle.std.specs.Prelude.{ℕ, zero, ◌^◌, ◌<◌, ℤ, pos, negsuc, ◌+ℤ◌, ◌-ℤ◌, ◌*ℤ◌, neg_ℤ, Bool, true, false, not, ◌&&◌, ◌||◌, List, Result, Ok, Err, nat_lt, if◌then◌else◌, slice_index_or, int_lt, int_le, int_div, int_rem}
+use Rattle.std.specs.Prelude.{zero, ◌^◌, ℤ, pos, negsuc, ◌+ℤ◌, ◌-ℤ◌, ◌*ℤ◌, neg_ℤ, Bool, true, false, not, ◌&&◌, ◌||◌, List, Result, Ok, Err, nat_lt, if◌then◌else◌, slice_index_or, int_lt, int_le, int_div, int_rem}
 use Rattle.std.specs.Ordering.{int_eq}
 use Rattle.gcl_core.specs.declared.syntax.BinOp.{BinOp}
 use Rattle.gcl_core.specs.declared.syntax.BinOp.TheVariants.{Add, Sub, Mul, Div, Rem, Eq, Ne, Lt, Le, Gt, Ge, And, Or}
@@ -73,12 +73,3 @@ value_of (Not a) s = value_of a s >>= λ x. Ok (truth_number (is_zero x))
 value_of (Bin And a b) s = value_of a s >>= λ x. if is_zero x then Ok (pos 0) else (value_of b s >>= λ y. applied And x y)
 value_of (Bin Or a b) s = value_of a s >>= λ x. if is_zero x then (value_of b s >>= λ y. applied Or x y) else Ok (pos 1)
 value_of (Bin op a b) s = value_of a s >>= λ x. value_of b s >>= λ y. applied op x y
-
--- each variable of the expression is below this count
-abbrev pub ExpressionBelow : Expression → ℕ → Type 0
-ExpressionBelow (Num z) count = Unit {0}
-ExpressionBelow (Truth b) count = Unit {0}
-ExpressionBelow (Var x) count = x < count
-ExpressionBelow (Neg a) count = ExpressionBelow a count
-ExpressionBelow (Not a) count = ExpressionBelow a count
-ExpressionBelow (Bin op a b) count = ExpressionBelow a count × ExpressionBelow b count

@@ -1,10 +1,19 @@
 -- The law of one draw: what the strings weigh that a draw reads to a class, and to the limit of attempts. A draw by repeated
 -- attempts is the rejection sampler of cpGCL's compiler; the count of its strings under a limit is this project's own rule.
-use Rattle.std.specs.Prelude.{◌≡◌, ℕ, ◌*◌, ◌^◌, ◌≤◌, Bool, List, [], ◌∷◌, length, Option, Some, None, ◌==◌}
+use Rattle.std.specs.Prelude.{◌≡◌, ℕ, ◌*◌, ◌^◌, ◌≤◌, Bool, List, [], ◌∷◌, length, Option, Some, None, ◌==◌, zero, suc, ◌-◌}
 use Rattle.std.specs.Option.{option_eq}
 use Rattle.gcl_core.specs.meaning.Reading.{more_bits}
-use Rattle.gcl_core.specs.meaning.Draw.{bits_for, last_end, draw_on, class_size, rejected_numbers, strings_to_a_number}
+use Rattle.gcl_core.specs.meaning.Draw.{bits_for, last_end, draw_on, rejected_numbers, strings_to_a_number}
 use Rattle.gcl_core.specs.weighing.StringWeight.{string_weight, reading_to}
+
+-- how many numbers class i has, where the end before the first of these ends is c; none, where there is no class i
+abbrev pub class_size_from : ℕ → List ℕ → ℕ → ℕ
+class_size_from c [] i = 0
+class_size_from c (d ∷ ends) zero = d - c
+class_size_from c (d ∷ ends) (suc i) = class_size_from d ends i
+
+abbrev pub class_size : List ℕ → ℕ → ℕ
+class_size ends i = class_size_from 0 ends i
 
 -- from c on the ends do not decrease
 abbrev pub Ascends : ℕ → List ℕ → Type 0

@@ -6,7 +6,8 @@ use Rattle.std.specs.Cmp.Lexicographic.{slice_cmp}
 use Rattle.std.specs.BTreeMap.{insert_entry, is_at}
 use Rattle.std.specs.List.Sorted.{IsStrictlySortedBy}
 use Rattle.std.specs.Map.{keys_of, lookup}
-use Rattle.numbers.specs.Fraction.{sum_of, Overfills}
+use Rattle.numbers.specs.Fraction.{Overfills}
+use Rattle.numbers.specs.Arithmetic.{sum_of}
 use Rattle.gcl_core.specs.meaning.Value.{State}
 use Rattle.gcl_core.specs.weighing.Fractions.{Fraction}
 use Rattle.table_flow.specs.Tables.{Table, states}

@@ -1,13 +1,13 @@
 -- The bounds of the masses at one limit of turns, row by row: each mass, and it with what ran out of turns. A limit has none.
 use Rattle.std.specs.Prelude.{◌≡◌, true, [], ◌∷◌, Contains, None, if◌then◌else◌}
-use Rattle.numbers.specs.Fraction.{lowest, sum_of}
+use Rattle.numbers.specs.Fraction.{lowest}
+use Rattle.numbers.specs.Arithmetic.{sum_of}
 use Rattle.gcl_core.specs.declared.answers.Outcome.{Outcome}
 use Rattle.gcl_core.specs.weighing.Fractions.{Fraction, zero_share, plus}
-use Rattle.gcl_core.specs.meaning.Outcomes.{same_outcome}
+use Rattle.gcl_core.specs.meaning.Outcomes.{same_outcome, is_settled}
 use Rattle.mass_fold.specs.declared.error.MassError.{MassError}
 use Rattle.mass_fold.specs.declared.error.MassError.TheVariants.{TooWide, TooManyStates, AllFailed, OutOfMemory}
 use Rattle.mass_fold.specs.Rows as masses
-use Rattle.posterior_bounds.specs.PosteriorBounds.{is_settled}
 use Rattle.posterior_bounds.specs.Rows.{Rows}
 
 -- the mass in the row of an outcome, and nothing where it has none

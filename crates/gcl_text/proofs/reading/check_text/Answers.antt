@@ -1,5 +1,5 @@
 use Rattle.std.proofs.Common.{◌≡◌, ◌∙◌, sym, subst, ap, Err, arith, ◌<◌, ◌-◌, ◌^◌}
-use Rattle.gcl_core.specs.text.ReadingOrder.{count_all}
+use Rattle.gcl_core.specs.text.StatementCounts.{count_all}
 use Rattle.gcl_core.specs.text.Texts.{SpellsNone}
 use Rattle.gcl_core.specs.meaning.Views.{source_of}
 use Rattle.gcl_check.specs.Refused.{refusal_said}

@@ -1,5 +1,5 @@
 use Rattle.std.proofs.Common.{sym, ap, subst, ◌∙◌, arith}
-use Rattle.gcl_core.specs.meaning.Outcomes.{same_key}
+use Rattle.gcl_core.specs.meaning.Order.{same_key}
 use Rattle.sampler_run.specs.Held.{Held, IsRestOf}
 use Rattle.hunt_range.specs.Sought.{sought_of}
 use Rattle.hunt_range.proofs.Searching.{none_more}

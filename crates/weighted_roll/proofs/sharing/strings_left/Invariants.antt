@@ -1,5 +1,5 @@
 use Rattle.std.proofs.Common.{◌≡◌, ◌+◌, ◌*◌, ◌/◌, ◌^◌, get_or}
-use Rattle.weighted_roll.specs.Rollers.{sum_below}
+use Rattle.weighted_roll.specs.ExactRollers.{sum_below}
 use Rattle.weighted_roll.proofs.sharing.strings_left.Given as goal
 
 abbrev pub invariant-loop-weight : goal.invariant-loop-weight

@@ -1,6 +1,6 @@
 use Rattle.std.proofs.Common.{◌≡◌, ℕ, List, [], ◌++◌, length, ◌∙◌, ap, arith}
 use Rattle.gcl_core.specs.text.Canonical.{canonical_text}
-use Rattle.gcl_core.specs.text.ReadingOrder.{count_all}
+use Rattle.gcl_core.specs.text.StatementCounts.{count_all}
 use Rattle.gcl_core.specs.meaning.Views.{source_of, statements_of}
 use Rattle.report_text.specs.Lines.{number_text}
 use Rattle.report_text.specs.declared.counts.Count.TheVariants.{Statements, Bytes}

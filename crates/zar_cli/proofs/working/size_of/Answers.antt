@@ -1,5 +1,5 @@
 use Rattle.std.proofs.Common.{◌∙◌, Ok, length, ap}
-use Rattle.gcl_core.specs.text.ReadingOrder.{count_all}
+use Rattle.gcl_core.specs.text.StatementCounts.{count_all}
 use Rattle.gcl_core.specs.meaning.Views.{source_of, statements_of}
 use Rattle.zar_cli.specs.declared.said.Said.TheVariants.{Accepted}
 use Rattle.zar_cli.proofs.working.size_of.Goals as goal

@@ -3,7 +3,8 @@ use Rattle.std.proofs.lemmas.Int.{ints}
 use Rattle.std.proofs.lemmas.Result.{IfOk-weaker, IfErr-weaker}
 use mir.Val.{SFits}
 use Rattle.gcl_core.specs.meaning.Views.{expression_of}
-use Rattle.gcl_core.specs.meaning.Value.{value_of, ExpressionBelow}
+use Rattle.gcl_core.specs.meaning.Value.{value_of}
+use Rattle.gcl_core.specs.meaning.Bounds.{ExpressionBelow}
 use Rattle.mass_fold.proofs.Bounds.{is_bound}
 use Rattle.enclose_fold.proofs.Spreading.{fault_added, fault_stopped, bad_added, bad_stopped, draw_added, draw_stopped, draw_refused}
 use Rattle.enclose_fold.proofs.fold.Fold.draw_entry.Goals as goal

@@ -1,5 +1,5 @@
 use Rattle.std.proofs.Common.{◌≤◌, ◌∙◌, Ok, length, ap, sym, subst, arith}
-use Rattle.gcl_core.specs.meaning.Value.{ExpressionBelow}
+use Rattle.gcl_core.specs.meaning.Bounds.{ExpressionBelow}
 use Rattle.formula.specs.Steps.{depth}
 use Rattle.formula.specs.ReadBack.{expression_in}
 use Rattle.gcl_core.specs.declared.syntax.BinOp.TheVariants.{Add, Lt, Eq}

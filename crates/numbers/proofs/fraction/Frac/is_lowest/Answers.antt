@@ -1,5 +1,5 @@
 use Rattle.std.proofs.Common.{subst}
-use Rattle.numbers.specs.Fraction.{InLowest}
+use Rattle.numbers.specs.Arithmetic.{InLowest}
 use Rattle.numbers.proofs.fraction.Frac.is_lowest.Goals as goal
 
 pub returns : goal.returns

@@ -1,5 +1,5 @@
 use Rattle.std.proofs.Common.{subst}
-use Rattle.numbers.specs.Fraction.{InLowest}
+use Rattle.numbers.specs.Arithmetic.{InLowest}
 use Rattle.numbers.proofs.fraction.Frac.num.Goals as goal
 
 pub returns-clause-lowest : goal.returns-clause-lowest
