@@ -114,9 +114,6 @@ go_on_bits m go w = end_on (m w) go
 abbrev pub draw_on_bits : ℕ → List ℕ → (ℕ → List Bool → Reading End) → List Bool → Reading End
 draw_on_bits r cs go w = class_on (draw_on cs r w) go
 
-abbrev pub loop_on : (State → Value) → (State → List Bool → Reading End) → ℕ → State → List Bool → Reading End
-loop_on = loop_in gives go_on_bits
-
 -- under limits of n turns for each entry of a loop and r attempts for each draw
 abbrev pub statement_on : (n r : ℕ) → Statement → State → List Bool → Reading End
 statement_on n r = statement_in gives go_on_bits (draw_on_bits r) n
