@@ -15,6 +15,15 @@ def crates():
             yield crate, kind, below.split()
 
 
+def edits(crate="*", name="*"):
+    """The edits of a crate, those of a name, or all."""
+    return sorted(KEPT.glob(f"{crate}/{name}.edit"))
+
+
+def name_of(edit):
+    return f"{edit.parent.name}/{edit.stem}"
+
+
 def lines(edit):
     """The word of each line of an edit, and what it says."""
     for line in edit.read_text(encoding="utf-8").splitlines():
@@ -35,5 +44,9 @@ def changes(edit):
 
 
 def refusing(edit):
-    """The function that must refuse an edit, if the edit names it."""
-    return dict(lines(edit)).get("only")
+    """The function that must refuse an edit."""
+    return dict(lines(edit)).get("only", "")
+
+
+def is_of_gate(edit):
+    return dict(lines(edit)).get("gate") == "yes"
