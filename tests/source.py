@@ -7,19 +7,29 @@ ROOT = pathlib.Path(__file__).resolve().parent.parent
 USE = re.compile(r"^pub use ([\w:]+)::(?:\{([^}]*)\}|(\w+));", re.MULTILINE)
 PUBLIC_MODULE = re.compile(r"^pub mod (\w+);", re.MULTILINE)
 # A function with what stands before its body.
-FUNCTION = re.compile(r"^ *(?P<pub>pub )?(?:const |extern \"C\" )?fn (?P<name>\w+)\b(?P<head>(?:(?!\bfn \w).)*?)(?:^ *\{|\{\}?$|;$)", re.DOTALL | re.MULTILINE)
+FUNCTION = re.compile(r"^ *(?P<pub>pub )?(?:pub\(crate\) )?(?:const |extern \"C\" )?fn (?P<name>\w+)\b(?P<head>(?:(?!\bfn \w).)*?)(?:^ *\{|\{\}?$|;$)", re.DOTALL | re.MULTILINE)
 CLAUSE = re.compile(r"^\s*ensures(?: (\w+))? \{", re.MULTILINE)
 # A brace, or a text in quotes, which may hold some.
 BRACE = re.compile(r'"(?:\\.|[^"\\])*"|[{}]')
 BLOCK = re.compile(r"^(?P<head>(?:pub )?(?:impl|trait)\b[^{]*)\{\n(?P<body>.*?)^\}", re.DOTALL | re.MULTILINE)
-IMPL = re.compile(r"^impl(?:<[^>]*>)? (?:(?P<trait>\w+)(?:<.*>)? for )?(?P<type>\w+)")
-TRAIT = re.compile(r"^pub trait (?P<name>\w+)")
+IMPL = re.compile(r"^impl(?:<.*?>)? (?:(?P<trait>\w+)(?:<.*>)? for )?(?P<type>\w+)", re.DOTALL)
+TRAIT = re.compile(r"^(?:pub )?trait (?P<trait>\w+)")
+
+
+def layers():
+    """Each crate, lowest first: its floor, its name, its kind if it has one, and what it stands on."""
+    floor = None
+    for line in (ROOT / "crates.txt").read_text(encoding="utf-8").splitlines():
+        if line.startswith("# "):
+            floor = line[2:]
+        elif line:
+            name, _, below = line.partition(":")
+            crate, *kind = name.split()
+            yield floor, crate, kind, below.split()
 
 
 def crates():
-    """The crates in the order of the layers."""
-    lines = (ROOT / "crates.txt").read_text(encoding="utf-8").splitlines()
-    return [re.match(r"\w+", line)[0] for line in lines if re.match(r"\w", line)]
+    return [crate for _, crate, _, _ in layers()]
 
 
 def files(crate):
@@ -64,28 +74,24 @@ def braced(text):
 
 
 def functions(text):
-    """The functions of a file with the type or the trait of their block: name, whether it is public, its clauses."""
+    """The functions of a file, each with the type and the trait of its block, empty where there is none."""
     for block in BLOCK.finditer(text):
-        head = block["head"]
-        of_trait, of_type = TRAIT.match(head), IMPL.match(head)
+        of = (TRAIT.match(block["head"]) or IMPL.match(block["head"])).groupdict("")
         for it in FUNCTION.finditer(block["body"]):
-            if of_trait:
-                yield f"{of_trait['name']}::{it['name']}", True, clauses(it["head"])
-            elif of_type:
-                yield f"{of_type['type']}::{it['name']}", bool(it["pub"] or of_type["trait"]), clauses(it["head"])
+            yield of.get("type", ""), of["trait"], it
     for it in FUNCTION.finditer(BLOCK.sub("", text)):
-        yield it["name"], bool(it["pub"]), clauses(it["head"])
+        yield "", "", it
 
 
 def contracts(crate):
     """The clauses of what a crate exports: a function, free or of a type or trait, and a clause of it, each with its text, in the order of the files."""
     names = exported(crate)
     return {
-        (function, clause): text
+        ("::".join(filter(None, (of_type or of_trait, it["name"]))), clause): text
         for file in files(crate)
-        for function, is_public, told in functions(file.read_text(encoding="utf-8"))
-        if is_public and function.split("::")[0] in names
-        for clause, text in told
+        for of_type, of_trait, it in functions(file.read_text(encoding="utf-8"))
+        if (it["pub"] or of_trait) and (of_type or of_trait or it["name"]) in names
+        for clause, text in clauses(it["head"])
     }
 
 

@@ -1,18 +1,12 @@
-"""The crates, and the edits of their code that the prover must refuse: where they stand, and what they say."""
+"""The edits of code that the prover must refuse: where they stand, and what they say."""
 import pathlib
+import sys
 
 KEPT = pathlib.Path(__file__).resolve().parent
-TOP = KEPT.parent.parent
-CRATES = TOP / "crates"
+sys.path.insert(0, str(KEPT.parent))
+import source
 
-
-def crates():
-    """Each crate of the repository, lowest first: its name, its kind if it has one, and what it stands on."""
-    for line in (TOP / "crates.txt").read_text(encoding="utf-8").splitlines():
-        name, colon, below = line.partition(":")
-        if colon and not line.startswith("#"):
-            crate, *kind = name.split()
-            yield crate, kind, below.split()
+CRATES = source.ROOT / "crates"
 
 
 def edits(crate="*", name="*"):

@@ -6,7 +6,7 @@ import os
 import pathlib
 import subprocess
 
-from edits import CRATES, crates
+from edits import CRATES, source
 
 PLACE = pathlib.Path(os.environ.get("XDG_CACHE_HOME") or pathlib.Path.home() / ".cache") / "zar-edits"
 RULES = [pathlib.Path(__file__).with_name(it) for it in ("edits.py", "trying.py")]
@@ -23,7 +23,7 @@ def sum_of(crate):
     found = hashlib.sha256(kit())
     for file in sorted(it for part in ("src", "specs", "proofs") for it in (CRATES / crate / part).rglob("*") if it.is_file()):
         found.update(f"{file.relative_to(CRATES)} {file.stat().st_size} ".encode() + file.read_bytes())
-    for below in next(below for it, _, below in crates() if it == crate):
+    for below in next(below for _, it, _, below in source.layers() if it == crate):
         found.update((sum_of(below) if (CRATES / below).is_dir() else below).encode())
     return found.hexdigest()
 

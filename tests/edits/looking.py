@@ -1,29 +1,20 @@
 """What can be seen of an edit without the prover."""
 import functools
-import re
 
-from edits import CRATES, changes, lines, refusing
+from edits import CRATES, changes, lines, refusing, source
 
 WORDS = {"file", "old", "new", "only", "gate"}
-# Where a block of functions begins or ends, or a function, as `rt fmt` lays them out.
-ITEM = re.compile(r'^(?:(?:pub )?(?P<block>impl|trait)\b(?P<head>[^{]*)\{|(?P<end>\})| *(?:pub(?:\(\w+\))? )?(?:const |extern "C" )?fn (?P<name>\w+))', re.MULTILINE)
-# Of which type a block is, and of which trait.
-HEAD = re.compile(r"(?:<.*?> |\s)(?:(?P<trait>\w+)(?:<.*>)? for )?(?P<type>\w+)", re.DOTALL)
 
 
 @functools.cache
 def functions(crate):
-    """The functions of a crate, each by its path below it, as the prover has it."""
-    found, source = [], CRATES / crate / "src"
-    for file in source.rglob("*.rt"):
-        module = [] if file.stem in ("lib", "main") else file.relative_to(source).with_suffix("").parts
-        block = []
-        for it in ITEM.finditer(file.read_text(encoding="utf-8")):
-            if it["name"]:
-                found.append("::".join([*module, *block, it["name"]]))
-            else:
-                head = it["block"] and HEAD.match(it["head"])
-                block = [head["type"] + (head["trait"] or "")] if head else []
+    """The functions of a crate, each by its module, its type with its trait, and its name, as the prover writes them where the trait takes no
+    types."""
+    found = []
+    for file in source.files(crate):
+        module = [] if file.stem in ("lib", "main") else file.relative_to(CRATES / crate / "src").with_suffix("").parts
+        for of_type, of_trait, it in source.functions(file.read_text(encoding="utf-8")):
+            found.append("::".join(filter(None, [*module, of_type + of_trait, it["name"]])))
     return found
 
 
