@@ -95,7 +95,10 @@ fn form_said(alloc: Global, form: Form) -> Result<String, AllocError> {
     match form {
         Form::Name => String::from_str(alloc, "the name of a file"),
         Form::Number(least, most) => format!(in alloc; "a number from {least} to {most}"),
-        Form::Weights => String::from_str(alloc, "weights, with a comma between two, as 3,2,1"),
+        Form::Weights => String::from_str(
+            alloc,
+            "a list of weights with a comma between two, as 3,2,1, none of which is the whole sum,",
+        ),
         Form::Wanted => String::from_str(
             alloc,
             "a value, or a way to end as tally prints it, as 'limit turns'",
@@ -156,9 +159,6 @@ fn of_option(
     at: usize,
     word: &str,
 ) -> Result<String, AllocError> {
-    if takes.is_empty() {
-        return String::from_str(alloc, "this command takes no options");
-    }
     if is_given(takes, words, at, word) {
         return format!(in alloc; "{word} was given before");
     }
@@ -167,6 +167,13 @@ fn of_option(
             alloc,
             "bits of a file and bits of a stream exclude each other",
         );
+    }
+    let before = match at.checked_sub(2) {
+        Some(before) => words.get(before),
+        None => None,
+    };
+    if before.is_some_and(|option| option.as_str() == "--want") {
+        return String::from_str(alloc, "what --want takes is one word, as 'limit turns'");
     }
     if let Some((name, value)) = word.split_once('=') {
         if setting_of(takes, name).is_some() {

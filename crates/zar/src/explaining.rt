@@ -147,6 +147,9 @@ fn of_missing<R: rt::Files + AllocGlobal>(rt: &R, words: &[String]) -> Result<St
             rt.alloc(),
             "  there is no file '-'; standard input is /dev/stdin\n",
         ),
+        Some(name) if name.starts_with("--") => format!(in rt.alloc();
+            "  there is no file '{name}' here; options stand behind the file\n"
+        ),
         Some(name) => format!(in rt.alloc(); "  there is no file '{name}' here\n"),
         None => Ok(String::new(rt.alloc())),
     }
@@ -159,7 +162,19 @@ fn of_unopened<R: rt::Files + AllocGlobal>(rt: &R, words: &[String]) -> Result<S
             return format!(in rt.alloc(); "  '{name}' does not open: {error}\n");
         }
     }
+    for word in words.iter().skip(1) {
+        if is_folder(rt, word.as_str()) {
+            return format!(in rt.alloc(); "  '{word}' is a folder\n");
+        }
+    }
     Ok(String::new(rt.alloc()))
+}
+
+fn is_folder<R: rt::Files + AllocGlobal>(rt: &R, name: &str) -> bool {
+    match fs::open(rt, name) {
+        Ok(file) => file.metadata().is_ok_and(|found| found.is_dir()),
+        Err(_) => false,
+    }
 }
 
 // What is said behind this line.

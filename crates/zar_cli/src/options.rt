@@ -135,7 +135,7 @@ impl<'a> Options<'a> {
     }
 
     /// The place of the first wrong word, where the options begin at place 2.
-    pub fn wrong(self) -> Option<u32>
+    pub(crate) fn wrong(self) -> Option<u32>
         requires { 2 + length self.words.now < 2 ^ 32 }
         ensures { result ≡ wrong_option (map (λ s. (s.0.now, s.1)) self.entry.takes.now) 2 [] (options_of self.entry) }
     {
@@ -168,7 +168,7 @@ impl<'a> Options<'a> {
     }
 
     /// The word behind an option, where the option is given and a word is behind it.
-    pub fn value_of(self, word: &str) -> Option<&'a str>
+    pub(crate) fn value_of(self, word: &str) -> Option<&'a str>
         ensures { option_map (λ word. word.now) result ≡ value_of word.now (options_of self.entry) }
     {
         match self.named(word) {
@@ -178,14 +178,14 @@ impl<'a> Options<'a> {
     }
 
     /// The option is given.
-    pub fn is_given(self, setting: Setting) -> bool
+    pub(crate) fn is_given(self, setting: Setting) -> bool
         ensures { result ≡ is_given (setting.entry.0.now, setting.entry.1) (options_of self.entry) }
     {
         self.named(setting.0).is_some()
     }
 
     /// Each of these is given.
-    pub fn are_given(self, mut settings: &[Setting]) -> bool
+    pub(crate) fn are_given(self, mut settings: &[Setting]) -> bool
         ensures { result ≡ list_all (λ s. is_given s (options_of self.entry)) (map (λ s. (s.0.now, s.1)) settings.entry.now) }
     {
         while let [setting, rest @ ..] = settings {
@@ -198,7 +198,7 @@ impl<'a> Options<'a> {
     }
 
     /// The number behind an option, where it is given.
-    pub fn number(self, setting: Setting) -> Option<u64>
+    pub(crate) fn number(self, setting: Setting) -> Option<u64>
         ensures number { result ≡ number_given (setting.entry.0.now, setting.entry.1) (options_of self.entry) }
         ensures range { IfSome result (IsIn setting.entry.1) }
     {
@@ -210,7 +210,7 @@ impl<'a> Options<'a> {
     }
 
     /// The number behind an option, or the usual where it is not given.
-    pub fn number_or(self, usual: u64, setting: Setting) -> u64
+    pub(crate) fn number_or(self, usual: u64, setting: Setting) -> u64
         requires range { IsIn setting.1 usual }
         ensures number { result ≡ number_or usual (setting.entry.0.now, setting.entry.1) (options_of self.entry) }
         ensures range { IsIn setting.entry.1 result }
@@ -222,14 +222,14 @@ impl<'a> Options<'a> {
     }
 
     /// It is given where bits come from.
-    pub fn has_source(self) -> bool
+    pub(crate) fn has_source(self) -> bool
         ensures { result ≡ has_source (options_of self.entry) }
     {
         self.is_given(BITS) || self.is_given(SEED)
     }
 
     /// The streams that are gone through.
-    pub fn range(self) -> SeedRange
+    pub(crate) fn range(self) -> SeedRange
         ensures range { result ≡ range_of (options_of self.entry) }
         ensures budget { result.budget ≤ MOST_BUDGET }
         ensures workers { IsWorkers result.workers }
@@ -244,7 +244,7 @@ impl<'a> Options<'a> {
     }
 
     /// The streams are in order, and no more than can be.
-    pub fn has_range(self) -> bool
+    pub(crate) fn has_range(self) -> bool
         ensures { result ≡ is_range (range_of (options_of self.entry)) }
     {
         let range = self.range();
@@ -252,7 +252,7 @@ impl<'a> Options<'a> {
     }
 
     /// The way to end that a hunt wants.
-    pub fn wanted(self) -> TallyKey
+    pub(crate) fn wanted(self) -> TallyKey
         ensures { result ≡ wanted (options_of self.entry) }
     {
         match self.value_of(WANT.0) {
@@ -262,7 +262,7 @@ impl<'a> Options<'a> {
     }
 
     /// The limits of a run, each the number here where it is not given.
-    pub fn limits_with(self, turns: u64, attempts: u64, rounds: u64) -> Limits
+    pub(crate) fn limits_with(self, turns: u64, attempts: u64, rounds: u64) -> Limits
         requires turns { turns ≤ MOST_LIMIT }
         requires attempts { (1 ≤ attempts) × (attempts ≤ MOST_LIMIT) }
         requires rounds { (1 ≤ rounds) × (rounds ≤ MOST_LIMIT) }
@@ -277,7 +277,7 @@ impl<'a> Options<'a> {
     }
 
     /// The limits of a run, each the usual where it is not given.
-    pub fn limits(self) -> Limits
+    pub(crate) fn limits(self) -> Limits
         ensures limits { result ≡ limits_of (options_of self.entry) }
         ensures range { InRange result }
     {
