@@ -17,7 +17,7 @@ fn read(alloc: Global, call: &[&str]) -> Result<Result<Command, WordsError>, All
 }
 
 // Calls, and the place of the first wrong word of each.
-const WRONG: [(&'static [&'static str], u32); 70] = [
+const WRONG: [(&'static [&'static str], u32); 74] = [
     (&[], 0),
     (&["sampel", "x"], 0),
     (&["Sample", "p", "--bits", "b"], 0),
@@ -75,6 +75,10 @@ const WRONG: [(&'static [&'static str], u32); 70] = [
         5,
     ),
     (&["mass", "p", "--all-turns"], 2),
+    (&["mass", "--help", "p"], 2),
+    (&["mass", "p", "--help"], 2),
+    (&["show", "p", "--explain", "1"], 3),
+    (&["exact", "p", "--explain", "--explain"], 3),
     (&["posterior", "p", "--turns", "1000000001"], 3),
     (&["audit", "p"], 2),
     (&["audit", "p", "--depth", "21"], 3),
