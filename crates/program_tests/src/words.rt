@@ -523,7 +523,11 @@ fn reads_what_help_is_asked_for(rt: HostRuntime) -> Result<(), Fail> {
     assert!(rt; asks_for(alloc, &["-h", "tally"], Topic::One(Verb::Tally))?);
     assert!(rt; asks_for(alloc, &["--version"], Topic::Version)?);
     assert!(rt; asks_for(alloc, &["--help", "E17"], Topic::Refused(17))?);
-    for word in ["E0", "E18", "E", "e5", "E5 ", "5"] {
+    assert!(rt; asks_for(alloc, &["help", "e5"], Topic::Refused(5))?);
+    assert!(rt; asks_for(alloc, &["help", "help"], Topic::Everything)?);
+    assert!(rt; asks_for(alloc, &["roll", "--help"], Topic::One(Verb::Roll))?);
+    assert!(rt; asks_for(alloc, &["mass", "-h"], Topic::One(Verb::Mass))?);
+    for word in ["E0", "E18", "E", "e", "E5 ", "5"] {
         assert!(rt; read(alloc, &["help", word])?.is_err(), "{word}");
     }
     Ok(())
