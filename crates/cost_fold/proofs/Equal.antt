@@ -1,13 +1,13 @@
 -- Fractions of one value, and averages of them.
 use Rattle.std.proofs.Common.{◌≡◌, ℕ, zero, suc, ◌+◌, ◌*◌, ◌<◌, Bool, true, false, not, cond, [], ◌∷◌, ◌++◌, Ok, Err, refl, sym, ap, ◌∙◌, subst, arith}
 use Rattle.gcl_core.specs.meaning.Value.{State, Value, is_zero}
-use Rattle.gcl_core.specs.meaning.Blocks.{End, on, failed, fault, limit, by_value, by_truth, by_end}
+use Rattle.gcl_core.specs.meaning.Blocks.{by_value, by_truth}
 use Rattle.gcl_core.specs.weighing.Fractions.{Fraction, zero_share, plus, times}
 use Rattle.gcl_core.specs.weighing.WeightedEnds.{Weighted, scaled, taken_on}
 use Rattle.cost_law.specs.ExpectedBits.{on_average}
 use Rattle.numbers.specs.Fraction.{IsEqual}
 use Rattle.numbers.proofs.Divisors.{product_pos}
-use Rattle.table_flow.specs.Tables.{Table, going_on, holds, fails, only}
+use Rattle.table_flow.specs.Tables.{Table, holds, fails, only}
 use Rattle.table_flow.proofs.Positive.{Positive}
 use Rattle.table_flow.proofs.EqualFractions.{equal_plus, equal_times}
 
@@ -79,18 +79,6 @@ average_sum (e ∷ m) f g =
     joined : (w0 w1 f0 f1 g0 g1 x0 x1 F0 F1 G0 G1 : ℕ) → x0 * (F1 * G1) ≡ (F0 * G1 + G0 * F1) * x1 →
         (w0 * (f0 * g1 + g0 * f1) * x1 + x0 * (w1 * (f1 * g1))) * (w1 * f1 * F1 * (w1 * g1 * G1)) ≡ ((w0 * f0 * F1 + F0 * (w1 * f1)) * (w1 * g1 * G1) + (w0 * g0 * G1 + G0 * (w1 * g1)) * (w1 * f1 * F1)) * (w1 * (f1 * g1) * x1)
     joined w0 w1 f0 f1 g0 g1 x0 x1 F0 F1 G0 G1 e = let z = ap (λ z. z * (w1 * f1 * g1 * (w1 * f1 * (w1 * g1)))) e in omega arith
-
--- an entry that counts nothing
-pub none_more : (w0 w1 x0 x1 a0 a1 : ℕ) → x0 * a1 ≡ a0 * x1 → x0 * (w1 * 1 * a1) ≡ (w0 * 0 * a1 + a0 * (w1 * 1)) * x1
-none_more w0 w1 x0 x1 a0 a1 e = let z = ap (λ z. z * w1) e in omega arith
-
--- the entries that go on
-pub average_going : (m : Weighted End) (g : State → Fraction) → IsEqual (on_average (going_on m) g) (on_average m (λ e. by_end e (λ e. zero_share) g))
-average_going [] g = refl
-average_going ((w, on s) ∷ m) g = equal_plus (times w (g s)) (times w (g s)) _ _ refl (average_going m g)
-average_going ((w, failed) ∷ m) g = none_more w.0 w.1 _ _ _ _ (average_going m g)
-average_going ((w, fault f) ∷ m) g = none_more w.0 w.1 _ _ _ _ (average_going m g)
-average_going ((w, limit l) ∷ m) g = none_more w.0 w.1 _ _ _ _ (average_going m g)
 
 -- by a guard
 module _ (v : State → Value) (f g : State → Fraction) where

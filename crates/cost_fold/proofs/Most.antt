@@ -1,5 +1,5 @@
 -- The draws that a table reaches are whole at its scale, and read no more than the longest reading, by the weight of the table.
-use Rattle.std.proofs.Common.{◌≡◌, ℕ, zero, suc, ◌+◌, ◌-◌, ◌*◌, ◌^◌, ◌≤◌, ◌<◌, max, ℤ, pos, negsuc, Bool, true, false, cond, List, [], ◌∷◌, ◌++◌, Ok, Err, Some, refl, subst, arith}
+use Rattle.std.proofs.Common.{◌≡◌, ℕ, zero, suc, ◌+◌, ◌-◌, ◌*◌, ◌^◌, ◌≤◌, ◌<◌, max, ℤ, pos, negsuc, Bool, true, false, cond, List, [], ◌∷◌, ◌++◌, map, Ok, Err, Some, slice_set, refl, subst, arith}
 use Rattle.std.proofs.Math.Nat.{mul-le-mul_left, mul-le-mul_right}
 use Rattle.std.proofs.lemmas.Bool.{ltb-true}
 use Rattle.gcl_core.specs.declared.answers.Limit.TheVariants.{Attempts}
@@ -12,16 +12,15 @@ use Rattle.gcl_core.specs.meaning.Draw.{bits_for, last_end, choice_ends, uniform
 use Rattle.gcl_core.specs.meaning.Fitting.{state_fits}
 use Rattle.gcl_core.specs.weighing.LongestReading.{longest_statement, longest, longest_arm}
 use Rattle.gcl_core.specs.meaning.Value.{State, Value, value_of, fits_64}
-use Rattle.gcl_core.specs.meaning.Blocks.{End, on, failed, fault, limit, by_value, by_bound}
-use Rattle.gcl_core.specs.weighing.WeightedEnds.{Weighted, scaled, taken_on, class_weight, no_class_weight, statement_weighted}
+use Rattle.gcl_core.specs.meaning.Blocks.{limit, by_value, by_bound}
+use Rattle.gcl_core.specs.weighing.WeightedEnds.{scaled, class_weight, no_class_weight}
 use Rattle.gcl_core.proofs.PartialSums.{last_is}
 use Rattle.gcl_core.proofs.Classes.{bits_le}
-use Rattle.gcl_core.proofs.FittingValues.{end_fits, value_fits}
+use Rattle.gcl_core.proofs.FittingValues.{number_fits, set_fits, value_fits}
 use Rattle.gcl_core.proofs.EqualClasses.{last_of_equal}
-use Rattle.weighing_law.proofs.BlockMatching.{statement_matches}
-use Rattle.weighing_law.proofs.WeightedLists.{EachEntry, each-append, each-scaled, each_taken_on}
+use Rattle.weighing_law.proofs.WeightedLists.{EachEntry, each-append, each-scaled}
 use Rattle.cost_law.specs.ExpectedBits.{number_bits}
-use Rattle.table_flow.specs.Tables.{Table, going_on, holds, fails, only, faults, all_end, both, loop_flow, statement_flow, block_flow, arms_flow, draws_each, draw_weights}
+use Rattle.table_flow.specs.Tables.{Table, holds, fails, only, faults, all_end, set_to, set_below, set_drawn, both, loop_flow, statement_flow, block_flow, arms_flow, draws_each, draw_weights}
 use Rattle.table_flow.specs.Reached.{ReachedDraws, drawn_each, drawn_bound, loop_draws, statement_draws, block_draws, arms_draws}
 use Rattle.table_flow.specs.Scale.{whole, amount, weight, Wholes, Within}
 use Rattle.table_flow.proofs.Amounts.{amount_append, both_first, both_second, all_second, tables_first, tables_second, ends_first, ends_second, all_first}
@@ -42,12 +41,34 @@ fit_only test (e ∷ I) h = at_head (test e.1) (fit_only test I h.1)
     at_head true i = (h.0, i)
     at_head false i = i
 
-fit_going : (m : Weighted End) → EachEntry end_fits m → AllFit (going_on m)
-fit_going [] h = tt
-fit_going ((w, on s) ∷ m) h = (h.0, fit_going m h.1)
-fit_going ((w, failed) ∷ m) h = fit_going m h.1
-fit_going ((w, fault f) ∷ m) h = fit_going m h.1
-fit_going ((w, limit l) ∷ m) h = fit_going m h.1
+fit_set : (x : ℕ) (e : Expression) (I : Table) → ExpressionFits e → AllFit I → AllFit (set_to x (value_of e) I)
+fit_set x e [] f h = tt
+fit_set x e (d ∷ I) f h = at_head (value_of e d.1) refl (fit_set x e I f h.1)
+  where
+    at_head : (o : Value) → value_of e d.1 ≡ o → AllFit (set_to x (value_of e) I) → AllFit (by_value o (λ f. set_to x (value_of e) I) (λ z. (d.0, slice_set d.1 x z) ∷ set_to x (value_of e) I))
+    at_head (Ok z) q i = (set_fits d.1 x z h.0 (value_fits e d.1 z f h.0 q), i)
+    at_head (Err g) q i = i
+
+fit_below : (x b m : ℕ) → m ≤ b → b < 2 ^ 63 → (J : Table) → AllFit J → AllFit (set_below x m J)
+fit_below x b zero k lt J h = tt
+fit_below x b (suc m) k lt J h = each-append state_fits (set_below x m J) _ (fit_below x b m (omega arith) lt J h) (moved J h)
+  where
+    moved : (J : Table) → AllFit J → AllFit (map (λ e. (e.0, slice_set e.1 x (pos m))) J)
+    moved [] h = tt
+    moved (e ∷ J) h = (set_fits e.1 x (pos m) h.0 (number_fits m b (omega arith) lt), moved J h.1)
+
+fit_drawn : (x r : ℕ) (e : Expression) (I : Table) → ExpressionFits e → AllFit I → AllFit (set_drawn x (value_of e) (Some r) I)
+fit_drawn x r e [] f h = tt
+fit_drawn x r e (d ∷ I) f h = each-append state_fits _ (set_drawn x (value_of e) (Some r) I) (by_state (value_of e d.1) refl) (fit_drawn x r e I f h.1)
+  where
+    by_sign : (z : ℤ) → fits_64 z ≡ true → AllFit (by_bound z [] (λ m. set_below x m (scaled (class_weight m (Some r) 1) (d ∷ []))))
+    by_sign (pos zero) k = tt
+    by_sign (pos (suc m)) k = fit_below x (suc m) (suc m) (omega arith) (ltb-true _ _ k) (scaled (class_weight (suc m) (Some r) 1) (d ∷ [])) (each-scaled state_fits (class_weight (suc m) (Some r) 1) (d ∷ []) (h.0, tt))
+    by_sign (negsuc m) k = tt
+
+    by_state : (o : Value) → value_of e d.1 ≡ o → AllFit (by_value o (λ f. []) (λ z. by_bound z [] (λ m. set_below x m (scaled (class_weight m (Some r) 1) (d ∷ [])))))
+    by_state (Ok z) q = by_sign z (value_fits e d.1 z f h.0 q)
+    by_state (Err g) q = tt
 
 -- ---- lists of draws
 wholes_append : (N : ℕ) (a b : ReachedDraws) → Wholes N a → Wholes N b → Wholes N (a ++ b)
@@ -143,10 +164,6 @@ module _ (n r N L M : ℕ) where
   BlockMost b = (I : Table) → Wholes N I → AllFit I → Within N L (block_flow n (Some r) b I) → Priced (Some r) M (block_draws n (Some r) b I) →
       DrawsMost r N M (block_draws n (Some r) b I) (weight N I) (longest n r b) × AllFit (block_flow n (Some r) b I).next
 
-  -- a statement that makes one step of each state
-  fit_step : (st : Statement) → StatementIsWeighed st → StatementFits st → (I : Table) → AllFit I → AllFit (going_on (taken_on I (statement_weighted n (Some r) st)))
-  fit_step st w f I a = fit_going (taken_on I (statement_weighted n (Some r) st)) (each_taken_on state_fits end_fits I (statement_weighted n (Some r) st) a (λ s p. (statement_matches n r st w f s p).entries))
-
   turns_most : (v : State → Value) (b : Statements) → BlockIsWeighed b → BlockMost b → (t : ℕ) (I : Table) → Wholes N I → AllFit I → Within N L (loop_flow v (block_flow n (Some r) b) t I) →
       Priced (Some r) M (loop_draws v (block_draws n (Some r) b) (block_flow n (Some r) b) t I) →
       DrawsMost r N M (loop_draws v (block_draws n (Some r) b) (block_flow n (Some r) b) t I) (weight N I) (t * longest n r b) × AllFit (loop_flow v (block_flow n (Some r) b) t I).next
@@ -175,10 +192,10 @@ module _ (n r N L M : ℕ) where
 
   mutual
     statement_most : (st : Statement) → StatementIsWeighed st → StatementFits st → StatementMost st
-    statement_most Skip w f I wi a x s k = (none_most r N M (weight N I) 0, fit_step Skip w f I a)
-    statement_most (Set y e) w f I wi a x s k = (none_most r N M (weight N I) 0, fit_step (Set y e) w f I a)
-    statement_most (Observe e) w f I wi a x s k = (none_most r N M (weight N I) 0, fit_step (Observe e) w f I a)
-    statement_most (Uniform y e) w f I wi a x s k = (most_bound r N M e I f a wi k, fit_step (Uniform y e) w f I a)
+    statement_most Skip w f I wi a x s k = (none_most r N M (weight N I) 0, a)
+    statement_most (Set y e) w f I wi a x s k = (none_most r N M (weight N I) 0, fit_set y e I f a)
+    statement_most (Observe e) w f I wi a x s k = (none_most r N M (weight N I) 0, fit_only (holds (value_of e)) I a)
+    statement_most (Uniform y e) w f I wi a x s k = (most_bound r N M e I f a wi k, fit_drawn y r e I f a)
     statement_most (If e p q) w f I wi a x s k =
         let v = value_of e in
         let A = only (holds v) I in

@@ -1,6 +1,6 @@
 -- The bits of the draws that a table reaches, with those read after it in the table that it leaves, are those that the statements let
 -- expect.
-use Rattle.std.proofs.Common.{◌≡◌, ℕ, zero, suc, ◌+◌, ◌-◌, ◌*◌, ◌<◌, ℤ, pos, negsuc, Bool, true, false, cond, List, [], ◌∷◌, ◌++◌, Ok, Err, Option, Some, None, refl, sym, ap, ◌∙◌, subst, arith}
+use Rattle.std.proofs.Common.{◌≡◌, ℕ, zero, suc, ◌+◌, ◌-◌, ◌*◌, ◌<◌, ℤ, pos, negsuc, Bool, true, false, cond, List, [], ◌∷◌, ◌++◌, map, Ok, Err, Option, Some, None, refl, sym, ap, ◌∙◌, subst, arith}
 use Rattle.std.specs.Prelude.{slice_set}
 use Rattle.std.proofs.Math.Path.{fun_ext}
 use Rattle.std.specs.List.{sum}
@@ -13,8 +13,8 @@ use Rattle.gcl_core.specs.declared.answers.Fault.TheVariants.{BadBound}
 use Rattle.gcl_core.specs.declared.answers.Limit.TheVariants.{Turns, Attempts}
 use Rattle.gcl_core.specs.meaning.Blocks.{End, on, failed, fault, limit, by_value, by_truth, by_bound, by_class, statement_in, arm_in, loop_in, value_in, uniform_in}
 use Rattle.gcl_core.specs.meaning.Bounds.{StatementIsWeighed, BlockIsWeighed, ArmsAreWeighed}
-use Rattle.gcl_core.specs.weighing.Fractions.{Fraction, zero_share, plus, times}
-use Rattle.gcl_core.specs.weighing.WeightedEnds.{Weighted, sure, scaled, taken_on, class_weight, no_class_weight, classes_from, weighted_classes, end_weighted, draw_weighted, statement_weighted}
+use Rattle.gcl_core.specs.weighing.Fractions.{Fraction, zero_share, one, plus, times}
+use Rattle.gcl_core.specs.weighing.WeightedEnds.{Weighted, sure, scaled, taken_on, class_weight, no_class_weight, classes_from, weighted_classes}
 use Rattle.gcl_core.proofs.PartialSums.{last_is}
 use Rattle.gcl_core.proofs.Plays.{Play, ended, drawing, block_play}
 use Rattle.cost_law.specs.ExpectedBits.{draw_bits, on_average, Bits, end_bits, then_bits, class_bits, block_bits}
@@ -22,14 +22,16 @@ use Rattle.cost_law.proofs.BlockCosts.{play_bits, play_block}
 use Rattle.cost_law.proofs.DrawBits.{draw_bits_pos}
 use Rattle.numbers.specs.Fraction.{IsEqual}
 use Rattle.numbers.proofs.Divisors.{product_pos, equal_trans}
-use Rattle.table_flow.specs.Tables.{Table, going_on, holds, fails, only, loop_flow, statement_flow, block_flow, arms_flow}
+use Rattle.table_flow.specs.Tables.{Table, holds, fails, only, set_to, set_below, set_drawn, loop_flow, statement_flow, block_flow, arms_flow}
 use Rattle.table_flow.specs.Reached.{ReachedDraws, drawn_each, drawn_bound, loop_draws, statement_draws, block_draws, arms_draws}
+use Rattle.table_flow.proofs.DrawnLists.{all_on, draw_list}
+use Rattle.table_flow.proofs.WeightedParts.{value_weighted, uniform_weighted}
 use Rattle.table_flow.proofs.Draws.{class_pos, no_class_pos}
 use Rattle.table_flow.proofs.Paths.{statement_positive}
-use Rattle.table_flow.proofs.Positive.{Positive, p_taken, p_going, p_scaled, p_only, p_one, p_all}
+use Rattle.table_flow.proofs.Positive.{Positive, p_taken, p_scaled, p_only, p_one, p_all}
 use Rattle.table_flow.proofs.EqualFractions.{equal_plus, equal_times}
 use Rattle.weighing_law.proofs.Shares.{factor_pos}
-use Rattle.cost_fold.proofs.Equal.{plus_assoc, nothing_plus, average_positive, average_append, average_equal, average_nothing, average_scaled, average_within, average_taken, average_sum, average_going, average_guard}
+use Rattle.cost_fold.proofs.Equal.{plus_assoc, nothing_plus, average_positive, average_append, average_equal, average_nothing, average_scaled, average_within, average_taken, average_sum, average_guard}
 
 -- the bits of a draw
 abbrev pub cost_of : ℕ → List ℕ → Fraction
@@ -76,6 +78,12 @@ four a b x y = pair_is _ _ _ _ (omega arith) (omega arith)
 
 plus_turned : (p q : Fraction) → plus p q ≡ plus q p
 plus_turned p q = pair_is _ _ _ _ (omega arith) (omega arith)
+
+-- an entry that counts nothing
+none_first : (w X A : Fraction) → 0 < w.1 → Same X A → Same X (plus (times w zero_share) A)
+none_first w X A h i =
+    let none = times w zero_share in
+    same_trans X A (plus none A) i (same_turn (plus none A) A (subst (λ q. Same q A) (plus_turned A none) (nothing_more A none i.right (product_pos w.1 1 h (omega arith)) (omega arith))))
 
 -- ---- averages
 module _ {A : Type 0} (m : Weighted A) (pm : Positive m) where
@@ -235,46 +243,51 @@ module _ (n r : ℕ) where
       let apart : Goes [] (only (fails v) I) more F = subst (λ q. Same q F) (nothing_plus F) (same_self F (plus_right x F g.left)) in
       same_trans _ (plus F x) _ (goes_both [] (D ++ E) (only (fails v) I) M more F x apart inside) (subst (λ q. Same q (on_average I (λ s. turns v b (suc t) s more))) (plus_turned x F) g)
 
-  -- ---- statements that take each state by itself
+  -- ---- statements of which no other is a part
   module _ (more : State → Fraction) (pm : (s : State) → 0 < (more s).1) where
     abbrev ongoing : End → Fraction
     ongoing e = end_bits e more
 
-    sure_same : (e : End) → Same (on_average (sure e) ongoing) (ongoing e)
-    sure_same e = let x = ongoing e in let h = end_bits_pos e more pm in record { equal = alone x.0 x.1; left = omega (arith, h); right = h }
+    -- where no draw is made
+    goes_on : (N : Table) (x : Fraction) → Same (on_average N more) x → Goes [] N more x
+    goes_on N x h = subst (λ q. Same q x) (nothing_plus (on_average N more)) h
+
+    set_same : (x : ℕ) (v : State → Value) (I : Table) → Positive I →
+        Same (on_average (set_to x v I) more) (on_average I (λ s. by_value (v s) (λ f. end_bits (fault f)) (λ z. end_bits (on (slice_set s x z))) more))
+    set_same x v [] p = same_self zero_share (omega arith)
+    set_same x v (e ∷ I) p = at_head (v e.1) (set_same x v I p.1)
+      where
+        X : Fraction
+        X = on_average (set_to x v I) more
+
+        A : Fraction
+        A = on_average I (λ s. by_value (v s) (λ f. end_bits (fault f)) (λ z. end_bits (on (slice_set s x z))) more)
+
+        at_head : (o : Value) → Same X A →
+            Same (on_average (by_value o (λ f. set_to x v I) (λ z. (e.0, slice_set e.1 x z) ∷ set_to x v I)) more)
+            (plus (times e.0 (by_value o (λ f. end_bits (fault f)) (λ z. end_bits (on (slice_set e.1 x z))) more)) A)
+        at_head (Err f) i = none_first e.0 X A p.0 i
+        at_head (Ok z) i =
+            let m = more (slice_set e.1 x z) in
+            let y = times e.0 m in
+            same_plus y y X A (same_self y (product_pos e.0.1 m.1 p.0 (pm (slice_set e.1 x z)))) i
+
+    seen_same : (v : State → Value) (I : Table) → Positive I →
+        Same (on_average (only (holds v) I) more) (on_average I (λ s. by_value (v s) (λ f. end_bits (fault f)) (λ z. by_truth z (end_bits (on s)) (end_bits failed)) more))
+    seen_same v I p =
+        let H = on_average (only (holds v) I) more in
+        let F = on_average (only (fails v) I) (λ s. zero_share) in
+        let g = guard_same more pm v (λ s. end_bits (on s)) (λ s. end_bits failed) pm (λ s. omega arith) I p in
+        same_trans H (plus H F) _ (same_turn (plus H F) H (nothing_more H F (plus_left H F g.left) (plus_right H F g.left) (average_nothing (only (fails v) I) (λ s. zero_share) (λ s. refl)))) g
+
+    sure_average : {A : Type 0} (g : A → Fraction) (a : A) → 0 < (g a).1 → Same (on_average (sure a) g) (g a)
+    sure_average g a h = let x = g a in record { equal = alone x.0 x.1; left = omega (arith, h); right = h }
       where
         alone : (a b : ℕ) → (1 * a * 1 + 0 * (1 * b)) * b ≡ a * (1 * b * 1)
         alone a b = omega arith
 
-    going_same : (k : State → Weighted End) → ((s : State) → Positive (k s)) → (f : State → Fraction) → ((s : State) → Same (on_average (k s) ongoing) (f s)) → (I : Table) → Positive I →
-        Same (on_average (going_on (taken_on I k)) more) (on_average I f)
-    going_same k pk f h I p =
-        let t = p_taken I k p pk in
-        let T = taken_on I k in
-        let x = on_average (going_on T) more in
-        let y = on_average T ongoing in
-        let z = on_average I (λ s. on_average (k s) ongoing) in
-        let py = average_positive T ongoing t (λ e. end_bits_pos e more pm) in
-        let each = same_average I p (λ s. on_average (k s) ongoing) f h in
-        same_trans x z (on_average I f)
-        (record { equal = equal_trans x y z py (average_going T more) (average_taken I k ongoing); left = average_positive (going_on T) more (p_going T t) pm; right = each.left }) each
-
-    each_goes : (k : State → Weighted End) → ((s : State) → Positive (k s)) → (f : State → Fraction) → ((s : State) → Same (on_average (k s) ongoing) (f s)) → (I : Table) → Positive I →
-        Goes [] (going_on (taken_on I k)) more (on_average I f)
-    each_goes k pk f h I p = subst (λ q. Same q (on_average I f)) (nothing_plus (on_average (going_on (taken_on I k)) more)) (going_same k pk f h I p)
-
-    set_same : (v : Value) (go : ℤ → End) → Same (on_average (by_value v (λ f. sure (fault f)) (λ z. sure (go z))) ongoing) (by_value v (λ f. end_bits (fault f)) (λ z. end_bits (go z)) more)
-    set_same (Ok z) go = sure_same (go z)
-    set_same (Err f) go = sure_same (fault f)
-
-    seen_same : (v : Value) (s : State) → Same (on_average (by_value v (λ f. sure (fault f)) (λ z. by_truth z (sure (on s)) (sure failed))) ongoing)
-        (by_value v (λ f. end_bits (fault f)) (λ z. by_truth z (end_bits (on s)) (end_bits failed)) more)
-    seen_same (Err f) s = sure_same (fault f)
-    seen_same (Ok z) s = by_test (is_zero z)
-      where
-        by_test : (b : Bool) → Same (on_average (cond b (sure failed) (sure (on s))) ongoing) (cond b (end_bits failed) (end_bits (on s)) more)
-        by_test true = sure_same failed
-        by_test false = sure_same (on s)
+    sure_same : (e : End) → Same (on_average (sure e) ongoing) (ongoing e)
+    sure_same e = sure_average ongoing e (end_bits_pos e more pm)
 
     -- ---- a uniform draw
     abbrev bound_bits : Value → Fraction
@@ -290,7 +303,7 @@ module _ (n r : ℕ) where
     none_and e q = subst (λ x. Same x zero_share) (nothing_plus (on_average (sure e) ongoing)) (subst (Same (on_average (sure e) ongoing)) q (sure_same e))
 
     drawn_same : (x : ℕ) (v : Value) (s : State) →
-        Same (plus (bound_bits v) (on_average (value_in sure end_weighted v (λ z. uniform_in sure end_weighted (draw_weighted (Some r)) x z s)) ongoing))
+        Same (plus (bound_bits v) (on_average (value_weighted v (λ z. uniform_weighted (Some r) x z s)) ongoing))
         (value_in end_bits then_bits v (λ z. uniform_in end_bits then_bits (class_bits r) x z s) more)
     drawn_same x (Err f) s = none_and (fault f) refl
     drawn_same x (Ok (pos zero)) s = none_and (fault BadBound) refl
@@ -317,31 +330,112 @@ module _ (n r : ℕ) where
         A : Fraction
         A = on_average I (λ s. bound_bits (v s))
 
-        no_draw : Same X A → Same X (plus (times e.0 zero_share) A)
-        no_draw i =
-            let none = times e.0 zero_share in
-            same_trans X A (plus none A) i (same_turn (plus none A) A (subst (λ q. Same q A) (plus_turned A none) (nothing_more A none i.right (product_pos e.0.1 1 p.0 (omega arith)) (omega arith))))
-
         at_head : (o : Value) → Same X A → Same (on_average (by_value o (λ f. []) (λ z. by_bound z [] (λ m. (e.0, uniform_ends m) ∷ [])) ++ drawn_bound v I) cost) (plus (times e.0 (bound_bits o)) A)
-        at_head (Err f) i = no_draw i
-        at_head (Ok (pos zero)) i = no_draw i
-        at_head (Ok (negsuc m)) i = no_draw i
+        at_head (Err f) i = none_first e.0 X A p.0 i
+        at_head (Ok (pos zero)) i = none_first e.0 X A p.0 i
+        at_head (Ok (negsuc m)) i = none_first e.0 X A p.0 i
         at_head (Ok (pos (suc m))) i =
             let x = times e.0 (cost (uniform_ends (suc m))) in
             same_plus x x X A (same_self x (product_pos e.0.1 (cost (uniform_ends (suc m))).1 p.0 (draw_bits_pos (uniform_ends (suc m)) r))) i
 
-    uniform_goes : (x : ℕ) (v : State → Value) → ((s : State) → Positive (value_in sure end_weighted (v s) (λ z. uniform_in sure end_weighted (draw_weighted (Some r)) x z s))) → (I : Table) → Positive I →
-        Goes (drawn_bound v I) (going_on (taken_on I (λ s. value_in sure end_weighted (v s) (λ z. uniform_in sure end_weighted (draw_weighted (Some r)) x z s)))) more
-        (on_average I (λ s. value_in end_bits then_bits (v s) (λ z. uniform_in end_bits then_bits (class_bits r) x z s) more))
+    abbrev sum_below : ℕ → (ℕ → Fraction) → Fraction
+    sum_below zero F = zero_share
+    sum_below (suc m) F = plus (sum_below m F) (F m)
+
+    sum_below_pos : (m : ℕ) (F : ℕ → Fraction) → ((i : ℕ) → 0 < (F i).1) → 0 < (sum_below m F).1
+    sum_below_pos zero F h = omega arith
+    sum_below_pos (suc m) F h = product_pos (sum_below m F).1 (F m).1 (sum_below_pos m F h) (h m)
+
+    -- what is read after each number below m
+    abbrev numbers : ℕ → ℕ → State → Fraction
+    numbers x m s = sum_below m (λ i. more (slice_set s x (pos i)))
+
+    numbers_pos : (x m : ℕ) (s : State) → 0 < (numbers x m s).1
+    numbers_pos x m s = sum_below_pos m (λ i. more (slice_set s x (pos i))) (λ i. pm (slice_set s x (pos i)))
+
+    moved_average : (x : ℕ) (z : ℤ) (J : Table) → on_average (map (λ e. (e.0, slice_set e.1 x z)) J) more ≡ on_average J (λ s. more (slice_set s x z))
+    moved_average x z [] = refl
+    moved_average x z (e ∷ J) = ap (plus (times e.0 (more (slice_set e.1 x z)))) (moved_average x z J)
+
+    below_same : (x m : ℕ) (J : Table) → Positive J → Same (on_average (set_below x m J) more) (on_average J (numbers x m))
+    below_same x zero J p = none_same (on_average J (λ s. zero_share)) (average_nothing J (λ s. zero_share) (λ s. refl)) (average_positive J (λ s. zero_share) p (λ s. omega arith))
+    below_same x (suc m) J p =
+        let T = on_average (set_below x m J) more in
+        let G = λ (s : State). more (slice_set s x (pos m)) in
+        let pG = λ (s : State). pm (slice_set s x (pos m)) in
+        let next = on_average J G in
+        subst (λ q. Same q (on_average J (numbers x (suc m)))) (sym (average_append (set_below x m J) (map (λ e. (e.0, slice_set e.1 x (pos m))) J) more ∙ ap (plus T) (moved_average x (pos m) J)))
+        (same_trans (plus T next) (plus (on_average J (numbers x m)) next) (on_average J (numbers x (suc m)))
+        (same_plus T (on_average J (numbers x m)) next next (below_same x m J p) (same_self next (average_positive J G p pG))) (same_sum J p (numbers x m) G (numbers_pos x m) pG))
+
+    -- a table by one weight
+    part_same : (x m : ℕ) (u : Fraction) → 0 < u.1 → (J : Table) → Positive J → Same (on_average (set_below x m (scaled u J)) more) (on_average J (λ s. times u (numbers x m s)))
+    part_same x m u h J p =
+        same_trans _ (on_average (scaled u J) (numbers x m)) _ (below_same x m (scaled u J) (p_scaled u J h p)) (same_scaled J p u h (numbers x m) (numbers_pos x m))
+
+    on_average_on : (J : Table) → on_average (all_on J) ongoing ≡ on_average J more
+    on_average_on [] = refl
+    on_average_on (e ∷ J) = ap (plus (times e.0 (more e.1))) (on_average_on J)
+
+    stop_none : (l : Fraction) → (on_average (scaled l (sure (limit Attempts))) ongoing).0 ≡ 0
+    stop_none (zero, d) = refl
+    stop_none (suc n, d) = omega arith
+
+    -- a draw of bound m from a state
+    draw_same : (x m : ℕ) (s : State) → Same (on_average (uniform_weighted (Some r) x (pos (suc m)) s) ongoing) (times (class_weight (suc m) (Some r) 1) (numbers x (suc m) s))
+    draw_same x m s =
+        let u = class_weight (suc m) (Some r) 1 in
+        let l = no_class_weight (suc m) (Some r) in
+        let pu = class_pos (suc m) (Some r) 1 (omega arith) in
+        let J = set_below x (suc m) (scaled u (sure s)) in
+        let T = on_average J more in
+        let stop = on_average (scaled l (sure (limit Attempts))) ongoing in
+        let some = average_positive (scaled l (sure (limit Attempts))) ongoing (p_scaled l (sure (limit Attempts)) (no_class_pos (suc m) (Some r)) (omega arith, tt)) (λ e. end_bits_pos e more pm) in
+        let y = times u (numbers x (suc m) s) in
+        let py = product_pos u.1 (numbers x (suc m) s).1 pu (numbers_pos x (suc m) s) in
+        let each = same_trans T _ y (part_same x (suc m) u pu (sure s) (omega arith, tt)) (sure_average (λ s. times u (numbers x (suc m) s)) s py) in
+        subst (λ q. Same q y) (sym (ap (λ l. on_average l ongoing) (draw_list x s (suc m) (Some r)) ∙ average_append (all_on J) (scaled l (sure (limit Attempts))) ongoing ∙ ap (λ q. plus q stop) (on_average_on J)))
+        (same_trans (plus T stop) T y (nothing_more T stop each.left some (stop_none l)) each)
+
+    drawn_average : (x : ℕ) (v : State → Value) (I : Table) → Positive I → Same (on_average (set_drawn x v (Some r) I) more) (on_average I (λ s. on_average (value_weighted (v s) (λ z. uniform_weighted (Some r) x z s)) ongoing))
+    drawn_average x v [] p = same_self zero_share (omega arith)
+    drawn_average x v (e ∷ I) p =
+        subst (λ q. Same q (on_average (e ∷ I) (λ s. on_average (value_weighted (v s) (λ z. uniform_weighted (Some r) x z s)) ongoing))) (sym (average_append (by_value (v e.1) (λ f. []) goes) (set_drawn x v (Some r) I) more))
+        (same_plus _ _ _ _ (by_state (v e.1)) (drawn_average x v I p.1))
+      where
+        goes : ℤ → Table
+        goes z = by_bound z [] (λ m. set_below x m (scaled (class_weight m (Some r) 1) (e ∷ [])))
+
+        ends : (y : End) → ongoing y ≡ zero_share → Same zero_share (times e.0 (on_average (sure y) ongoing))
+        ends y q = subst (λ f. Same zero_share (times e.0 (plus (times one f) zero_share))) (sym q) (none_same _ (omega arith) (product_pos e.0.1 1 p.0 (omega arith)))
+
+        by_sign : (z : ℤ) → Same (on_average (goes z) more) (times e.0 (on_average (uniform_weighted (Some r) x z e.1) ongoing))
+        by_sign (pos zero) = ends (fault BadBound) refl
+        by_sign (negsuc m) = ends (fault BadBound) refl
+        by_sign (pos (suc m)) =
+            let u = class_weight (suc m) (Some r) 1 in
+            let d = draw_same x m e.1 in
+            let y = times u (numbers x (suc m) e.1) in
+            let w = times e.0 y in
+            let pw = product_pos e.0.1 y.1 p.0 d.right in
+            same_trans _ w _
+            (same_trans _ (plus w zero_share) w (part_same x (suc m) u (class_pos (suc m) (Some r) 1 (omega arith)) (e ∷ []) (p.0, tt)) (nothing_more w zero_share pw (omega arith) refl))
+            (same_times e.0 y _ p.0 (same_turn _ y d))
+
+        by_state : (o : Value) → Same (on_average (by_value o (λ f. []) goes) more) (times e.0 (on_average (value_weighted o (λ z. uniform_weighted (Some r) x z e.1)) ongoing))
+        by_state (Ok z) = by_sign z
+        by_state (Err f) = ends (fault f) refl
+
+    uniform_goes : (x : ℕ) (v : State → Value) → ((s : State) → Positive (value_weighted (v s) (λ z. uniform_weighted (Some r) x z s))) → (I : Table) → Positive I →
+        Goes (drawn_bound v I) (set_drawn x v (Some r) I) more (on_average I (λ s. value_in end_bits then_bits (v s) (λ z. uniform_in end_bits then_bits (class_bits r) x z s) more))
     uniform_goes x v pk I p =
-        let k = λ (s : State). value_in sure end_weighted (v s) (λ z. uniform_in sure end_weighted (draw_weighted (Some r)) x z s) in
-        let g = λ (s : State). on_average (k s) ongoing in
+        let g = λ (s : State). on_average (value_weighted (v s) (λ z. uniform_weighted (Some r) x z s)) ongoing in
         let f = λ (s : State). bound_bits (v s) in
-        let pg = λ (s : State). average_positive (k s) ongoing (pk s) (λ e. end_bits_pos e more pm) in
+        let pg = λ (s : State). average_positive (value_weighted (v s) (λ z. uniform_weighted (Some r) x z s)) ongoing (pk s) (λ e. end_bits_pos e more pm) in
         let D = on_average (drawn_bound v I) cost in
-        let N = on_average (going_on (taken_on I k)) more in
+        let N = on_average (set_drawn x v (Some r) I) more in
         let all = λ (s : State). value_in end_bits then_bits (v s) (λ z. uniform_in end_bits then_bits (class_bits r) x z s) more in
-        same_trans (plus D N) (plus (on_average I f) (on_average I g)) (on_average I all) (same_plus D (on_average I f) N (on_average I g) (bound_draws v I p) (going_same k pk g (λ s. same_self (g s) (pg s)) I p))
+        same_trans (plus D N) (plus (on_average I f) (on_average I g)) (on_average I all) (same_plus D (on_average I f) N (on_average I g) (bound_draws v I p) (drawn_average x v I p))
         (same_trans (plus (on_average I f) (on_average I g)) (on_average I (λ s. plus (f s) (g s))) (on_average I all) (same_sum I p f g (λ s. bound_bits_pos (v s)) pg) (same_average I p (λ s. plus (f s) (g s)) all (λ s. drawn_same x (v s) s)))
 
     -- ---- choices
@@ -400,11 +494,9 @@ module _ (n r : ℕ) where
 
   mutual
     statement_goes : (st : Statement) → StatementIsWeighed st → GoesStatement st
-    statement_goes Skip w I p more pm = each_goes more pm (statement_weighted n (Some r) Skip) (λ s. statement_positive n (Some r) Skip s w) (λ s. more s) (λ s. sure_same more pm (on s)) I p
-    statement_goes (Set x e) w I p more pm =
-        each_goes more pm (statement_weighted n (Some r) (Set x e)) (λ s. statement_positive n (Some r) (Set x e) s w) (λ s. statement_bits (Set x e) s more) (λ s. set_same more pm (value_of e s) (λ z. on (slice_set s x z))) I p
-    statement_goes (Observe e) w I p more pm =
-        each_goes more pm (statement_weighted n (Some r) (Observe e)) (λ s. statement_positive n (Some r) (Observe e) s w) (λ s. statement_bits (Observe e) s more) (λ s. seen_same more pm (value_of e s) s) I p
+    statement_goes Skip w I p more pm = goes_on more pm I (on_average I more) (same_self (on_average I more) (average_positive I more p pm))
+    statement_goes (Set x e) w I p more pm = goes_on more pm (set_to x (value_of e) I) _ (set_same more pm x (value_of e) I p)
+    statement_goes (Observe e) w I p more pm = goes_on more pm (only (holds (value_of e)) I) _ (seen_same more pm (value_of e) I p)
     statement_goes (Uniform x e) w I p more pm = uniform_goes more pm x (value_of e) (λ s. statement_positive n (Some r) (Uniform x e) s w) I p
     statement_goes (If e a b) w I p more pm =
         let A = only (holds (value_of e)) I in
@@ -455,7 +547,7 @@ module _ (n r : ℕ) where
     statement_goes (While e a) w I p more pm = loop_goes (value_of e) a w (block_goes a w) n I p more pm
 
     pub block_goes : (b : Statements) → BlockIsWeighed b → GoesBlock b
-    block_goes done w I p more pm = let x = on_average I more in subst (λ q. Same q x) (nothing_plus x) (same_self x (average_positive I more p pm))
+    block_goes done w I p more pm = goes_on more pm I (on_average I more) (same_self (on_average I more) (average_positive I more p pm))
     block_goes (st ▸ b) w I p more pm =
         let k = λ (s : State). block_bits n r b s more in
         let pk = λ (s : State). block_positive b s more pm in

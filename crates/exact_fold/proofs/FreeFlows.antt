@@ -5,12 +5,13 @@ use Rattle.gcl_core.specs.meaning.Arms.{parts_of}
 use Rattle.gcl_core.specs.meaning.Syntax.{Statement, Skip, Set, If, While, Choice, Choose, Uniform, Observe, Statements, done, ◌▸◌, ArmList, no_arm, arm}
 use Rattle.gcl_core.specs.meaning.Blocks.{End, on, failed, fault, limit, by_value}
 use Rattle.gcl_core.specs.meaning.Value.{State, Value, value_of}
-use Rattle.gcl_core.specs.weighing.WeightedEnds.{Weighted, scaled, taken_on, class_weight, statement_weighted}
-use Rattle.table_flow.specs.Tables.{Table, gone, faults, holds, fails, only, statement_flow, block_flow, arms_flow}
+use Rattle.gcl_core.specs.weighing.WeightedEnds.{Weighted, scaled, class_weight}
+use Rattle.table_flow.specs.Tables.{Table, faults, holds, fails, only, statement_flow, block_flow, arms_flow}
+use Rattle.table_flow.proofs.Linear.{NoOn, no_one}
 use Rattle.unlimited_law.specs.LoopFree.{StatementFree, BlockFree, ArmsFree}
 use Rattle.exact_fold.specs.Loops.{one_loops, any_loops, arm_loops}
 use Rattle.exact_fold.specs.inner.Settled.{AreUnlimited}
-use Rattle.exact_fold.proofs.Unlimited.{skip_unlimited, set_unlimited, observe_unlimited, draw_unlimited}
+use Rattle.exact_fold.proofs.Unlimited.{observe_unlimited, draw_unlimited}
 
 -- ---- no loop
 neither : (a b : Bool) → cond a true b ≡ false → (a ≡ false) × (b ≡ false)
@@ -58,12 +59,12 @@ stopped_append : (m o : Weighted End) → AreStopped m → AreStopped o → AreS
 stopped_append [] o h k = k
 stopped_append (e ∷ m) o h k = (h.0, stopped_append m o h.1 k)
 
-stopped_gone : (m : Weighted End) → AreUnlimited (gone m) → AreStopped (gone m)
-stopped_gone [] h = tt
-stopped_gone ((w, on s) ∷ m) h = stopped_gone m h
-stopped_gone ((w, failed) ∷ m) h = (tt, stopped_gone m h.1)
-stopped_gone ((w, fault f) ∷ m) h = (tt, stopped_gone m h.1)
-stopped_gone ((w, limit l) ∷ m) h = absurd h.0
+stopped_of : (m : Weighted End) → NoOn m → AreUnlimited m → AreStopped m
+stopped_of [] n h = tt
+stopped_of ((w, on s) ∷ m) n h = absurd n
+stopped_of ((w, failed) ∷ m) n h = (tt, stopped_of m n h.1)
+stopped_of ((w, fault f) ∷ m) n h = (tt, stopped_of m n h.1)
+stopped_of ((w, limit l) ∷ m) n h = absurd h.0
 
 stopped_faults : (v : State → Value) (I : Table) → AreStopped (faults v I)
 stopped_faults v [] = tt
@@ -76,10 +77,10 @@ stopped_faults v (e ∷ I) = at_head (v e.1) (stopped_faults v I)
 module _ (n : ℕ) where
   mutual
     one_stopped : (s : Statement) → StatementFree s → (I : Table) → AreStopped (statement_flow n None s I).ended
-    one_stopped Skip h I = stopped_gone (taken_on I (statement_weighted 0 None Skip)) (skip_unlimited I)
-    one_stopped (Set x e) h I = stopped_gone (taken_on I (statement_weighted 0 None (Set x e))) (set_unlimited x e I)
-    one_stopped (Observe e) h I = stopped_gone (taken_on I (statement_weighted 0 None (Observe e))) (observe_unlimited e I)
-    one_stopped (Uniform x e) h I = stopped_gone (taken_on I (statement_weighted 0 None (Uniform x e))) (draw_unlimited x e I)
+    one_stopped Skip h I = tt
+    one_stopped (Set x e) h I = stopped_faults (value_of e) I
+    one_stopped (Observe e) h I = stopped_of _ (no_one n None (Observe e) I) (observe_unlimited e I)
+    one_stopped (Uniform x e) h I = stopped_of _ (no_one n None (Uniform x e) I) (draw_unlimited x e I)
     one_stopped (If e a c) h I =
         stopped_append _ _ (stopped_faults (value_of e) I)
         (stopped_append _ _ (free_stopped a h.0 (only (holds (value_of e)) I)) (free_stopped c h.1 (only (fails (value_of e)) I)))

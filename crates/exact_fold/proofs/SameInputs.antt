@@ -7,25 +7,30 @@ use Rattle.gcl_core.specs.meaning.Blocks.{End}
 use Rattle.gcl_core.specs.meaning.Syntax.{Statement, Skip, Set, If, While, Choice, Choose, Uniform, Observe, Statements, done, ◌▸◌, ArmList, no_arm, arm}
 use Rattle.gcl_core.specs.meaning.Value.{State, Value, value_of}
 use Rattle.gcl_core.specs.weighing.Fractions.{Fraction, zero_share}
-use Rattle.gcl_core.specs.weighing.WeightedEnds.{Weighted, scaled, taken_on, class_weight, statement_weighted}
-use Rattle.table_flow.specs.Tables.{Table, going_on, gone, holds, fails, only, faults}
-use Rattle.table_flow.proofs.Positive.{Positive, p_one}
-use Rattle.unlimited_law.specs.Alike.{AreFractions, Alike}
-use Rattle.unlimited_law.specs.Settling.{Outflow, IsOutflow, LoopSettles, StatementSettles, BlockSettles, ArmsSettle}
+use Rattle.gcl_core.specs.weighing.WeightedEnds.{Weighted, scaled, class_weight, statement_weighted}
+use Rattle.table_flow.specs.Tables.{Table, holds, fails, only, faults, statement_flow}
+use Rattle.table_flow.proofs.Linear.{no_one}
+use Rattle.table_flow.proofs.Positive.{p_one}
+use Rattle.unlimited_law.specs.Alike.{Alike}
+use Rattle.unlimited_law.specs.Settling.{Outflow, IsOutflow, SettlesAlone, LoopSettles, StatementSettles, BlockSettles, ArmsSettle}
+use Rattle.unlimited_law.proofs.Numbers.{Rational, ◌≃◌}
+use Rattle.unlimited_law.proofs.Integrals.{integral}
+use Rattle.unlimited_law.proofs.FlowIntegrals.{counted, skip_counted, set_counted, seen_counted, drawn_counted}
 use Rattle.unlimited_law.proofs.BlockLimits.{all_fractions, all_positive, behind_fractions}
 use Rattle.unlimited_law.proofs.Likeness.{alike_trans}
-use Rattle.exact_fold.proofs.SameLists.{alike_refl, alike_append, alike_scaled, alike_going, alike_gone, alike_only, alike_faults}
+use Rattle.exact_fold.proofs.SameLists.{alike_refl, alike_append, alike_scaled, alike_next, alike_ended, alike_only, alike_faults}
 
 pub outflow_from : (f : Outflow) (after after' : Table) (gone gone' : Weighted End) (cost : Fraction) → Alike after after' → Alike gone gone' → IsOutflow Alike Alike f after gone cost → IsOutflow Alike Alike f after' gone' cost
 outflow_from f after after' gone gone' cost a e o = record { next = alike_trans f.next after after' o.next a; ended = alike_trans f.ended gone gone' o.ended e; turns = o.turns; fraction = o.fraction }
 
--- what goes on, and what is gone, of one step of each entry
-alone_from : (st : Statement) (step : State → Weighted End) (I K : Table) (f : Outflow) → ((J : Table) → Positive J → AreFractions (going_on (taken_on J step)) × AreFractions (gone (taken_on J step))) → Alike I K →
-    IsOutflow Alike Alike f (going_on (taken_on I step)) (gone (taken_on I step)) zero_share → IsOutflow Alike Alike f (going_on (taken_on K step)) (gone (taken_on K step)) zero_share
-alone_from st step I K f p h o =
-    let i = p I (all_positive I h.first) in
-    let k = p K (all_positive K h.second) in
-    outflow_from f _ _ _ _ zero_share (alike_going h step i.0 k.0) (alike_gone h step i.1 k.1) o
+-- a statement of which no other is a part
+alone_from : (st : Statement) → StatementIsWeighed st → ((H : End → Rational) (J : Table) → integral (λ s. integral H (statement_weighted 0 None st s)) J ≃ counted H (statement_flow 0 None st J).next (statement_flow 0 None st J).ended) →
+    (I K : Table) (f : Outflow) → Alike I K → SettlesAlone Alike Alike st I f → SettlesAlone Alike Alike st K f
+alone_from st w same I K f h o =
+    let i = p_one 0 None st I w (all_positive I h.first) in
+    let k = p_one 0 None st K w (all_positive K h.second) in
+    outflow_from f _ _ _ _ zero_share (alike_next h (statement_weighted 0 None st) (statement_flow 0 None st) same (all_fractions _ i.next) (all_fractions _ k.next))
+    (alike_ended h (statement_weighted 0 None st) (statement_flow 0 None st) same (no_one 0 None st I) (no_one 0 None st K) (all_fractions _ i.ended) (all_fractions _ k.ended)) o
 
 -- two lists after one that weighs the same
 pub ends_from : (x y m : Weighted End) {J : Weighted End} → Alike x y → Alike J (x ++ m) → Alike (x ++ m) (y ++ m)
@@ -40,10 +45,10 @@ loop_from guard Body I K f h o =
 
 mutual
   pub statement_from : (st : Statement) → StatementIsWeighed st → (I K : Table) (f : Outflow) → Alike I K → StatementSettles Alike Alike st I f → StatementSettles Alike Alike st K f
-  statement_from Skip w I K f h o = alone_from Skip (statement_weighted 0 None Skip) I K f (λ J p. let q = p_one 0 None Skip J w p in (all_fractions _ q.next, all_fractions _ q.ended)) h o
-  statement_from (Set x e) w I K f h o = alone_from (Set x e) (statement_weighted 0 None (Set x e)) I K f (λ J p. let q = p_one 0 None (Set x e) J w p in (all_fractions _ q.next, all_fractions _ q.ended)) h o
-  statement_from (Observe e) w I K f h o = alone_from (Observe e) (statement_weighted 0 None (Observe e)) I K f (λ J p. let q = p_one 0 None (Observe e) J w p in (all_fractions _ q.next, all_fractions _ q.ended)) h o
-  statement_from (Uniform x e) w I K f h o = alone_from (Uniform x e) (statement_weighted 0 None (Uniform x e)) I K f (λ J p. let q = p_one 0 None (Uniform x e) J w p in (all_fractions _ q.next, all_fractions _ q.ended)) h o
+  statement_from Skip w I K f h o = alone_from Skip w skip_counted I K f h o
+  statement_from (Set x e) w I K f h o = alone_from (Set x e) w (λ H J. set_counted H x (value_of e) J) I K f h o
+  statement_from (Observe e) w I K f h o = alone_from (Observe e) w (λ H J. seen_counted H (value_of e) J) I K f h o
+  statement_from (Uniform x e) w I K f h o = alone_from (Uniform x e) w (λ H J. drawn_counted H x (value_of e) J) I K f h o
   statement_from (If e a c) w I K f h o =
       let v = value_of e in
       let g = o.0 in

@@ -4,13 +4,15 @@ use Rattle.gcl_core.specs.meaning.Value.{State, Value}
 use Rattle.gcl_core.specs.meaning.Blocks.{End, on, failed, fault, limit, by_value}
 use Rattle.gcl_core.specs.weighing.Fractions.{Fraction}
 use Rattle.gcl_core.specs.weighing.Mass.{sum_of}
-use Rattle.gcl_core.specs.weighing.WeightedEnds.{Weighted, scaled, taken_on}
-use Rattle.table_flow.specs.Tables.{Table, going_on, gone, only, faults}
+use Rattle.gcl_core.specs.weighing.WeightedEnds.{Weighted, scaled}
+use Rattle.table_flow.specs.Tables.{Table, Flow, only, faults}
+use Rattle.table_flow.proofs.Linear.{NoOn}
 use Rattle.unlimited_law.specs.Alike.{AreFractions, Alike}
-use Rattle.unlimited_law.proofs.Numbers.{Rational, ◌⊕◌, ◌⊗◌, ◌≃◌, nought, same_refl, same_sym, same_trans, add_same, times_same, times_nought, nought_add}
+use Rattle.unlimited_law.proofs.Numbers.{Rational, ◌⊕◌, ◌⊗◌, ◌≃◌, nought, same_refl, same_sym, same_trans, add_same, times_same, times_nought, nought_add, add_nought}
 use Rattle.unlimited_law.proofs.FractionNumbers.{of, equal_of}
 use Rattle.weighing_law.proofs.Shares.{product_pos}
-use Rattle.unlimited_law.proofs.Integrals.{integral, integral_append, integral_scaled, integral_taken, stop}
+use Rattle.unlimited_law.proofs.Integrals.{integral, integral_append, integral_same, integral_nought, integral_scaled, stop}
+use Rattle.unlimited_law.proofs.FlowIntegrals.{counted}
 use Rattle.unlimited_law.proofs.BlockLimits.{behind_fractions}
 use Rattle.unlimited_law.proofs.ByState.{append_fractions, kept_fractions}
 use Rattle.unlimited_law.proofs.Covers.{sign, integral_kept}
@@ -53,39 +55,43 @@ alike_scaled w {m} {o} h k =
     alike_of (scaled w m) (scaled w o) (fractions_scaled w m h k.first) (fractions_scaled w o h k.second)
     (λ F. same_trans (integral_scaled w F m) (same_trans (times_same (of w) (alike_integral m o k F)) (same_sym (integral_scaled w F o))))
 
--- ---- what goes on, and what is gone
-no_part : (w : Fraction) (x y : Rational) → x ≃ y → of w ⊗ nought ⊕ x ≃ y
-no_part w x y e = same_trans (add_same (times_nought (of w)) e) (nought_add y)
-
+-- ---- the flow of a statement
 abbrev going : (State → Rational) → End → Rational
 going F (on s) = F s
 going F failed = nought
 going F (fault f) = nought
 going F (limit l) = nought
 
-integral_going : (F : State → Rational) (m : Weighted End) → integral F (going_on m) ≃ integral (going F) m
-integral_going F [] = same_refl nought
-integral_going F ((w, on s) ∷ m) = add_same (same_refl (of w ⊗ F s)) (integral_going F m)
-integral_going F ((w, failed) ∷ m) = same_sym (no_part w _ _ (same_sym (integral_going F m)))
-integral_going F ((w, fault f) ∷ m) = same_sym (no_part w _ _ (same_sym (integral_going F m)))
-integral_going F ((w, limit l) ∷ m) = same_sym (no_part w _ _ (same_sym (integral_going F m)))
+stop_going : (F : State → Rational) (e : End) → stop (going F) e ≃ nought
+stop_going F (on s) = same_refl nought
+stop_going F failed = same_refl nought
+stop_going F (fault f) = same_refl nought
+stop_going F (limit l) = same_refl nought
 
-integral_gone : (F : End → Rational) (m : Weighted End) → integral F (gone m) ≃ integral (stop F) m
-integral_gone F [] = same_refl nought
-integral_gone F ((w, on s) ∷ m) = same_sym (no_part w _ _ (same_sym (integral_gone F m)))
-integral_gone F ((w, failed) ∷ m) = add_same (same_refl (of w ⊗ F failed)) (integral_gone F m)
-integral_gone F ((w, fault f) ∷ m) = add_same (same_refl (of w ⊗ F (fault f))) (integral_gone F m)
-integral_gone F ((w, limit l) ∷ m) = add_same (same_refl (of w ⊗ F (limit l))) (integral_gone F m)
+counted_next : (F : State → Rational) (next : Table) (ended : Weighted End) → counted (going F) next ended ≃ integral F next
+counted_next F next ended =
+    same_trans (add_same (same_refl (integral F next)) (same_trans (integral_same (stop (going F)) (λ e. nought) ended (stop_going F)) (integral_nought ended))) (add_nought (integral F next))
 
-module _ {I K : Table} (h : Alike I K) (step : State → Weighted End) where
-  taken_same : (F : End → Rational) → integral F (taken_on I step) ≃ integral F (taken_on K step)
-  taken_same F = same_trans (integral_taken F I step) (same_trans (alike_integral I K h (λ s. integral F (step s))) (same_sym (integral_taken F K step)))
+stop_ended : (F : End → Rational) (m : Weighted End) → NoOn m → integral (stop (stop F)) m ≃ integral F m
+stop_ended F [] h = same_refl nought
+stop_ended F ((w, on s) ∷ m) h = absurd h
+stop_ended F ((w, failed) ∷ m) h = add_same (same_refl (of w ⊗ F failed)) (stop_ended F m h)
+stop_ended F ((w, fault f) ∷ m) h = add_same (same_refl (of w ⊗ F (fault f))) (stop_ended F m h)
+stop_ended F ((w, limit l) ∷ m) h = add_same (same_refl (of w ⊗ F (limit l))) (stop_ended F m h)
 
-  pub alike_going : AreFractions (going_on (taken_on I step)) → AreFractions (going_on (taken_on K step)) → Alike (going_on (taken_on I step)) (going_on (taken_on K step))
-  alike_going f g = alike_of _ _ f g (λ F. same_trans (integral_going F (taken_on I step)) (same_trans (taken_same (going F)) (same_sym (integral_going F (taken_on K step)))))
+counted_ended : (F : End → Rational) (next : Table) (ended : Weighted End) → NoOn ended → counted (stop F) next ended ≃ integral F ended
+counted_ended F next ended h = same_trans (add_same (integral_nought next) (stop_ended F ended h)) (nought_add (integral F ended))
 
-  pub alike_gone : AreFractions (gone (taken_on I step)) → AreFractions (gone (taken_on K step)) → Alike (gone (taken_on I step)) (gone (taken_on K step))
-  alike_gone f g = alike_of _ _ f g (λ F. same_trans (integral_gone F (taken_on I step)) (same_trans (taken_same (stop F)) (same_sym (integral_gone F (taken_on K step)))))
+-- of tables that weigh the same, where it counts what each entry counts by itself
+module _ {I K : Table} (h : Alike I K) (step : State → Weighted End) (flow : Table → Flow) (same : (H : End → Rational) (J : Table) → integral (λ s. integral H (step s)) J ≃ counted H (flow J).next (flow J).ended) where
+  flow_same : (H : End → Rational) → counted H (flow I).next (flow I).ended ≃ counted H (flow K).next (flow K).ended
+  flow_same H = same_trans (same_sym (same H I)) (same_trans (alike_integral I K h (λ s. integral H (step s))) (same H K))
+
+  pub alike_next : AreFractions (flow I).next → AreFractions (flow K).next → Alike (flow I).next (flow K).next
+  alike_next f g = alike_of _ _ f g (λ F. same_trans (same_sym (counted_next F (flow I).next (flow I).ended)) (same_trans (flow_same (going F)) (counted_next F (flow K).next (flow K).ended)))
+
+  pub alike_ended : NoOn (flow I).ended → NoOn (flow K).ended → AreFractions (flow I).ended → AreFractions (flow K).ended → Alike (flow I).ended (flow K).ended
+  alike_ended n o f g = alike_of _ _ f g (λ F. same_trans (same_sym (counted_ended F (flow I).next (flow I).ended n)) (same_trans (flow_same (stop F)) (counted_ended F (flow K).next (flow K).ended o)))
 
 -- ---- a guard
 pub alike_only : (test : State → Bool) {I K : Table} → Alike I K → Alike (only test I) (only test K)

@@ -1,5 +1,5 @@
 -- One statement of a fold is one step, and why a step is refused.
-use Rattle.std.proofs.Common.{◌≡◌, ℕ, ◌+◌, ◌≤◌, ◌<◌, Bool, true, false, not, cond, List, [], ◌∷◌, ◌++◌, Ok, Err, Option, slice_set, length, drop, refl, sym, ap, ◌∙◌, subst, arith}
+use Rattle.std.proofs.Common.{◌≡◌, ℕ, ◌+◌, ◌≤◌, ◌<◌, List, [], ◌∷◌, ◌++◌, Option, length, drop, refl, sym, ap, ◌∙◌, subst, arith}
 use Rattle.std.specs.Map.{keys_of}
 use Rattle.std.specs.List.Sorted.{IsStrictlySortedBy}
 use Rattle.std.proofs.Math.ListN.{drop_of_length-le}
@@ -7,15 +7,15 @@ use Rattle.gcl_core.specs.declared.syntax.Stmt.{Stmt}
 use Rattle.gcl_core.specs.meaning.Views.{list_of}
 use Rattle.gcl_core.specs.meaning.Syntax.{Expression, Statement, Skip, Set, If, Uniform, Observe, Statements, done, ◌▸◌}
 use Rattle.gcl_core.specs.meaning.Bounds.{StatementIsWeighed, BlockIsWeighed}
-use Rattle.gcl_core.specs.meaning.Value.{State, Value, value_of, is_zero}
-use Rattle.gcl_core.specs.meaning.Blocks.{End, on, failed, fault, by_value}
+use Rattle.gcl_core.specs.meaning.Value.{State, Value, value_of}
+use Rattle.gcl_core.specs.meaning.Blocks.{End, failed}
 use Rattle.gcl_core.specs.weighing.Fractions.{Fraction}
-use Rattle.gcl_core.specs.weighing.WeightedEnds.{Weighted, sure, taken_on, statement_weighted}
-use Rattle.table_flow.specs.Tables.{Table, Flow, going_on, gone, holds, fails, only, faults, each, statement_flow, block_flow, states}
+use Rattle.gcl_core.specs.weighing.WeightedEnds.{Weighted}
+use Rattle.table_flow.specs.Tables.{Table, Flow, holds, fails, only, faults, all_end, set_to, statement_flow, block_flow, states}
 use Rattle.table_flow.specs.Scale.{Wholes, TablesWithin, Within, amount, weight}
 use Rattle.table_flow.specs.Counts.{moved, stopped, kept_if, none_kept, none_stopped, all_kept, all_stopped, part_at, rest_at, drawn, undrawn, multiplied}
-use Rattle.table_flow.proofs.Amounts.{amount_append, amount_only, amount_faults, at_on, at_gone, amount_going, amount_gone, amount_each, amount_ext, tables_first, tables_second, ends_first, ends_second, all_first, all_second, both_first, both_second, regroup}
-use Rattle.table_flow.proofs.Kept.{kept_one, kept_all, guard_weight, set_end, set_sure, seen_end, seen_sure}
+use Rattle.table_flow.proofs.Amounts.{amount_append, amount_only, amount_faults, amount_all_end, amount_set, amount_none, amount_sum, tables_first, tables_second, ends_first, ends_second, all_first, all_second, both_first, both_second, regroup}
+use Rattle.table_flow.proofs.Kept.{kept_one, kept_all, guard_weight}
 use Rattle.table_flow.proofs.Uniforms.{drawn_next, drawn_ended, drawn_whole}
 use Rattle.table_flow.proofs.NoneReached.{none_counts}
 use Rattle.mass_fold.specs.declared.error.MassError.{MassError}
@@ -149,40 +149,24 @@ module _ (n : ℕ) (r : Option ℕ) where
       let z : weight N I ≡ 0 = sym (s.same (λ s. 1)) ∙ ap (held N (λ s. 1)) e in
       (nothing_stands N es _ e (omega arith), ends_more N E J _ (omega arith) t)
 
-  -- ---- a step of one end for each entry
-  fold_each : (st : Statement) (step : State → Weighted End) (x : State → End) (draws : Table → List Fraction) (go : (State → ℕ) → State → ℕ) (stop : (End → ℕ) → State → ℕ) (es : Entries) (E : Ended) (fs : Entries) (F : Ended) →
-      ((s : State) → step s ≡ sure (x s)) → ((G : State → ℕ) (s : State) → at_on G (x s) ≡ go G s) → ((G : End → ℕ) (s : State) → at_gone G (x s) ≡ stop G s) →
-      StepsTo go stop [] es E fs F → FoldsOne (λ I. each step (draws I) I) es E fs F
-  fold_each st step x draws go stop es E fs F h p q d N L I J Np s t w =
-      stepped N go stop es E fs F I _ J _ Np d s t
-      (λ G. amount_going N G (taken_on I step) ∙ amount_each N (at_on G) step x I h ∙ amount_ext N _ _ I (p G))
-      (λ G. amount_gone N G (taken_on I step) ∙ amount_each N (at_gone G) step x I h ∙ amount_ext N _ _ I (q G))
+  -- ---- a step of each entry
+  fold_step : (st : Statement) (go : (State → ℕ) → State → ℕ) (stop : (End → ℕ) → State → ℕ) (es : Entries) (E : Ended) (fs : Entries) (F : Ended) →
+      ((N : ℕ) (G : State → ℕ) (I : Table) → amount N G (statement_flow n r st I).next ≡ amount N (go G) I) → ((N : ℕ) (G : End → ℕ) (I : Table) → amount N G (statement_flow n r st I).ended ≡ amount N (stop G) I) →
+      StepsTo go stop [] es E fs F → FoldsOne (statement_flow n r st) es E fs F
+  fold_step st go stop es E fs F p q d N L I J Np s t w = stepped N go stop es E fs F I _ J _ Np d s t (λ G. p N G I) (λ G. q N G I)
 
   pub fold_skip : (es : Entries) (E : Ended) → FoldsOne (statement_flow n r Skip) es E es E
-  fold_skip es E = fold_each Skip (statement_weighted n r Skip) (λ s. on s) (λ I. []) all_kept none_stopped es E es E (λ s. refl) (λ G s. refl) (λ G s. refl)
+  fold_skip es E = fold_step Skip all_kept none_stopped es E es E (λ N G I. refl) (λ N G I. sym (amount_none N I))
       (λ N Np a b w. record { kept = b; ended = w; going = λ G. omega arith; stopping = λ G. let z = held_none N es in omega arith })
 
-  set_on : (x : ℕ) (G : State → ℕ) (v : Value) (s : State) → at_on G (set_end x v s) ≡ by_value v (λ f. 0) (λ z. G (slice_set s x z))
-  set_on x G (Ok z) s = refl
-  set_on x G (Err f) s = refl
-
-  set_gone : (x : ℕ) (G : End → ℕ) (v : Value) (s : State) → at_gone G (set_end x v s) ≡ by_value v (λ f. G (fault f)) (λ z. 0)
-  set_gone x G (Ok z) s = refl
-  set_gone x G (Err f) s = refl
-
   pub fold_assign : (x : ℕ) (e : Expression) (es : Entries) (E : Ended) (fs : Entries) (F : Ended) → StepsTo (moved x (value_of e)) (stopped (value_of e)) [] es E fs F → FoldsOne (statement_flow n r (Set x e)) es E fs F
-  fold_assign x e es E fs F d = fold_each (Set x e) (statement_weighted n r (Set x e)) (λ s. set_end x (value_of e s) s) (λ I. []) (moved x (value_of e)) (stopped (value_of e)) es E fs F
-      (λ s. set_sure x (value_of e s) s) (λ G s. set_on x G (value_of e s) s) (λ G s. set_gone x G (value_of e s) s) d
+  fold_assign x e es E fs F d = fold_step (Set x e) (moved x (value_of e)) (stopped (value_of e)) es E fs F (λ N G I. amount_set N G x (value_of e) I) (λ N G I. amount_faults N G (value_of e) I) d
 
   pub assign_blames : (x : ℕ) (e : Expression) (es : Entries) (E : Ended) (error : MassError) → StepBlames (moved x (value_of e)) (stopped (value_of e)) [] es E error → OneBlames (statement_flow n r (Set x e)) es E error
   assign_blames x e es E error d N L I J Np s t w m =
-      let step = statement_weighted n r (Set x e) in
-      let end : State → End = λ s. set_end x (value_of e s) s in
-      let one : (s : State) → step s ≡ sure (end s) = λ s. set_sure x (value_of e s) s in
       let k = kept_one n r N L (Set x e) I tt w.before w.after w.inside in
-      let a : (G : State → ℕ) → amount N G (going_on (taken_on I step)) ≡ amount N (moved x (value_of e) G) I = λ G. amount_going N G (taken_on I step) ∙ amount_each N (at_on G) step end I one ∙ amount_ext N _ _ I (λ s. set_on x G (value_of e s) s) in
-      let b : amount N (λ x. 1) (gone (taken_on I step)) ≡ amount N (stopped (value_of e) (λ x. 1)) I = amount_gone N (λ x. 1) (taken_on I step) ∙ amount_each N (at_gone (λ x. 1)) step end I one ∙ amount_ext N _ _ I (λ s. set_gone x (λ x. 1) (value_of e s) s) in
-      step_blamed N L (moved x (value_of e)) (stopped (value_of e)) es E error I (going_on (taken_on I step)) J Np d s t (λ G. let z = a G in omega arith) (omega arith) w.few_after (omega arith)
+      let b = amount_faults N (λ x. 1) (value_of e) I in
+      step_blamed N L (moved x (value_of e)) (stopped (value_of e)) es E error I (set_to x (value_of e) I) J Np d s t (λ G. let z = amount_set N G x (value_of e) I in omega arith) (omega arith) w.few_after (omega arith)
 
   -- ---- observations
   abbrev seen_stop : Expression → (End → ℕ) → State → ℕ
@@ -191,8 +175,14 @@ module _ (n : ℕ) (r : Option ℕ) where
   pub fold_observe : (e : Expression) (es : Entries) (E : Ended) (first second : Entries) (F G : Ended) → StepsTo (kept_if (holds (value_of e))) (stopped (value_of e)) [] es E first F →
       StepsTo (kept_if (fails (value_of e))) (stopped (value_of e)) [] es E second F → StepsTo none_kept (all_stopped (end_of gone_kind.Failed)) [] second F [] G →
       FoldsOne (statement_flow n r (Observe e)) es E first G
-  fold_observe e es E first second F G d c a = fold_each (Observe e) (statement_weighted n r (Observe e)) (λ s. seen_end (value_of e s) s) (λ I. []) (kept_if (holds (value_of e))) (seen_stop e) es E first G
-      (λ s. seen_sure (value_of e s) s) (λ H s. by_on H (value_of e s) s) (λ H s. by_gone H (value_of e s) s)
+  fold_observe e es E first second F G d c a = fold_step (Observe e) (kept_if (holds (value_of e))) (seen_stop e) es E first G (λ N H I. amount_only N H (holds (value_of e)) I)
+      (λ N H I.
+      let v = value_of e in
+      let x = amount_append N H (faults v I) (all_end failed (only (fails v) I)) in
+      let y = amount_faults N H v I in
+      let z = amount_all_end N H failed (only (fails v) I) ∙ amount_only N (all_stopped failed H) (fails v) I in
+      let o = amount_sum N (stopped v H) (kept_if (fails v) (all_stopped failed H)) I in
+      omega arith)
       (λ N Np b h w. let p = d N Np tt h w in let q = c N Np tt h w in let t = a N Np tt q.kept p.ended in
       record {
         kept = p.kept;
@@ -204,22 +194,6 @@ module _ (n : ℕ) (r : Option ℕ) where
       held_sum : (N : ℕ) (X Y : State → ℕ) (es : Entries) → held N (λ s. X s + Y s) es ≡ held N X es + held N Y es
       held_sum N X Y [] = refl
       held_sum N X Y (e ∷ es) = let i = held_sum N X Y es in omega arith
-
-      by_on : (H : State → ℕ) (v : Value) (s : State) → at_on H (seen_end v s) ≡ cond (by_value v (λ f. false) (λ z. not (is_zero z))) (H s) 0
-      by_on H (Ok z) s = by_zero (is_zero z)
-        where
-          by_zero : (b : Bool) → at_on H (cond b failed (on s)) ≡ cond (not b) (H s) 0
-          by_zero true = refl
-          by_zero false = refl
-      by_on H (Err f) s = refl
-
-      by_gone : (H : End → ℕ) (v : Value) (s : State) → at_gone H (seen_end v s) ≡ by_value v (λ f. H (fault f)) (λ z. 0) + cond (by_value v (λ f. false) is_zero) (H failed) 0
-      by_gone H (Ok z) s = by_zero (is_zero z)
-        where
-          by_zero : (b : Bool) → at_gone H (cond b failed (on s)) ≡ 0 + cond b (H failed) 0
-          by_zero true = omega arith
-          by_zero false = omega arith
-      by_gone H (Err f) s = omega arith
 
   -- ---- a guard
   module _ (v : State → Value) (es first second : Entries) (E F : Ended) (d : StepsTo (kept_if (holds v)) (stopped v) [] es E first F) (c : StepsTo (kept_if (fails v)) (stopped v) [] es E second F)

@@ -19,7 +19,7 @@ use Rattle.table_flow.proofs.Amounts.{all_first, all_second}
 use Rattle.table_flow.proofs.Wholes.{whole_from}
 use Rattle.table_flow.proofs.Draws.{share, class_pos, no_class_pos}
 use Rattle.table_flow.proofs.EqualFractions.{equal_times}
-use Rattle.table_flow.proofs.Kept.{times_swap}
+use Rattle.table_flow.proofs.Spreads.{times_swap}
 use Rattle.mass_fold.specs.Amounts.{held, AreHeld}
 use Rattle.mass_fold.specs.inner.Amounts.{Entries, order}
 use Rattle.mass_fold.specs.inner.Steps.{Shares, shared, EachState, BothWhole}

@@ -1,11 +1,11 @@
 -- Amounts of tables and of what ended.
-use Rattle.std.proofs.Common.{◌≡◌, ℕ, zero, suc, ◌+◌, ◌*◌, Bool, true, false, List, [], ◌∷◌, ◌++◌, Ok, Err, refl, ap, ◌∙◌, arith}
-use Rattle.gcl_core.specs.meaning.Blocks.{End, on, failed, fault, limit}
+use Rattle.std.proofs.Common.{◌≡◌, ℕ, ◌+◌, ◌*◌, Bool, true, false, List, [], ◌∷◌, ◌++◌, Ok, Err, refl, ap, arith}
+use Rattle.gcl_core.specs.meaning.Blocks.{End}
 use Rattle.gcl_core.specs.meaning.Value.{State, Value}
 use Rattle.gcl_core.specs.weighing.Fractions.{Fraction}
-use Rattle.gcl_core.specs.weighing.WeightedEnds.{Weighted, sure, scaled, taken_on}
-use Rattle.table_flow.specs.Counts.{stopped, kept_if, all_stopped}
-use Rattle.table_flow.specs.Tables.{Table, Flow, going_on, gone, only, faults, all_end, both}
+use Rattle.gcl_core.specs.weighing.WeightedEnds.{Weighted}
+use Rattle.table_flow.specs.Counts.{stopped, kept_if, all_stopped, moved}
+use Rattle.table_flow.specs.Tables.{Table, Flow, only, faults, all_end, both, set_to}
 use Rattle.table_flow.specs.Scale.{whole, amount, Wholes, AllWhole, TablesWithin, Within}
 
 -- ---- amounts
@@ -13,6 +13,14 @@ use Rattle.table_flow.specs.Scale.{whole, amount, Wholes, AllWhole, TablesWithin
 pub amount_append : {A : Type 0} (N : ℕ) (G : A → ℕ) (m n : Weighted A) → amount N G (m ++ n) ≡ amount N G m + amount N G n
 amount_append N G [] n = omega arith
 amount_append N G (e ∷ m) n = let i = amount_append N G m n in omega arith
+
+pub amount_sum : {A : Type 0} (N : ℕ) (G H : A → ℕ) (m : Weighted A) → amount N G m + amount N H m ≡ amount N (λ s. G s + H s) m
+amount_sum N G H [] = refl
+amount_sum N G H (e ∷ m) = let i = amount_sum N G H m in omega arith
+
+pub amount_none : {A : Type 0} (N : ℕ) (m : Weighted A) → amount N (λ s. 0) m ≡ 0
+amount_none N [] = refl
+amount_none N (e ∷ m) = let i = amount_none N m in omega arith
 
 pub amount_only : (N : ℕ) (G : State → ℕ) (test : State → Bool) (I : Table) → amount N G (only test I) ≡ amount N (kept_if test G) I
 amount_only N G test [] = refl
@@ -34,47 +42,16 @@ pub amount_all_end : (N : ℕ) (G : End → ℕ) (x : End) (I : Table) → amoun
 amount_all_end N G x [] = refl
 amount_all_end N G x (e ∷ I) = let i = amount_all_end N G x I in omega arith
 
--- a step that gives one end
-abbrev pub at_on : (State → ℕ) → End → ℕ
-at_on G (on s) = G s
-at_on G failed = 0
-at_on G (fault f) = 0
-at_on G (limit l) = 0
-
-abbrev pub at_gone : (End → ℕ) → End → ℕ
-at_gone G (on s) = 0
-at_gone G failed = G failed
-at_gone G (fault f) = G (fault f)
-at_gone G (limit l) = G (limit l)
-
-pub amount_going : (N : ℕ) (G : State → ℕ) (m : Weighted End) → amount N G (going_on m) ≡ amount N (at_on G) m
-amount_going N G [] = refl
-amount_going N G ((w, on s) ∷ m) = let i = amount_going N G m in omega arith
-amount_going N G ((w, failed) ∷ m) = let i = amount_going N G m in omega arith
-amount_going N G ((w, fault f) ∷ m) = let i = amount_going N G m in omega arith
-amount_going N G ((w, limit l) ∷ m) = let i = amount_going N G m in omega arith
-
-pub amount_gone : (N : ℕ) (G : End → ℕ) (m : Weighted End) → amount N G (gone m) ≡ amount N (at_gone G) m
-amount_gone N G [] = refl
-amount_gone N G ((w, on s) ∷ m) = let i = amount_gone N G m in omega arith
-amount_gone N G ((w, failed) ∷ m) = let i = amount_gone N G m in omega arith
-amount_gone N G ((w, fault f) ∷ m) = let i = amount_gone N G m in omega arith
-amount_gone N G ((w, limit l) ∷ m) = let i = amount_gone N G m in omega arith
+pub amount_set : (N : ℕ) (G : State → ℕ) (x : ℕ) (v : State → Value) (I : Table) → amount N G (set_to x v I) ≡ amount N (moved x v G) I
+amount_set N G x v [] = refl
+amount_set N G x v (e ∷ I) = at_head (v e.1) refl (amount_set N G x v I)
+  where
+    at_head : (o : Value) → v e.1 ≡ o → amount N G (set_to x v I) ≡ amount N (moved x v G) I → amount N G (set_to x v (e ∷ I)) ≡ amount N (moved x v G) (e ∷ I)
+    at_head (Ok z) p i = rw p (omega arith)
+    at_head (Err f) p i = rw p (omega arith)
 
 pub whole_zero : (N d : ℕ) → whole N (0, d) ≡ 0
 whole_zero N d = grind arith
-
-pub amount_sure : (N : ℕ) (G : End → ℕ) (w : Fraction) (x : End) → amount N G (scaled w (sure x)) ≡ whole N w * G x
-amount_sure N G (zero, d) x = let z = ap (λ u. u * G x) (whole_zero N d) in omega arith
-amount_sure N G (suc n, d) x = let p : suc n * 1 ≡ suc n = omega arith in let q : d * 1 ≡ d = omega arith in rw (p, q) (omega arith)
-
-pub amount_each : (N : ℕ) (G : End → ℕ) (step : State → Weighted End) (x : State → End) (I : Table) → ((s : State) → step s ≡ sure (x s)) → amount N G (taken_on I step) ≡ amount N (λ s. G (x s)) I
-amount_each N G step x [] h = refl
-amount_each N G step x (e ∷ I) h =
-    let a = amount_append N G (scaled e.0 (step e.1)) (taken_on I step) in
-    let b : amount N G (scaled e.0 (step e.1)) ≡ whole N e.0 * G (x e.1) = ap (λ m. amount N G (scaled e.0 m)) (h e.1) ∙ amount_sure N G e.0 (x e.1) in
-    let i = amount_each N G step x I h in
-    omega arith
 
 pub amount_ext : {A : Type 0} (N : ℕ) (G H : A → ℕ) (I : Weighted A) → ((s : A) → G s ≡ H s) → amount N G I ≡ amount N H I
 amount_ext N G H [] h = refl

@@ -1,5 +1,5 @@
 -- What goes on and what ended weigh what came in.
-use Rattle.std.proofs.Common.{◌≡◌, ℕ, zero, suc, ◌+◌, ◌*◌, ◌-◌, ◌≤◌, ◌<◌, ℤ, pos, negsuc, Bool, true, false, not, cond, List, [], ◌∷◌, ◌++◌, Ok, Err, Option, refl, ap, ◌∙◌, subst, arith, slice_set}
+use Rattle.std.proofs.Common.{◌≡◌, ℕ, zero, suc, ◌+◌, ◌*◌, ◌-◌, ◌≤◌, ◌<◌, ℤ, pos, negsuc, Bool, true, false, not, cond, List, [], ◌∷◌, ◌++◌, Ok, Err, Option, refl, ap, ◌∙◌, subst, arith}
 use Rattle.std.specs.List.{sum}
 use Rattle.std.proofs.lemmas.List.Sums.{sum_by-cons}
 use Rattle.gcl_core.specs.declared.answers.Limit.TheVariants.{Turns, Attempts}
@@ -7,24 +7,17 @@ use Rattle.gcl_core.specs.meaning.Arms.{parts_of}
 use Rattle.gcl_core.specs.meaning.Syntax.{Statement, Skip, Set, If, While, Choice, Choose, Uniform, Observe, Statements, done, ◌▸◌, ArmList, no_arm, arm}
 use Rattle.gcl_core.specs.meaning.Bounds.{StatementIsWeighed, BlockIsWeighed, ArmsAreWeighed, AreParts}
 use Rattle.gcl_core.specs.meaning.Value.{State, Value, value_of, is_zero}
-use Rattle.gcl_core.specs.meaning.Blocks.{End, on, failed, fault, limit, by_value, by_bound}
+use Rattle.gcl_core.specs.meaning.Blocks.{End, failed, limit, by_value, by_bound}
 use Rattle.gcl_core.specs.weighing.Fractions.{Fraction, times, one}
-use Rattle.gcl_core.specs.weighing.WeightedEnds.{Weighted, sure, scaled, taken_on, class_weight, no_class_weight, statement_weighted}
-use Rattle.table_flow.proofs.WeightedParts.{value_weighted}
-use Rattle.table_flow.specs.Tables.{Table, Flow, going_on, gone, holds, fails, only, faults, all_end, both, loop_flow, statement_flow, block_flow, arms_flow, draws_each, draw_weights}
+use Rattle.gcl_core.specs.weighing.WeightedEnds.{Weighted, scaled, class_weight, no_class_weight}
+use Rattle.table_flow.specs.Tables.{Table, Flow, holds, fails, only, faults, all_end, set_to, both, loop_flow, statement_flow, block_flow, arms_flow, draws_each, draw_weights}
 use Rattle.table_flow.specs.Scale.{amount, weight, whole, Whole, Wholes, Within, TablesWithin}
 use Rattle.table_flow.specs.Counts.{sum_below, part_at, rest_at, drawn, undrawn, multiplied}
-use Rattle.table_flow.proofs.Amounts.{amount_each, amount_append, both_first, both_second, all_second, tables_first, tables_second, ends_first, ends_second, all_first}
+use Rattle.table_flow.proofs.Amounts.{amount_append, both_first, both_second, all_second, tables_first, tables_second, ends_first, ends_second, all_first}
+use Rattle.table_flow.proofs.Spreads.{times_swap}
 use Rattle.table_flow.proofs.Draws.{draw_kept, parts_add_up, each_part, no_part, all_parts, all_parts_pos, share_of, class_pos, no_class_pos, class_share, no_class_share}
 use Rattle.table_flow.proofs.Uniforms.{drawn_next, drawn_ended, drawn_whole}
 use Rattle.numbers.proofs.Divisors.{cancel}
-
-split_weight : (N : ℕ) (m : Weighted End) → weight N (going_on m) + weight N (gone m) ≡ weight N m
-split_weight N [] = refl
-split_weight N ((w, on s) ∷ m) = let i = split_weight N m in omega arith
-split_weight N ((w, failed) ∷ m) = let i = split_weight N m in omega arith
-split_weight N ((w, fault f) ∷ m) = let i = split_weight N m in omega arith
-split_weight N ((w, limit l) ∷ m) = let i = split_weight N m in omega arith
 
 pub guard_weight : (N : ℕ) (v : State → Value) (I : Table) → weight N (only (holds v) I) + (weight N (only (fails v) I) + weight N (faults v I)) ≡ weight N I
 guard_weight N v [] = refl
@@ -47,9 +40,6 @@ all_end_weight N x (e ∷ I) = let i = all_end_weight N x I in omega arith
 pub ends_whole : (N : ℕ) (x : End) (I : Table) → Wholes N (all_end x I) → Wholes N I
 ends_whole N x [] h = tt
 ends_whole N x (e ∷ I) h = (h.0, ends_whole N x I h.1)
-
-pub times_swap : (p q : Fraction) → times p q ≡ times q p
-times_swap p q = let a : p.0 * q.0 ≡ q.0 * p.0 = omega arith in let b : p.1 * q.1 ≡ q.1 * p.1 = omega arith in ap (λ x. (x, p.1 * q.1)) a ∙ ap (λ y. (q.0 * p.0, y)) b
 
 -- a table with each weight multiplied by one fraction
 pub amount_scaled : {A : Type 0} (N : ℕ) (G : A → ℕ) (w : Fraction) (n d : ℕ) (I : Weighted A) → 0 < w.1 → w.0 * d ≡ n * w.1 → Wholes N I → Wholes N (scaled w I) → d * amount N G (scaled w I) ≡ n * amount N G I
@@ -79,23 +69,13 @@ both_weight N x f g =
     let c = amount_append N (λ s. 1) f.ended g.ended in
     omega arith
 
-abbrev pub set_end : ℕ → Value → State → End
-set_end x v s = by_value v (λ f. fault f) (λ z. on (slice_set s x z))
-
-pub set_sure : (x : ℕ) (v : Value) (s : State) → value_weighted v (λ z. sure (on (slice_set s x z))) ≡ sure (set_end x v s)
-set_sure x (Ok z) s = refl
-set_sure x (Err f) s = refl
-
-abbrev pub seen_end : Value → State → End
-seen_end v s = by_value v (λ f. fault f) (λ z. cond (is_zero z) failed (on s))
-
-side_sure : (b : Bool) (s : State) → cond b (sure failed) (sure (on s)) ≡ sure (cond b failed (on s))
-side_sure true s = refl
-side_sure false s = refl
-
-pub seen_sure : (v : Value) (s : State) → value_weighted v (λ z. cond (is_zero z) (sure failed) (sure (on s))) ≡ sure (seen_end v s)
-seen_sure (Ok z) s = side_sure (is_zero z) s
-seen_sure (Err f) s = refl
+set_weight : (N x : ℕ) (v : State → Value) (I : Table) → weight N (set_to x v I) + weight N (faults v I) ≡ weight N I
+set_weight N x v [] = refl
+set_weight N x v (e ∷ I) = at_head (v e.1) refl (set_weight N x v I)
+  where
+    at_head : (o : Value) → v e.1 ≡ o → weight N (set_to x v I) + weight N (faults v I) ≡ weight N I → weight N (set_to x v (e ∷ I)) + weight N (faults v (e ∷ I)) ≡ weight N (e ∷ I)
+    at_head (Ok z) p i = rw p (omega arith)
+    at_head (Err f) p i = rw p (omega arith)
 
 -- ---- choices
 sides : (a b S Q D A C L W : ℕ) → a ≤ b → 0 < D → b * S + Q ≡ D → D * A ≡ a * S * W → D * C ≡ (b - a) * S * W → D * L ≡ Q * W → L + (A + C) ≡ W
@@ -230,9 +210,14 @@ module _ (n : ℕ) (r : Option ℕ) (N L : ℕ) where
   mutual
     pub kept_one : (st : Statement) (I : Table) → StatementIsWeighed st → Wholes N I → Wholes N (statement_flow n r st I).next → Within N L (statement_flow n r st I) →
         weight N (statement_flow n r st I).next + weight N (statement_flow n r st I).ended ≡ weight N I
-    kept_one Skip I p w x s = split_weight N (taken_on I (statement_weighted n r Skip)) ∙ amount_each N (λ x. 1) (statement_weighted n r Skip) (λ s. on s) I (λ s. refl)
-    kept_one (Set x e) I p w y s = split_weight N (taken_on I (statement_weighted n r (Set x e))) ∙ amount_each N (λ x. 1) (statement_weighted n r (Set x e)) (λ s. set_end x (value_of e s) s) I (λ s. set_sure x (value_of e s) s)
-    kept_one (Observe e) I p w x s = split_weight N (taken_on I (statement_weighted n r (Observe e))) ∙ amount_each N (λ x. 1) (statement_weighted n r (Observe e)) (λ s. seen_end (value_of e s) s) I (λ s. seen_sure (value_of e s) s)
+    kept_one Skip I p w x s = omega arith
+    kept_one (Set x e) I p w y s = set_weight N x (value_of e) I
+    kept_one (Observe e) I p w x s =
+        let v = value_of e in
+        let a = guard_weight N v I in
+        let c = amount_append N (λ s. 1) (faults v I) (all_end failed (only (fails v) I)) in
+        let d = all_end_weight N failed (only (fails v) I) in
+        omega arith
     kept_one (Uniform x e) I p w y s =
         let v = value_of e in
         let k = drawn_whole x v r N I w y s.ended in

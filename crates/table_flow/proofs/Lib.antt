@@ -1,6 +1,8 @@
 pub mod WeightedParts
 pub mod Wholes
 pub mod Amounts
+pub mod DrawnLists
+pub mod Spreads
 pub mod Linear
 pub mod Denominators
 pub mod Draws

@@ -1,111 +1,25 @@
 -- The tables of a block hold what the paths from each state give: a flow is linear in its table.
-use Rattle.std.proofs.Common.{◌≡◌, ℕ, zero, suc, ◌+◌, ◌*◌, ◌-◌, Bool, true, false, not, cond, List, [], ◌∷◌, ◌++◌, map, Ok, Err, Option, refl, sym, ap, ◌∙◌, arith}
+use Rattle.std.proofs.Common.{◌≡◌, ℕ, zero, suc, ◌+◌, ◌*◌, ◌-◌, Bool, true, false, not, cond, [], ◌∷◌, ◌++◌, Ok, Err, Option, ℤ, pos, negsuc, slice_set, refl, sym, ap, ◌∙◌, arith}
 use Rattle.std.specs.List.{sum}
+use Rattle.gcl_core.specs.declared.answers.Fault.TheVariants.{BadBound}
 use Rattle.gcl_core.specs.declared.answers.Limit.TheVariants.{Turns, Attempts}
 use Rattle.gcl_core.specs.meaning.Arms.{parts_of}
 use Rattle.gcl_core.specs.meaning.Syntax.{Statement, Skip, Set, If, While, Choice, Choose, Uniform, Observe, Statements, done, ◌▸◌, ArmList, no_arm, arm}
 use Rattle.gcl_core.specs.meaning.Value.{State, Value, value_of, is_zero}
-use Rattle.gcl_core.specs.meaning.Blocks.{End, on, failed, fault, limit, by_value, by_truth, by_end}
+use Rattle.gcl_core.specs.meaning.Blocks.{End, on, failed, fault, limit, by_value, by_bound, by_truth, by_end}
 use Rattle.table_flow.specs.Scale.{Wholes, whole, amount}
-use Rattle.gcl_core.specs.weighing.Fractions.{Fraction, plus, one, times}
+use Rattle.gcl_core.specs.weighing.Fractions.{Fraction, plus, times}
 use Rattle.gcl_core.specs.weighing.WeightedEnds.{Weighted, sure, scaled, taken_on, class_weight, no_class_weight, statement_weighted, weighted_ends, end_weighted}
-use Rattle.table_flow.proofs.WeightedParts.{loop_weighted, value_weighted}
+use Rattle.table_flow.proofs.WeightedParts.{loop_weighted, value_weighted, uniform_weighted}
 use Rattle.gcl_core.specs.weighing.Mass.{sum_of}
-use Rattle.table_flow.specs.Tables.{Table, Flow, going_on, gone, holds, fails, only, faults, all_end, each, both, loop_flow, statement_flow, block_flow, arms_flow}
+use Rattle.table_flow.specs.Tables.{Table, Flow, holds, fails, only, faults, all_end, set_to, set_below, set_drawn, not_drawn, both, loop_flow, statement_flow, block_flow, arms_flow}
 use Rattle.table_flow.proofs.ArmEnds.{arm_ends, choose_weighted}
 use Rattle.table_flow.proofs.Amounts.{whole_zero}
-
--- what F gives the entries, added
-abbrev pub sum_of_all : {A : Type 0} → (Fraction → A → ℕ) → Weighted A → ℕ
-sum_of_all F [] = 0
-sum_of_all F (e ∷ m) = F e.0 e.1 + sum_of_all F m
-
-abbrev pub after_weight : {A : Type 0} → Fraction → (Fraction → A → ℕ) → Fraction → A → ℕ
-after_weight w F v x = F (times w v) x
-
--- a weight of 0 counts nothing
-abbrev pub Zero : {A : Type 0} → (Fraction → A → ℕ) → Type 0
-Zero {A} F = (d : ℕ) (x : A) → F (0, d) x ≡ 0
-
--- each entry of a table taken on by itself
-abbrev pub spread : {A B : Type 0} → (Fraction → B → ℕ) → Weighted A → (A → Weighted B) → ℕ
-spread F [] k = 0
-spread F (e ∷ m) k = sum_of_all (after_weight e.0 F) (k e.1) + spread F m k
-
-pub sum_append : {A : Type 0} (F : Fraction → A → ℕ) (m n : Weighted A) → sum_of_all F (m ++ n) ≡ sum_of_all F m + sum_of_all F n
-sum_append F [] n = omega arith
-sum_append F (e ∷ m) n = let i = sum_append F m n in omega arith
-
-sum_map : {A : Type 0} (F : Fraction → A → ℕ) (w : Fraction) (m : Weighted A) → sum_of_all F (map (λ e. (times w e.0, e.1)) m) ≡ sum_of_all (after_weight w F) m
-sum_map F w [] = refl
-sum_map F w (e ∷ m) = ap (λ x. F (times w e.0) e.1 + x) (sum_map F w m)
-
-after_zero : {A : Type 0} (F : Fraction → A → ℕ) (d : ℕ) (v : Fraction) (x : A) → Zero F → F (times (0, d) v) x ≡ 0
-after_zero F d v x z = let p : 0 * v.0 ≡ 0 = omega arith in ap (λ n. F (n, d * v.1) x) p ∙ z (d * v.1) x
-
-sum_none : {A : Type 0} (F : Fraction → A → ℕ) (d : ℕ) (m : Weighted A) → Zero F → sum_of_all (after_weight (0, d) F) m ≡ 0
-sum_none F d [] z = refl
-sum_none F d (e ∷ m) z = let a = after_zero F d e.0 e.1 z in let b = sum_none F d m z in omega arith
-
-pub sum_scaled : {A : Type 0} (F : Fraction → A → ℕ) (w : Fraction) (m : Weighted A) → Zero F → sum_of_all F (scaled w m) ≡ sum_of_all (after_weight w F) m
-sum_scaled F (zero, d) m z = sym (sum_none F d m z)
-sum_scaled F (suc n, d) m z = sum_map F (suc n, d) m
-
-pub sum_taken : {A B : Type 0} (F : Fraction → B → ℕ) (m : Weighted A) (k : A → Weighted B) → Zero F → sum_of_all F (taken_on m k) ≡ spread F m k
-sum_taken F [] k z = refl
-sum_taken F (e ∷ m) k z =
-    let a = sum_append F (scaled e.0 (k e.1)) (taken_on m k) in
-    let b = sum_scaled F e.0 (k e.1) z in
-    let c = sum_taken F m k z in
-    omega arith
-
-pub zero_after : {A : Type 0} (F : Fraction → A → ℕ) (w : Fraction) → Zero F → Zero (after_weight w F)
-zero_after F w z d x = let p : w.0 * 0 ≡ 0 = omega arith in ap (λ n. F (n, w.1 * d) x) p ∙ z (w.1 * d) x
-
-pub spread_append : {A B : Type 0} (F : Fraction → B → ℕ) (m n : Weighted A) (k : A → Weighted B) → spread F (m ++ n) k ≡ spread F m k + spread F n k
-spread_append F [] n k = omega arith
-spread_append F (e ∷ m) n k = let i = spread_append F m n k in omega arith
-
-pub times_assoc : (p q r : Fraction) → times (times p q) r ≡ times p (times q r)
-times_assoc p q r = let a : p.0 * q.0 * r.0 ≡ p.0 * (q.0 * r.0) = omega arith in let b : p.1 * q.1 * r.1 ≡ p.1 * (q.1 * r.1) = omega arith in ap (λ x. (x, p.1 * q.1 * r.1)) a ∙ ap (λ y. (p.0 * (q.0 * r.0), y)) b
-
-pub times_one : (p : Fraction) → times p one ≡ p
-times_one p = let a : p.0 * 1 ≡ p.0 = omega arith in let b : p.1 * 1 ≡ p.1 = omega arith in ap (λ x. (x, p.1 * 1)) a ∙ ap (λ y. (p.0, y)) b
-
-sum_ext : {A : Type 0} (F G : Fraction → A → ℕ) (m : Weighted A) → ((w : Fraction) (x : A) → F w x ≡ G w x) → sum_of_all F m ≡ sum_of_all G m
-sum_ext F G [] h = refl
-sum_ext F G (e ∷ m) h = let a = h e.0 e.1 in let i = sum_ext F G m h in omega arith
-
-spread_scaled : {A B : Type 0} (F : Fraction → B → ℕ) (w : Fraction) (m : Weighted A) (k : A → Weighted B) → Zero F → spread F (scaled w m) k ≡ spread (after_weight w F) m k
-spread_scaled F (zero, d) [] k z = refl
-spread_scaled {B = B} F (zero, d) (e ∷ m) k z =
-    let i = spread_scaled F (zero, d) m k z in
-    let a = sum_ext (after_weight e.0 (after_weight (zero, d) F)) (λ w x. 0) (k e.1) (λ w x. after_zero F d (times e.0 w) x z) in
-    let b = sum_zero (k e.1) in
-    omega arith
-  where
-    sum_zero : (m : Weighted B) → sum_of_all (λ w x. 0) m ≡ 0
-    sum_zero [] = refl
-    sum_zero (e ∷ m) = let i = sum_zero m in omega arith
-spread_scaled F (suc n, d) [] k z = refl
-spread_scaled F (suc n, d) (e ∷ m) k z =
-    let i = spread_scaled F (suc n, d) m k z in
-    let a = sum_ext (after_weight (times (suc n, d) e.0) F) (after_weight e.0 (after_weight (suc n, d) F)) (k e.1) (λ w x. ap (λ v. F v x) (times_assoc (suc n, d) e.0 w)) in
-    omega arith
+use Rattle.table_flow.proofs.Spreads.{sum_of_all, after_weight, Zero, spread, sum_append, sum_none, sum_scaled, sum_taken, zero_after, times_assoc, times_one, sum_ext, spread_scaled, sure_sum, sum_ext_below, sum_set_below, draw_sum, scaled_one}
 
 -- what goes on, counted by where it goes on to, and what ended
 abbrev pub flowed : (Fraction → End → ℕ) → Flow → ℕ
 flowed F f = sum_of_all (λ w s. F w (on s)) f.next + sum_of_all F f.ended
-
-split_sum : (F : Fraction → End → ℕ) (m : Weighted End) → sum_of_all (λ w s. F w (on s)) (going_on m) + sum_of_all F (gone m) ≡ sum_of_all F m
-split_sum F [] = refl
-split_sum F ((w, on s) ∷ m) = let i = split_sum F m in omega arith
-split_sum F ((w, failed) ∷ m) = let i = split_sum F m in omega arith
-split_sum F ((w, fault f) ∷ m) = let i = split_sum F m in omega arith
-split_sum F ((w, limit l) ∷ m) = let i = split_sum F m in omega arith
-
-pub flow_each : (F : Fraction → End → ℕ) (step : State → Weighted End) (draws : List Fraction) (I : Table) → Zero F → flowed F (each step draws I) ≡ spread F I step
-flow_each F step draws I z = split_sum F (taken_on I step) ∙ sum_taken F I step z
 
 -- no entry that ended goes on
 abbrev pub NoOn : Weighted End → Type 0
@@ -181,13 +95,6 @@ no_append ((w, failed) ∷ m) n h k = no_append m n h k
 no_append ((w, fault f) ∷ m) n h k = no_append m n h k
 no_append ((w, limit l) ∷ m) n h k = no_append m n h k
 
-no_gone : (m : Weighted End) → NoOn (gone m)
-no_gone [] = tt
-no_gone ((w, on s) ∷ m) = no_gone m
-no_gone ((w, failed) ∷ m) = no_gone m
-no_gone ((w, fault f) ∷ m) = no_gone m
-no_gone ((w, limit l) ∷ m) = no_gone m
-
 no_faults : (v : State → Value) (I : Table) → NoOn (faults v I)
 no_faults v [] = tt
 no_faults v (e ∷ I) = at_head (v e.1) (no_faults v I)
@@ -200,6 +107,23 @@ no_limits : (l : _) (I : Table) → NoOn (all_end (limit l) I)
 no_limits l [] = tt
 no_limits l (e ∷ I) = no_limits l I
 
+no_failed : (I : Table) → NoOn (all_end failed I)
+no_failed [] = tt
+no_failed (e ∷ I) = no_failed I
+
+no_undrawn : (v : State → Value) (r : Option ℕ) (I : Table) → NoOn (not_drawn v r I)
+no_undrawn v r [] = tt
+no_undrawn v r (e ∷ I) = no_append (by_value (v e.1) (λ f. (e.0, fault f) ∷ []) (λ z. by_bound z ((e.0, fault BadBound) ∷ []) (λ m. all_end (limit Attempts) (scaled (no_class_weight m r) (e ∷ []))))) (not_drawn v r I) (by_state (v e.1)) (no_undrawn v r I)
+  where
+    by_sign : (z : ℤ) → NoOn (by_bound z ((e.0, fault BadBound) ∷ []) (λ m. all_end (limit Attempts) (scaled (no_class_weight m r) (e ∷ []))))
+    by_sign (pos zero) = tt
+    by_sign (pos (suc m)) = no_limits Attempts (scaled (no_class_weight (suc m) r) (e ∷ []))
+    by_sign (negsuc m) = tt
+
+    by_state : (o : Value) → NoOn (by_value o (λ f. (e.0, fault f) ∷ []) (λ z. by_bound z ((e.0, fault BadBound) ∷ []) (λ m. all_end (limit Attempts) (scaled (no_class_weight m r) (e ∷ [])))))
+    by_state (Ok z) = by_sign z
+    by_state (Err f) = tt
+
 module _ (n : ℕ) (r : Option ℕ) where
   no_turns : (v : State → Value) (b : Statements) → ((I : Table) → NoOn (block_flow n r b I).ended) → (t : ℕ) (J : Table) → NoOn (loop_flow v (block_flow n r b) t J).ended
   no_turns v b h zero J = no_append (faults v J) _ (no_faults v J) (no_limits Turns (only (holds v) J))
@@ -207,10 +131,10 @@ module _ (n : ℕ) (r : Option ℕ) where
 
   mutual
     pub no_one : (st : Statement) (I : Table) → NoOn (statement_flow n r st I).ended
-    no_one Skip I = no_gone (taken_on I (statement_weighted n r Skip))
-    no_one (Set x e) I = no_gone (taken_on I (statement_weighted n r (Set x e)))
-    no_one (Observe e) I = no_gone (taken_on I (statement_weighted n r (Observe e)))
-    no_one (Uniform x e) I = no_gone (taken_on I (statement_weighted n r (Uniform x e)))
+    no_one Skip I = tt
+    no_one (Set x e) I = no_faults (value_of e) I
+    no_one (Observe e) I = no_append (faults (value_of e) I) _ (no_faults (value_of e) I) (no_failed (only (fails (value_of e)) I))
+    no_one (Uniform x e) I = no_undrawn (value_of e) r I
     no_one (If e a c) I = no_append (faults (value_of e) I) _ (no_faults (value_of e) I) (no_append (block_flow n r a (only (holds (value_of e)) I)).ended _ (no_all a (only (holds (value_of e)) I)) (no_all c (only (fails (value_of e)) I)))
     no_one (Choice p a c) I =
         no_append (all_end (limit Attempts) (scaled (no_class_weight p.den r) I)) _ (no_limits Attempts (scaled (no_class_weight p.den r) I))
@@ -243,6 +167,58 @@ flowed_both F x f g =
 sum_all_end : (F : Fraction → End → ℕ) (x : End) (I : Table) → sum_of_all F (all_end x I) ≡ sum_of_all (λ w s. F w x) I
 sum_all_end F x [] = refl
 sum_all_end F x (e ∷ I) = ap (λ y. F e.0 x + y) (sum_all_end F x I)
+
+-- ---- statements of which no other is a part
+flow_set : (F : Fraction → End → ℕ) (x : ℕ) (v : State → Value) (I : Table) →
+    sum_of_all (λ w s. F w (on s)) (set_to x v I) + sum_of_all F (faults v I) ≡ spread F I (λ s. value_weighted (v s) (λ z. sure (on (slice_set s x z))))
+flow_set F x v [] = refl
+flow_set F x v (e ∷ I) = at_head (v e.1) refl (flow_set F x v I)
+  where
+    at_head : (o : Value) → v e.1 ≡ o → sum_of_all (λ w s. F w (on s)) (set_to x v I) + sum_of_all F (faults v I) ≡ spread F I (λ s. value_weighted (v s) (λ z. sure (on (slice_set s x z)))) →
+        sum_of_all (λ w s. F w (on s)) (set_to x v (e ∷ I)) + sum_of_all F (faults v (e ∷ I)) ≡ spread F (e ∷ I) (λ s. value_weighted (v s) (λ z. sure (on (slice_set s x z))))
+    at_head (Err f) p i = rw p (let q = sure_sum F e.0 (fault f) in omega arith)
+    at_head (Ok n) p i = rw p (let q = sure_sum F e.0 (on (slice_set e.1 x n)) in omega arith)
+
+flow_seen : (F : Fraction → End → ℕ) (v : State → Value) (I : Table) → Zero F →
+    sum_of_all (λ w s. F w (on s)) (only (holds v) I) + sum_of_all F (faults v I ++ all_end failed (only (fails v) I)) ≡ spread F I (λ s. value_weighted (v s) (λ z. by_truth z (sure (on s)) (sure failed)))
+flow_seen F v I z =
+    let a = spread_guard F v (λ s. sure (on s)) (λ s. sure failed) I z in
+    let b = spread_sure F (λ s. on s) (only (holds v) I) in
+    let c = spread_sure F (λ s. failed) (only (fails v) I) in
+    let d = sum_all_end F failed (only (fails v) I) in
+    let o = sum_append F (faults v I) (all_end failed (only (fails v) I)) in
+    omega arith
+
+flow_drawn : (F : Fraction → End → ℕ) (x : ℕ) (v : State → Value) (r : Option ℕ) (I : Table) → Zero F →
+    sum_of_all (λ w s. F w (on s)) (set_drawn x v r I) + sum_of_all F (not_drawn v r I) ≡ spread F I (λ s. value_weighted (v s) (λ z. uniform_weighted r x z s))
+flow_drawn F x v r [] z = refl
+flow_drawn F x v r (e ∷ I) z =
+    let i = flow_drawn F x v r I z in
+    let a = sum_append (λ w s. F w (on s)) (by_value (v e.1) (λ f. []) goes) (set_drawn x v r I) in
+    let b = sum_append F (by_value (v e.1) (λ f. (e.0, fault f) ∷ []) stops) (not_drawn v r I) in
+    let c = by_state (v e.1) in
+    omega arith
+  where
+    goes : ℤ → Table
+    goes z = by_bound z [] (λ m. set_below x m (scaled (class_weight m r 1) (e ∷ [])))
+
+    stops : ℤ → Weighted End
+    stops z = by_bound z ((e.0, fault BadBound) ∷ []) (λ m. all_end (limit Attempts) (scaled (no_class_weight m r) (e ∷ [])))
+
+    by_sign : (z : ℤ) → sum_of_all (λ w s. F w (on s)) (goes z) + sum_of_all F (stops z) ≡ sum_of_all (after_weight e.0 F) (uniform_weighted r x z e.1)
+    by_sign (pos zero) = let q = sure_sum F e.0 (fault BadBound) in omega arith
+    by_sign (pos (suc m)) =
+        let a = sum_set_below (λ w s. F w (on s)) x (suc m) (scaled (class_weight (suc m) r 1) (e ∷ [])) in
+        let b = sum_ext_below (suc m) (λ i. sum_of_all (λ w s. F w (on (slice_set s x (pos i)))) (scaled (class_weight (suc m) r 1) (e ∷ []))) (λ i. F (times e.0 (class_weight (suc m) r 1)) (on (slice_set e.1 x (pos i))))
+        (λ i. scaled_one (λ w s. F w (on (slice_set s x (pos i)))) (class_weight (suc m) r 1) e (λ d s. z d (on (slice_set s x (pos i))))) in
+        let c = sum_all_end F (limit Attempts) (scaled (no_class_weight (suc m) r) (e ∷ [])) ∙ scaled_one (λ w s. F w (limit Attempts)) (no_class_weight (suc m) r) e (λ d s. z d (limit Attempts)) in
+        let d = draw_sum x r (after_weight e.0 F) (suc m) e.1 (zero_after F e.0 z) in
+        omega arith
+    by_sign (negsuc m) = let q = sure_sum F e.0 (fault BadBound) in omega arith
+
+    by_state : (o : Value) → sum_of_all (λ w s. F w (on s)) (by_value o (λ f. []) goes) + sum_of_all F (by_value o (λ f. (e.0, fault f) ∷ []) stops) ≡ sum_of_all (after_weight e.0 F) (value_weighted o (λ z. uniform_weighted r x z e.1))
+    by_state (Ok n) = by_sign n
+    by_state (Err f) = let q = sure_sum F e.0 (fault f) in omega arith
 
 turned : (p q w : Fraction) → times p (times q w) ≡ times q (times p w)
 turned p q w = let b : p.0 * (q.0 * w.0) ≡ q.0 * (p.0 * w.0) = omega arith in let d : p.1 * (q.1 * w.1) ≡ q.1 * (p.1 * w.1) = omega arith in ap (λ x. (x, p.1 * (q.1 * w.1))) b ∙ ap (λ y. (q.0 * (p.0 * w.0), y)) d
@@ -320,10 +296,10 @@ module _ (n : ℕ) (r : Option ℕ) where
 
   mutual
     pub flow_statement : (st : Statement) (F : Fraction → End → ℕ) (I : Table) → Zero F → flowed F (statement_flow n r st I) ≡ spread F I (statement_weighted n r st)
-    flow_statement Skip F I z = flow_each F (statement_weighted n r Skip) [] I z
-    flow_statement (Set x e) F I z = flow_each F (statement_weighted n r (Set x e)) [] I z
-    flow_statement (Observe e) F I z = flow_each F (statement_weighted n r (Observe e)) [] I z
-    flow_statement (Uniform x e) F I z = flow_each F (statement_weighted n r (Uniform x e)) [] I z
+    flow_statement Skip F I z = let a = spread_sure F (λ s. on s) I in omega arith
+    flow_statement (Set x e) F I z = flow_set F x (value_of e) I
+    flow_statement (Observe e) F I z = flow_seen F (value_of e) I z
+    flow_statement (Uniform x e) F I z = flow_drawn F x (value_of e) r I z
     flow_statement (If e a c) F I z =
         let A = only (holds (value_of e)) I in
         let C = only (fails (value_of e)) I in

@@ -11,7 +11,8 @@ use Rattle.gcl_core.specs.weighing.Mass.{sum_of}
 use Rattle.table_flow.specs.Tables.{Table, states, statement_flow, block_flow}
 use Rattle.table_flow.specs.Scale.{whole, Wholes, Within, TablesWithin, amount}
 use Rattle.table_flow.proofs.Amounts.{amount_append, whole_zero, tables_second}
-use Rattle.table_flow.proofs.Linear.{sum_of_all, after_weight, Zero, flow_paths, amounts_paths, counted}
+use Rattle.table_flow.proofs.Spreads.{sum_of_all, after_weight, Zero}
+use Rattle.table_flow.proofs.Linear.{flow_paths, amounts_paths, counted}
 
 -- each weight is exact at a scale
 abbrev Exact : ℕ → Fraction → Type 0

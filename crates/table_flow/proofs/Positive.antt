@@ -1,6 +1,7 @@
 -- The fractions of a flow have denominators of at least 1.
-use Rattle.std.proofs.Common.{ℕ, zero, suc, ◌+◌, ◌-◌, ◌<◌, ℤ, pos, negsuc, Bool, true, false, cond, List, [], ◌∷◌, ◌++◌, Ok, Err, Option, None, Some, sym, subst, arith, slice_set}
+use Rattle.std.proofs.Common.{ℕ, zero, suc, ◌+◌, ◌-◌, ◌<◌, ℤ, pos, negsuc, Bool, true, false, cond, List, [], ◌∷◌, ◌++◌, map, Ok, Err, Option, None, Some, sym, subst, arith, slice_set}
 use Rattle.std.specs.List.{sum}
+use Rattle.gcl_core.specs.declared.answers.Fault.TheVariants.{BadBound}
 use Rattle.gcl_core.specs.declared.answers.Limit.TheVariants.{Turns, Attempts}
 use Rattle.gcl_core.specs.meaning.Arms.{parts_of}
 use Rattle.gcl_core.specs.meaning.Syntax.{Statement, Skip, Set, If, While, Choice, Choose, Uniform, Observe, Statements, done, ◌▸◌, ArmList, no_arm, arm}
@@ -9,11 +10,11 @@ use Rattle.gcl_core.specs.meaning.Value.{State, Value, value_of, is_zero}
 use Rattle.gcl_core.specs.meaning.Draw.{last_end, uniform_ends}
 use Rattle.gcl_core.specs.meaning.Blocks.{End, on, failed, fault, limit, by_value, by_bound, by_truth, by_class}
 use Rattle.gcl_core.specs.weighing.Fractions.{Fraction}
-use Rattle.gcl_core.specs.weighing.WeightedEnds.{Weighted, sure, scaled, taken_on, class_weight, no_class_weight, classes_from, weighted_classes, statement_weighted}
+use Rattle.gcl_core.specs.weighing.WeightedEnds.{Weighted, sure, scaled, taken_on, class_weight, no_class_weight, classes_from, weighted_classes}
 use Rattle.table_flow.proofs.WeightedParts.{uniform_weighted, value_weighted}
 use Rattle.gcl_core.proofs.EqualClasses.{last_of_equal}
 use Rattle.numbers.proofs.Divisors.{product_pos}
-use Rattle.table_flow.specs.Tables.{Table, Flow, going_on, gone, holds, fails, only, faults, all_end, each, both, loop_flow, statement_flow, block_flow, arms_flow, draws_each, draw_weights, bound_draws}
+use Rattle.table_flow.specs.Tables.{Table, Flow, holds, fails, only, faults, all_end, set_to, set_below, set_drawn, not_drawn, both, loop_flow, statement_flow, block_flow, arms_flow, draws_each, draw_weights, bound_draws}
 use Rattle.table_flow.specs.Width.{weights, table_weights, fractions}
 use Rattle.table_flow.proofs.Denominators.{AllPositive}
 use Rattle.table_flow.proofs.Draws.{class_pos, no_class_pos}
@@ -56,20 +57,6 @@ p_taken (e ∷ m) k h g = p_append (scaled e.0 (k e.1)) (taken_on m k) (p_scaled
 pub p_sure : {A : Type 0} (x : A) → Positive (sure x)
 p_sure x = (omega arith, tt)
 
-pub p_going : (m : Weighted End) → Positive m → Positive (going_on m)
-p_going [] h = tt
-p_going ((w, on s) ∷ m) h = (h.0, p_going m h.1)
-p_going ((w, failed) ∷ m) h = p_going m h.1
-p_going ((w, fault f) ∷ m) h = p_going m h.1
-p_going ((w, limit l) ∷ m) h = p_going m h.1
-
-p_gone : (m : Weighted End) → Positive m → Positive (gone m)
-p_gone [] h = tt
-p_gone ((w, on s) ∷ m) h = p_gone m h.1
-p_gone ((w, failed) ∷ m) h = (h.0, p_gone m h.1)
-p_gone ((w, fault f) ∷ m) h = (h.0, p_gone m h.1)
-p_gone ((w, limit l) ∷ m) h = (h.0, p_gone m h.1)
-
 pub p_only : (test : State → Bool) (I : Table) → Positive I → Positive (only test I)
 p_only test [] h = tt
 p_only test (e ∷ I) h = at_head (test e.1) (p_only test I h.1)
@@ -90,10 +77,21 @@ p_all_end : (x : End) (I : Table) → Positive I → Positive (all_end x I)
 p_all_end x [] h = tt
 p_all_end x (e ∷ I) h = (h.0, p_all_end x I h.1)
 
-p_each : (step : State → Weighted End) (draws : List Fraction) (I : Table) → ((s : State) → Positive (step s)) → AllPositive draws → Positive I → FlowPositive (each step draws I)
-p_each step draws I h d p =
-    let t = p_taken I step p h in
-    record { next = p_going (taken_on I step) t; ended = p_gone (taken_on I step) t; tables = tt; draws = d }
+p_set_to : (x : ℕ) (v : State → Value) (I : Table) → Positive I → Positive (set_to x v I)
+p_set_to x v [] h = tt
+p_set_to x v (e ∷ I) h = at_head (v e.1) (p_set_to x v I h.1)
+  where
+    at_head : (o : Value) → Positive (set_to x v I) → Positive (by_value o (λ f. set_to x v I) (λ z. (e.0, slice_set e.1 x z) ∷ set_to x v I))
+    at_head (Ok z) i = (h.0, i)
+    at_head (Err f) i = i
+
+p_moved : (x : ℕ) (z : ℤ) (I : Table) → Positive I → Positive (map (λ e. (e.0, slice_set e.1 x z)) I)
+p_moved x z [] h = tt
+p_moved x z (e ∷ I) h = (h.0, p_moved x z I h.1)
+
+p_below : (x m : ℕ) (I : Table) → Positive I → Positive (set_below x m I)
+p_below x zero I h = tt
+p_below x (suc m) I h = p_append (set_below x m I) _ (p_below x m I h) (p_moved x (pos m) I h)
 
 p_both : (x : Weighted End) (f g : Flow) → Positive x → FlowPositive f → FlowPositive g → FlowPositive (both x f g)
 p_both x f g h k l = record {
@@ -129,6 +127,32 @@ bound_positive v r (e ∷ I) = a_append _ (bound_draws v r I) (by_state (v e.1))
     by_state : (o : Value) → AllPositive (by_value o (λ f. []) (λ v. by_bound v [] (λ m. draw_weights m r)))
     by_state (Ok z) = by_sign z
     by_state (Err f) = tt
+
+p_set_drawn : (x : ℕ) (v : State → Value) (r : Option ℕ) (I : Table) → Positive I → Positive (set_drawn x v r I)
+p_set_drawn x v r [] h = tt
+p_set_drawn x v r (e ∷ I) h = p_append _ (set_drawn x v r I) (by_state (v e.1)) (p_set_drawn x v r I h.1)
+  where
+    by_sign : (z : ℤ) → Positive (by_bound z [] (λ m. set_below x m (scaled (class_weight m r 1) (e ∷ []))))
+    by_sign (pos zero) = tt
+    by_sign (pos (suc m)) = p_below x (suc m) (scaled (class_weight (suc m) r 1) (e ∷ [])) (p_scaled (class_weight (suc m) r 1) (e ∷ []) (class_pos (suc m) r 1 (omega arith)) (h.0, tt))
+    by_sign (negsuc m) = tt
+
+    by_state : (o : Value) → Positive (by_value o (λ f. []) (λ z. by_bound z [] (λ m. set_below x m (scaled (class_weight m r 1) (e ∷ [])))))
+    by_state (Ok z) = by_sign z
+    by_state (Err f) = tt
+
+p_not_drawn : (v : State → Value) (r : Option ℕ) (I : Table) → Positive I → Positive (not_drawn v r I)
+p_not_drawn v r [] h = tt
+p_not_drawn v r (e ∷ I) h = p_append _ (not_drawn v r I) (by_state (v e.1)) (p_not_drawn v r I h.1)
+  where
+    by_sign : (z : ℤ) → Positive (by_bound z ((e.0, fault BadBound) ∷ []) (λ m. all_end (limit Attempts) (scaled (no_class_weight m r) (e ∷ []))))
+    by_sign (pos zero) = (h.0, tt)
+    by_sign (pos (suc m)) = p_all_end (limit Attempts) (scaled (no_class_weight (suc m) r) (e ∷ [])) (p_scaled (no_class_weight (suc m) r) (e ∷ []) (no_class_pos (suc m) r) (h.0, tt))
+    by_sign (negsuc m) = (h.0, tt)
+
+    by_state : (o : Value) → Positive (by_value o (λ f. (e.0, fault f) ∷ []) (λ z. by_bound z ((e.0, fault BadBound) ∷ []) (λ m. all_end (limit Attempts) (scaled (no_class_weight m r) (e ∷ [])))))
+    by_state (Ok z) = by_sign z
+    by_state (Err f) = (h.0, tt)
 
 pub alone : (0 < 1) × Unit {0}
 alone = (omega arith, tt)
@@ -181,10 +205,15 @@ module _ (n : ℕ) (r : Option ℕ) where
 
   mutual
     pub p_one : (st : Statement) (I : Table) → StatementIsWeighed st → Positive I → FlowPositive (statement_flow n r st I)
-    p_one Skip I w p = p_each (statement_weighted n r Skip) [] I (λ s. p_sure (on s)) tt p
-    p_one (Set x e) I w p = p_each (statement_weighted n r (Set x e)) [] I (λ s. p_set x (value_of e s) s) tt p
-    p_one (Observe e) I w p = p_each (statement_weighted n r (Observe e)) [] I (λ s. p_seen (value_of e s) s) tt p
-    p_one (Uniform x e) I w p = p_each (statement_weighted n r (Uniform x e)) (bound_draws (value_of e) r I) I (λ s. p_drawn x (value_of e s) s) (bound_positive (value_of e) r I) p
+    p_one Skip I w p = record { next = p; ended = tt; tables = tt; draws = tt }
+    p_one (Set x e) I w p = record { next = p_set_to x (value_of e) I p; ended = p_faults (value_of e) I p; tables = tt; draws = tt }
+    p_one (Observe e) I w p = record {
+      next = p_only (holds (value_of e)) I p;
+      ended = p_append (faults (value_of e) I) _ (p_faults (value_of e) I p) (p_all_end failed (only (fails (value_of e)) I) (p_only (fails (value_of e)) I p));
+      tables = tt;
+      draws = tt;
+    }
+    p_one (Uniform x e) I w p = record { next = p_set_drawn x (value_of e) r I p; ended = p_not_drawn (value_of e) r I p; tables = tt; draws = bound_positive (value_of e) r I }
     p_one (If e a c) I w p =
         p_both (faults (value_of e) I) _ _ (p_faults (value_of e) I p) (p_all a (only (holds (value_of e)) I) w.0 (p_only (holds (value_of e)) I p)) (p_all c (only (fails (value_of e)) I) w.1 (p_only (fails (value_of e)) I p))
     p_one (Choice q a c) I w p =

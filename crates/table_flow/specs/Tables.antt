@@ -1,48 +1,36 @@
 -- The tables that a program goes through, and how many states stand in one of them. It is what the weighted ends of a block are,
 -- statement by statement: a table of states at each point, in place of the ends from one state.
-use Rattle.std.specs.Prelude.{ℕ, zero, suc, ◌-◌, max, Bool, false, not, List, [], ◌∷◌, ◌++◌, map, Option, length}
+use Rattle.std.specs.Prelude.{ℕ, zero, suc, ◌-◌, pos, max, Bool, false, not, List, [], ◌∷◌, ◌++◌, map, Option, length, slice_set}
 use Rattle.std.specs.List.{filter, sum}
 use Rattle.std.specs.Ordering.{int_eq}
 use Rattle.std.specs.Set.{distinct_count}
 use Rattle.std.specs.Cmp.Lexicographic.{pointwise}
+use Rattle.gcl_core.specs.declared.answers.Fault.TheVariants.{BadBound}
 use Rattle.gcl_core.specs.declared.answers.Limit.TheVariants.{Turns, Attempts}
 use Rattle.gcl_core.specs.meaning.Arms.{parts_of}
 use Rattle.gcl_core.specs.meaning.Syntax.{Statement, Skip, Set, If, While, Choice, Choose, Uniform, Observe, Statements, done, ◌▸◌, ArmList, no_arm, arm, SourceProgram}
 use Rattle.gcl_core.specs.meaning.Value.{State, Value, value_of, is_zero}
-use Rattle.gcl_core.specs.meaning.Blocks.{End, on, failed, fault, limit, by_value, by_bound}
+use Rattle.gcl_core.specs.meaning.Blocks.{End, failed, fault, limit, by_value, by_bound}
 use Rattle.gcl_core.specs.meaning.Outcomes.{zeros}
 use Rattle.gcl_core.specs.weighing.Fractions.{Fraction}
-use Rattle.gcl_core.specs.weighing.WeightedEnds.{Weighted, sure, scaled, taken_on, class_weight, no_class_weight, statement_weighted}
+use Rattle.gcl_core.specs.weighing.WeightedEnds.{Weighted, sure, scaled, class_weight, no_class_weight}
 
 -- a list of states, each with its weight; a state may stand in it more than once
 abbrev pub Table : Type 0
 Table = Weighted State
 
 -- what becomes of a table in a block: the table after it, the entries that ended, all tables on the way, and the weights of the
--- draws made
-pub record Flow : Type 0 where
-  pub next : Table
-  pub ended : Weighted End
-  pub tables : List Table
+-- draws made. An entry of a table is an X, and one that ended a Y.
+pub record FlowOf (X Y : Type 0) : Type 0 where
+  pub next : List X
+  pub ended : List Y
+  pub tables : List (List X)
   pub draws : List Fraction
 
+abbrev pub Flow : Type 0
+Flow = FlowOf (Fraction × State) (Fraction × End)
+
 -- ---- parts of a table
-
--- the entries that go on, as a table
-abbrev pub going_on : Weighted End → Table
-going_on [] = []
-going_on ((w, on s) ∷ m) = (w, s) ∷ going_on m
-going_on ((w, failed) ∷ m) = going_on m
-going_on ((w, fault f) ∷ m) = going_on m
-going_on ((w, limit l) ∷ m) = going_on m
-
--- the others
-abbrev pub gone : Weighted End → Weighted End
-gone [] = []
-gone ((w, on s) ∷ m) = gone m
-gone ((w, failed) ∷ m) = (w, failed) ∷ gone m
-gone ((w, fault f) ∷ m) = (w, fault f) ∷ gone m
-gone ((w, limit l) ∷ m) = (w, limit l) ∷ gone m
 
 -- whether a guard holds in a state, or does not; neither where it is a fault
 abbrev pub holds : (State → Value) → State → Bool
@@ -50,18 +38,6 @@ holds guard s = by_value (guard s) (λ f. false) (λ v. not (is_zero v))
 
 abbrev pub fails : (State → Value) → State → Bool
 fails guard s = by_value (guard s) (λ f. false) is_zero
-
-abbrev pub only : (State → Bool) → Table → Table
-only test I = filter (λ e. test e.1) I
-
--- the faults of a guard
-abbrev pub faults : (State → Value) → Table → Weighted End
-faults guard [] = []
-faults guard (e ∷ I) = by_value (guard e.1) (λ f. (e.0, fault f) ∷ faults guard I) (λ v. faults guard I)
-
--- all entries end in this way
-abbrev pub all_end : End → Table → Weighted End
-all_end x I = map (λ e. (e.0, x)) I
 
 -- ---- draws
 
@@ -74,81 +50,190 @@ abbrev pub draws_each : List Fraction → Table → List Fraction
 draws_each ws [] = []
 draws_each ws (e ∷ I) = ws ++ draws_each ws I
 
--- those of the draws that an expression's values bound
-abbrev pub bound_draws : (State → Value) → Option ℕ → Table → List Fraction
-bound_draws bound r [] = []
-bound_draws bound r (e ∷ I) = by_value (bound e.1) (λ f. []) (λ v. by_bound v [] (λ m. draw_weights m r)) ++ bound_draws bound r I
+-- ---- any kind of weight
 
--- ---- statements
+-- an entry by itself: its state, the same weight in another state, and the same weight as ended in some way
+pub record Entries (X Y : Type 0) : Type 0 where
+  pub state : X → State
+  pub moved_to : State → X → X
+  pub as_end : End → X → Y
 
--- each entry by itself
-abbrev pub each : (State → Weighted End) → List Fraction → Table → Flow
-each step draws I = record { next = going_on (taken_on I step); ended = gone (taken_on I step); tables = []; draws = draws }
+-- What a walk asks of a kind of weight: how a table is written down before a statement, and at the head of a loop; what a class of c
+-- of b numbers gets in a draw by at most r attempts, and what no attempt decides; and which weights such a draw shows.
+pub record Kind (X Y : Type 0) : Type 0 where
+  pub entries : Entries X Y
+  pub tidy : List X → List X
+  pub at_loop : List X → List (List X)
+  pub class : ℕ → Option ℕ → ℕ → List X → List X
+  pub rest : ℕ → Option ℕ → List X → List X
+  pub shown : ℕ → Option ℕ → List X → List Fraction
 
 -- both results together
-abbrev pub both : Weighted End → Flow → Flow → Flow
+abbrev pub both : {X Y : Type 0} → List Y → FlowOf X Y → FlowOf X Y → FlowOf X Y
 both ended f g = record
     { next = f.next ++ g.next; ended = ended ++ (f.ended ++ g.ended); tables = f.tables ++ g.tables; draws = f.draws ++ g.draws }
 
 -- no table, and nothing that ended
-abbrev pub no_flow : Flow
+abbrev pub no_flow : {X Y : Type 0} → FlowOf X Y
 no_flow = record { next = []; ended = []; tables = []; draws = [] }
 
--- at most t turns of a loop, from the table J on
-abbrev pub loop_flow : (State → Value) → (Table → Flow) → ℕ → Table → Flow
-loop_flow guard body zero J = record {
-  next = only (fails guard) J;
-  ended = faults guard J ++ all_end (limit Turns) (only (holds guard) J);
-  tables = J ∷ [];
-  draws = [];
-}
-loop_flow guard body (suc t) J =
-    let f = body (only (holds guard) J) in
-    let g = loop_flow guard body t f.next in
-    record {
-      next = only (fails guard) J ++ g.next;
-      ended = faults guard J ++ (f.ended ++ g.ended);
-      tables = J ∷ (f.tables ++ g.tables);
-      draws = f.draws ++ g.draws;
-    }
+module _ {X Y : Type 0} (x : Entries X Y) where
+  -- the states that pass a test
+  abbrev pub only_go : (State → Bool) → List X → List X
+  only_go test J = filter (λ e. test (x.state e)) J
+
+  -- the faults of an expression
+  abbrev pub faults_go : (State → Value) → List X → List Y
+  faults_go v [] = []
+  faults_go v (e ∷ J) = by_value (v (x.state e)) (λ f. x.as_end (fault f) e ∷ faults_go v J) (λ z. faults_go v J)
+
+  -- all states end in this way
+  abbrev pub end_go : End → List X → List Y
+  end_go end J = map (λ e. x.as_end end e) J
+
+  -- a variable set to the value of an expression, but for the faults
+  abbrev pub set_go : ℕ → (State → Value) → List X → List X
+  set_go i v [] = []
+  set_go i v (e ∷ J) = by_value (v (x.state e)) (λ f. set_go i v J) (λ z. x.moved_to (slice_set (x.state e) i z) e ∷ set_go i v J)
+
+  -- at most t turns of a loop, from the table J on
+  abbrev pub loop_go : (List X → List (List X)) → (State → Value) → (List X → FlowOf X Y) → ℕ → List X → FlowOf X Y
+  loop_go seen guard body zero J = record {
+    next = only_go (fails guard) J;
+    ended = faults_go guard J ++ end_go (limit Turns) (only_go (holds guard) J);
+    tables = seen J;
+    draws = [];
+  }
+  loop_go seen guard body (suc t) J =
+      let f = body (only_go (holds guard) J) in
+      let g = loop_go seen guard body t f.next in
+      record {
+        next = only_go (fails guard) J ++ g.next;
+        ended = faults_go guard J ++ (f.ended ++ g.ended);
+        tables = seen J ++ (f.tables ++ g.tables);
+        draws = f.draws ++ g.draws;
+      }
+
+-- a variable set to each number below m
+abbrev pub below_go : {X Y : Type 0} → Entries X Y → ℕ → ℕ → List X → List X
+below_go x i zero J = []
+below_go x i (suc m) J = below_go x i m J ++ map (λ e. x.moved_to (slice_set (x.state e) i (pos m)) e) J
+
+module _ {X Y : Type 0} (k : Kind X Y) where
+  -- a variable set to each number below the value of an expression
+  abbrev pub drawn_go : ℕ → (State → Value) → Option ℕ → List X → List X
+  drawn_go i v r [] = []
+  drawn_go i v r (e ∷ J) =
+      by_value (v (k.entries.state e)) (λ f. []) (λ z. by_bound z [] (λ m. below_go k.entries i m (k.class m r 1 (e ∷ [])))) ++ drawn_go i v r J
+
+  -- and the states in which there is no such number, or no attempt gives one
+  abbrev pub undrawn_go : (State → Value) → Option ℕ → List X → List Y
+  undrawn_go v r [] = []
+  undrawn_go v r (e ∷ J) =
+      by_value (v (k.entries.state e)) (λ f. k.entries.as_end (fault f) e ∷ [])
+      (λ z. by_bound z (k.entries.as_end (fault BadBound) e ∷ []) (λ m. end_go k.entries (limit Attempts) (k.rest m r (e ∷ [])))) ++ undrawn_go v r J
+
+  -- the weights that these draws show
+  abbrev pub shown_go : (State → Value) → Option ℕ → List X → List Fraction
+  shown_go v r [] = []
+  shown_go v r (e ∷ J) = by_value (v (k.entries.state e)) (λ f. []) (λ z. by_bound z [] (λ m. k.shown m r (e ∷ []))) ++ shown_go v r J
 
 -- under a limit of n turns, and of r attempts or none
-module _ (n : ℕ) (r : Option ℕ) where
+module _ {X Y : Type 0} (k : Kind X Y) (n : ℕ) (r : Option ℕ) where
   abbrev mutual
-    pub statement_flow : Statement → Table → Flow
-    statement_flow Skip I = each (statement_weighted n r Skip) [] I
-    statement_flow (Set x e) I = each (statement_weighted n r (Set x e)) [] I
-    statement_flow (Observe e) I = each (statement_weighted n r (Observe e)) [] I
-    statement_flow (Uniform x e) I = each (statement_weighted n r (Uniform x e)) (bound_draws (value_of e) r I) I
-    statement_flow (If e a c) I =
-        both (faults (value_of e) I) (block_flow a (only (holds (value_of e)) I)) (block_flow c (only (fails (value_of e)) I))
-    statement_flow (Choice p a c) I =
-        let f = both (all_end (limit Attempts) (scaled (no_class_weight p.den r) I)) (block_flow a
-        (scaled (class_weight p.den r p.num) I)) (block_flow c (scaled (class_weight p.den r (p.den - p.num)) I)) in
-        record { next = f.next; ended = f.ended; tables = f.tables; draws = draws_each (draw_weights p.den r) I ++ f.draws }
-    statement_flow (Choose arms) I =
+    pub statement_go : Statement → List X → FlowOf X Y
+    statement_go Skip J = record { next = J; ended = []; tables = []; draws = [] }
+    statement_go (Set x e) J = record { next = set_go k.entries x (value_of e) J; ended = faults_go k.entries (value_of e) J; tables = []; draws = [] }
+    statement_go (Observe e) J = record {
+      next = only_go k.entries (holds (value_of e)) J;
+      ended = faults_go k.entries (value_of e) J ++ end_go k.entries failed (only_go k.entries (fails (value_of e)) J);
+      tables = [];
+      draws = [];
+    }
+    statement_go (Uniform x e) J = record {
+      next = drawn_go k x (value_of e) r J;
+      ended = undrawn_go k (value_of e) r J;
+      tables = [];
+      draws = shown_go k (value_of e) r J;
+    }
+    statement_go (If e a c) J =
+        both (faults_go k.entries (value_of e) J) (block_go a (only_go k.entries (holds (value_of e)) J)) (block_go c (only_go k.entries (fails (value_of e)) J))
+    statement_go (Choice p a c) J =
+        let f = both (end_go k.entries (limit Attempts) (k.rest p.den r J)) (block_go a (k.class p.den r p.num J))
+        (block_go c (k.class p.den r (p.den - p.num) J)) in
+        record { next = f.next; ended = f.ended; tables = f.tables; draws = k.shown p.den r J ++ f.draws }
+    statement_go (Choose arms) J =
         let b = sum (parts_of arms) in
-        let f = arms_flow b arms I in
-        record {
-          next = f.next;
-          ended = all_end (limit Attempts) (scaled (no_class_weight b r) I)
-              ++ f.ended;
-          tables = f.tables;
-          draws = draws_each (draw_weights b r) I ++ f.draws;
-        }
-    statement_flow (While e a) I = loop_flow (value_of e) (block_flow a) n I
+        let f = arms_go b arms J in
+        record { next = f.next; ended = end_go k.entries (limit Attempts) (k.rest b r J) ++ f.ended; tables = f.tables; draws = k.shown b r J ++ f.draws }
+    statement_go (While e a) J = loop_go k.entries k.at_loop (value_of e) (block_go a) n J
 
-    pub block_flow : Statements → Table → Flow
-    block_flow done I = record { next = I; ended = []; tables = I ∷ []; draws = [] }
-    block_flow (st ▸ b) I =
-        let f = statement_flow st I in
-        let g = block_flow b f.next in
-        record { next = g.next; ended = f.ended ++ g.ended; tables = I ∷ (f.tables ++ g.tables); draws = f.draws ++ g.draws }
+    pub block_go : Statements → List X → FlowOf X Y
+    block_go done J = record { next = k.tidy J; ended = []; tables = k.tidy J ∷ []; draws = [] }
+    block_go (st ▸ b) J =
+        let f = statement_go st (k.tidy J) in
+        let g = block_go b f.next in
+        record { next = g.next; ended = f.ended ++ g.ended; tables = k.tidy J ∷ (f.tables ++ g.tables); draws = f.draws ++ g.draws }
 
     -- the arms of a draw with b parts, one after the other
-    pub arms_flow : ℕ → ArmList → Table → Flow
-    arms_flow b no_arm I = no_flow
-    arms_flow b (arm p a arms) I = both [] (block_flow a (scaled (class_weight b r p) I)) (arms_flow b arms I)
+    pub arms_go : ℕ → ArmList → List X → FlowOf X Y
+    arms_go b no_arm J = no_flow
+    arms_go b (arm p a arms) J = both [] (block_go a (k.class b r p J)) (arms_go b arms J)
+
+-- ---- fractions, as they are
+
+abbrev pub weighted : Entries (Fraction × State) (Fraction × End)
+weighted = record { state = λ e. e.1; moved_to = λ s e. (e.0, s); as_end = λ x e. (e.0, x) }
+
+abbrev pub fractions_kind : Kind (Fraction × State) (Fraction × End)
+fractions_kind = record {
+  entries = weighted;
+  tidy = λ I. I;
+  at_loop = λ I. I ∷ [];
+  class = λ b r c I. scaled (class_weight b r c) I;
+  rest = λ b r I. scaled (no_class_weight b r) I;
+  shown = λ b r I. draws_each (draw_weights b r) I;
+}
+
+abbrev pub only : (State → Bool) → Table → Table
+only = only_go weighted
+
+-- the faults of a guard
+abbrev pub faults : (State → Value) → Table → Weighted End
+faults = faults_go weighted
+
+-- all entries end in this way
+abbrev pub all_end : End → Table → Weighted End
+all_end = end_go weighted
+
+-- x set to the value of an expression
+abbrev pub set_to : ℕ → (State → Value) → Table → Table
+set_to = set_go weighted
+
+-- x set to each number below m, and below the value of an expression
+abbrev pub set_below : ℕ → ℕ → Table → Table
+set_below = below_go weighted
+
+abbrev pub set_drawn : ℕ → (State → Value) → Option ℕ → Table → Table
+set_drawn = drawn_go fractions_kind
+
+abbrev pub not_drawn : (State → Value) → Option ℕ → Table → Weighted End
+not_drawn = undrawn_go fractions_kind
+
+abbrev pub bound_draws : (State → Value) → Option ℕ → Table → List Fraction
+bound_draws = shown_go fractions_kind
+
+abbrev pub loop_flow : (State → Value) → (Table → Flow) → ℕ → Table → Flow
+loop_flow = loop_go weighted (λ I. I ∷ [])
+
+abbrev pub statement_flow : ℕ → Option ℕ → Statement → Table → Flow
+statement_flow = statement_go fractions_kind
+
+abbrev pub block_flow : ℕ → Option ℕ → Statements → Table → Flow
+block_flow = block_go fractions_kind
+
+abbrev pub arms_flow : ℕ → Option ℕ → ℕ → ArmList → Table → Flow
+arms_flow = arms_go fractions_kind
 
 -- ---- the peak
 

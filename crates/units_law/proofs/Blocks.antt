@@ -1,5 +1,5 @@
 -- What a block makes of a table of units stands below what it makes of the table of fractions, and has no more states.
-use Rattle.std.proofs.Common.{◌≡◌, ℕ, zero, suc, ◌-◌, ◌≤◌, ◌<◌, All, List, [], ◌∷◌, ◌++◌, length, Option, refl, sym, ◌∙◌, arith}
+use Rattle.std.proofs.Common.{ℕ, zero, suc, ◌-◌, ◌≤◌, ◌<◌, All, List, [], ◌∷◌, ◌++◌, length, Option, arith}
 use Rattle.std.specs.List.{sum}
 use Rattle.std.proofs.lemmas.List.Elements.{All-nil, All-cons, All-append}
 use Rattle.gcl_core.specs.declared.answers.Limit.TheVariants.{Turns, Attempts}
@@ -7,23 +7,23 @@ use Rattle.gcl_core.specs.meaning.Arms.{parts_of}
 use Rattle.gcl_core.specs.meaning.Syntax.{Statement, Skip, Set, If, While, Choice, Choose, Uniform, Observe, Statements, done, ◌▸◌, ArmList, no_arm, arm}
 use Rattle.gcl_core.specs.meaning.Bounds.{StatementIsWeighed, BlockIsWeighed, ArmsAreWeighed}
 use Rattle.gcl_core.specs.meaning.Value.{State, Value, value_of}
-use Rattle.gcl_core.specs.meaning.Blocks.{End, on, limit}
-use Rattle.gcl_core.specs.weighing.WeightedEnds.{Weighted, scaled, class_weight, no_class_weight, statement_weighted}
+use Rattle.gcl_core.specs.meaning.Blocks.{End, failed, limit}
+use Rattle.gcl_core.specs.weighing.WeightedEnds.{Weighted, scaled, class_weight, no_class_weight}
 use Rattle.table_flow.specs.Tables.{Table, Flow, holds, fails, only, faults, all_end, both, loop_flow, statement_flow, block_flow, arms_flow, draws_each, draw_weights}
-use Rattle.table_flow.specs.Counts.{moved, kept_if}
-use Rattle.table_flow.specs.Scale.{Wholes, Within, amount}
-use Rattle.table_flow.proofs.Amounts.{both_first, both_second, all_first, all_second, tables_first, tables_second, ends_first, ends_second, amount_going, amount_gone, amount_each, at_on, at_gone, amount_faults}
+use Rattle.table_flow.specs.Counts.{moved}
+use Rattle.table_flow.specs.Scale.{Wholes, Within}
+use Rattle.table_flow.proofs.Amounts.{both_first, both_second, all_first, all_second, tables_first, tables_second, ends_first, ends_second, amount_set}
 use Rattle.table_flow.proofs.Draws.{class_pos, no_class_pos}
-use Rattle.table_flow.proofs.Kept.{ends_whole, set_sure, seen_sure, head_whole, choose_inside, first_arm, other_arms}
+use Rattle.table_flow.proofs.Kept.{ends_whole, head_whole, choose_inside, first_arm, other_arms}
 use Rattle.table_flow.proofs.Uniforms.{drawn_next, drawn_ended, drawn_whole}
 use Rattle.units_law.specs.Below.{IsBelow, FlowIsBelow}
 use Rattle.units_law.specs.Flows.{UnitFlow, both_units, loop_units, statement_units, block_units, arms_units}
 use Rattle.units_law.specs.Merged.{merged}
 use Rattle.units_law.specs.Rounding.{Rounding, RoundsDown, class_units, rest_units}
 use Rattle.units_law.specs.Units.{Units, only_units, fault_units, end_units}
-use Rattle.units_law.proofs.Held.{none_below, beside, counted_as, lessened, held_none}
+use Rattle.units_law.proofs.Held.{none_below, beside, counted_as, lessened}
 use Rattle.units_law.proofs.Merging.{held_merged}
-use Rattle.units_law.proofs.Parts.{only_below, faults_below, end_below, held_set, held_only, held_unseen, next_set, ended_set, next_seen, ended_seen, unseen}
+use Rattle.units_law.proofs.Parts.{only_below, faults_below, end_below, held_set}
 use Rattle.units_law.proofs.Drawn.{drawn_below, undrawn_below}
 use Rattle.units_law.proofs.FewStates.{states_few}
 
@@ -43,9 +43,6 @@ one_few L = All-cons (λ J. length J ≤ L)
 module _ (cut : Rounding) (c : RoundsDown cut) (N L n : ℕ) (some : 0 < N) (r : Option ℕ) where
   merged_below : (J : Units State) (I : Table) → IsBelow N J I → IsBelow N (merged J) I
   merged_below J I h G = rw (held_merged J G) (h G)
-
-  weighed_as : {A : Type 0} (J : Units A) (I M : Weighted A) → IsBelow N J I → ((G : A → ℕ) → amount N G M ≡ amount N G I) → IsBelow N J M
-  weighed_as J I M h e G = rw (e G) (h G)
 
   -- a class of a draw, and none of them
   class_below : (b q : ℕ) → 0 < b → (J : Units State) (I : Table) → Wholes N I → Wholes N (scaled (class_weight b r q) I) → IsBelow N J I →
@@ -96,23 +93,16 @@ module _ (cut : Rounding) (c : RoundsDown cut) (N L n : ℕ) (some : 0 < N) (r :
   mutual
     statement_below : (st : Statement) → StatementIsWeighed st → (J : Units State) (I : Table) → Wholes N I → Wholes N (statement_flow n r st I).next → Within N L (statement_flow n r st I) → IsBelow N J I →
         FlowIsBelow N L (statement_units cut n r st J) (statement_flow n r st I)
-    statement_below Skip p J I w y s h = record {
-      next = counted_as N J I _ _ (λ G. G) h (λ G. refl) (λ G. amount_going N G _ ∙ amount_each N (at_on G) (statement_weighted n r Skip) (λ s. on s) I (λ s. refl));
-      ended = counted_as N J I [] (statement_flow n r Skip I).ended (λ G s. 0) h (λ G. sym (held_none J)) (λ G. amount_gone N G _ ∙ amount_each N (at_gone G) (statement_weighted n r Skip) (λ s. on s) I (λ s. refl));
-      few = none_few L;
-    }
+    statement_below Skip p J I w y s h = record { next = h; ended = none_below N; few = none_few L }
     statement_below (Set x e) p J I w y s h =
         let v = value_of e in
-        let step = statement_weighted n r (Set x e) in record {
-          next = counted_as N J I _ _ (moved x v) h (λ G. held_set G x v J) (λ G. next_set N step x v (λ s. set_sure x (v s) s) I G);
-          ended = weighed_as (fault_units v J) (faults v I) _ (faults_below N J I h v) (λ G. ended_set N step x v (λ s. set_sure x (v s) s) I G ∙ sym (amount_faults N G v I));
-          few = none_few L;
-        }
+        record { next = counted_as N J I _ _ (moved x v) h (λ G. held_set G x v J) (λ G. amount_set N G x v I); ended = faults_below N J I h v; few = none_few L }
     statement_below (Observe e) p J I w y s h =
         let v = value_of e in
-        let step = statement_weighted n r (Observe e) in record {
-          next = counted_as N J I _ _ (kept_if (holds v)) h (λ G. held_only G (holds v) J) (λ G. next_seen N step v (λ s. seen_sure (v s) s) I G);
-          ended = counted_as N J I _ _ (unseen v) h (λ G. held_unseen G v J) (λ G. ended_seen N step v (λ s. seen_sure (v s) s) I G);
+        let A = only_units (fails v) J in
+        let hh = only_below N J I h (fails v) in record {
+          next = only_below N J I h (holds v);
+          ended = beside N (fault_units v J) (end_units failed A) (faults v I) (all_end failed (only (fails v) I)) (faults_below N J I h v) (end_below N A (only (fails v) I) hh failed);
           few = none_few L;
         }
     statement_below (Uniform x e) p J I w y s h =

@@ -17,10 +17,6 @@ pub held_append : {A : Type 0} (G : A → ℕ) (J K : Units A) → held G (J ++ 
 held_append G [] K = omega arith
 held_append G (e ∷ J) K = let i = held_append G J K in omega arith
 
-pub held_sum : {A : Type 0} (G H : A → ℕ) (J : Units A) → held (λ x. G x + H x) J ≡ held G J + held H J
-held_sum G H [] = refl
-held_sum G H (e ∷ J) = let i = held_sum G H J in omega arith
-
 pub held_none : {A : Type 0} (J : Units A) → held (λ x. 0) J ≡ 0
 held_none [] = refl
 held_none (e ∷ J) = let i = held_none J in omega arith

@@ -1,11 +1,11 @@
 -- Products rounded to whole units. This project's own rule.
-use Rattle.std.specs.Prelude.{ℕ, ◌+◌, ◌*◌, ◌≤◌, ◌<◌, [], ◌∷◌, ◌++◌, map, Option}
-use Rattle.gcl_core.specs.declared.answers.Fault.TheVariants.{BadBound}
-use Rattle.gcl_core.specs.declared.answers.Limit.TheVariants.{Attempts}
+use Rattle.std.specs.Prelude.{ℕ, ◌+◌, ◌*◌, ◌≤◌, ◌<◌, [], map, Option}
 use Rattle.gcl_core.specs.meaning.Value.{State, Value}
-use Rattle.gcl_core.specs.meaning.Blocks.{End, fault, limit, by_value, by_bound}
+use Rattle.gcl_core.specs.meaning.Blocks.{End}
 use Rattle.gcl_core.specs.weighing.WeightedEnds.{class_weight, no_class_weight}
-use Rattle.units_law.specs.Units.{Units, below_units}
+use Rattle.table_flow.specs.Tables.{Kind, drawn_go, undrawn_go}
+use Rattle.units_law.specs.Units.{Units, counted_units}
+use Rattle.units_law.specs.Merged.{merged}
 
 -- of w units, in a draw among b numbers by at most r attempts, or by as many as it takes: what a class of c of them gets, and what
 -- no attempt decides
@@ -33,15 +33,21 @@ module _ (cut : Rounding) where
   abbrev pub rest_units : ℕ → Option ℕ → Units State → Units State
   rest_units b r J = map (λ e. (e.0, cut.rest b r e.1)) J
 
+  -- merged before each statement and at the end
+  abbrev pub units_kind : Kind (State × ℕ) (End × ℕ)
+  units_kind = record {
+    entries = counted_units;
+    tidy = merged;
+    at_loop = λ J. [];
+    class = class_units;
+    rest = rest_units;
+    shown = λ b r J. [];
+  }
+
   -- x set to each number below the value of an expression
   abbrev pub drawn_units : ℕ → (State → Value) → Option ℕ → Units State → Units State
-  drawn_units x v r [] = []
-  drawn_units x v r (e ∷ J) =
-      by_value (v e.0) (λ f. []) (λ z. by_bound z [] (λ m. below_units x m e.0 (cut.share m r 1 e.1))) ++ drawn_units x v r J
+  drawn_units = drawn_go units_kind
 
   -- and the states in which there is no such number, or no attempt gives one
   abbrev pub undrawn_units : (State → Value) → Option ℕ → Units State → Units End
-  undrawn_units v r [] = []
-  undrawn_units v r (e ∷ J) =
-      by_value (v e.0) (λ f. (fault f, e.1) ∷ []) (λ z. by_bound z ((fault BadBound, e.1) ∷ []) (λ m. (limit Attempts, cut.rest m r e.1) ∷ []))
-      ++ undrawn_units v r J
+  undrawn_units = undrawn_go units_kind

@@ -4,7 +4,7 @@ use Rattle.gcl_core.specs.meaning.Value.{State, Value, is_zero}
 use Rattle.gcl_core.specs.meaning.Blocks.{End, on, failed, fault, limit, by_value, by_truth}
 use Rattle.gcl_core.specs.weighing.Fractions.{Fraction, one, times}
 use Rattle.gcl_core.specs.weighing.WeightedEnds.{Weighted, sure, scaled, taken_on}
-use Rattle.table_flow.specs.Tables.{Table, going_on, gone, holds, fails, only, faults}
+use Rattle.table_flow.specs.Tables.{Table, holds, fails, only, faults}
 use Rattle.unlimited_law.proofs.Numbers.{Rational, ◌⊕◌, ◌⊗◌, ◌⊑◌, ◌≃◌, nought, below_refl, same_refl, same_sym, same_trans, add_below, add_same, times_below, times_same, factor_same, times_assoc, times_turned, times_sum, times_nought, nought_times, unit_times, nought_add, add_nought, add_assoc, add_turned}
 use Rattle.unlimited_law.proofs.OneScale.{eq_from, at_sum, Each, none, next, together}
 use Rattle.unlimited_law.proofs.FractionNumbers.{of, of_times, of_zero, of_one}
@@ -79,21 +79,10 @@ stop H failed = H failed
 stop H (fault f) = H (fault f)
 stop H (limit l) = H (limit l)
 
-no_part : (w : Fraction) (x y : Rational) → x ≃ y → of w ⊗ nought ⊕ x ≃ y
-no_part w x y e = same_trans (add_same (times_nought (of w)) e) (nought_add y)
-
 -- a part goes behind the first
 pub behind : {x : Rational} (y z a : Rational) → x ≃ y ⊕ z → a ⊕ x ≃ y ⊕ (a ⊕ z)
 behind {x} y z a e =
     same_trans (add_same (same_refl a) e) (same_trans (same_sym (add_assoc a y z)) (same_trans (add_same (add_turned a y) (same_refl z)) (add_assoc y a z)))
-
-pub integral_split : (H : End → Rational) (m : Weighted End) → integral H m ≃ integral (λ s. H (on s)) (going_on m) ⊕ integral (stop H) (gone m)
-integral_split H [] = same_sym (nought_add nought)
-integral_split H ((w, on s) ∷ m) =
-    same_trans (add_same (same_refl (of w ⊗ H (on s))) (integral_split H m)) (same_sym (add_assoc (of w ⊗ H (on s)) (integral (λ s. H (on s)) (going_on m)) (integral (stop H) (gone m))))
-integral_split H ((w, failed) ∷ m) = behind (integral (λ s. H (on s)) (going_on m)) (integral (stop H) (gone m)) (of w ⊗ H failed) (integral_split H m)
-integral_split H ((w, fault f) ∷ m) = behind (integral (λ s. H (on s)) (going_on m)) (integral (stop H) (gone m)) (of w ⊗ H (fault f)) (integral_split H m)
-integral_split H ((w, limit l) ∷ m) = behind (integral (λ s. H (on s)) (going_on m)) (integral (stop H) (gone m)) (of w ⊗ H (limit l)) (integral_split H m)
 
 -- ---- a guard's parts
 -- what a guard gives a state: by a fault, where it holds, where it fails

@@ -2,6 +2,7 @@ pub mod Numbers
 pub mod OneScale
 pub mod FractionNumbers
 pub mod Integrals
+pub mod FlowIntegrals
 pub mod Bounded
 pub mod Turning
 pub mod Rising

@@ -8,16 +8,17 @@ use Rattle.gcl_core.specs.meaning.Syntax.{Statement, Skip, Set, If, While, Choic
 use Rattle.gcl_core.specs.meaning.Value.{State, Value, value_of, is_zero}
 use Rattle.gcl_core.specs.meaning.Blocks.{End, on, failed, fault, limit, by_value, by_truth, by_end}
 use Rattle.gcl_core.specs.weighing.Fractions.{Fraction, zero_share, plus}
-use Rattle.gcl_core.specs.weighing.WeightedEnds.{Weighted, sure, scaled, taken_on, class_weight, end_weighted, statement_weighted, weighted_ends}
-use Rattle.table_flow.specs.Tables.{Table, going_on, gone, holds, fails, only, faults}
+use Rattle.gcl_core.specs.weighing.WeightedEnds.{Weighted, sure, scaled, class_weight, end_weighted, statement_weighted, weighted_ends}
+use Rattle.table_flow.specs.Tables.{Table, holds, fails, only, faults}
 use Rattle.table_flow.proofs.ArmEnds.{arm_ends, choose_weighted}
 use Rattle.table_flow.proofs.WeightedParts.{value_weighted, loop_weighted}
-use Rattle.unlimited_law.specs.Settling.{Outflow, total, EachState, StandsIn, Within, IsOutflow, SettlesAlone, SettlesBoth, StatementSettles, BlockSettles, ArmsSettle}
+use Rattle.unlimited_law.specs.Settling.{Outflow, total, EachState, StandsIn, Within, IsOutflow, SettlesBoth, StatementSettles, BlockSettles, ArmsSettle}
 use Rattle.weighing_law.proofs.Shares.{product_pos}
 use Rattle.unlimited_law.proofs.Numbers.{Rational, ◌⊕◌, ◌⊗◌, ◌⊑◌, ◌≃◌, nought, unit, below_refl, same_refl, below_trans, same_sym, same_trans, add_below, add_same, add_assoc, times_below, times_same, times_sum, times_nought, nought_below, nought_add, add_nought}
 use Rattle.unlimited_law.proofs.OneScale.{Each, none, next, together, le_to, le_from, eq_from, at_sum}
 use Rattle.unlimited_law.proofs.FractionNumbers.{of, of_plus}
-use Rattle.unlimited_law.proofs.Integrals.{integral, integral_append, integral_below, integral_same, integral_sum, integral_nought, integral_times, integral_scaled, integral_sure, integral_taken, stop, integral_split, guarded, integral_guard}
+use Rattle.unlimited_law.proofs.Integrals.{integral, integral_append, integral_below, integral_same, integral_sum, integral_nought, integral_scaled, integral_sure, integral_taken, stop}
+use Rattle.unlimited_law.proofs.FlowIntegrals.{counted, each_sure, weighed, guard_parts, skip_counted, set_counted, seen_counted, drawn_counted}
 use Rattle.unlimited_law.proofs.Bounded.{KeepsSmall, onward, turns_small, block_small}
 use Rattle.unlimited_law.proofs.Rising.{IsTest, onward_test, loop_rises}
 use Rattle.unlimited_law.proofs.Turning.{below_limit, above_limit}
@@ -25,7 +26,7 @@ use Rattle.unlimited_law.proofs.Near.{Near, near_exact, near_cost, near_same, ne
 
 -- what an outflow counts
 abbrev pub worth : (End → Rational) → Outflow → Rational
-worth H f = integral (λ s. H (on s)) f.next ⊕ integral (stop H) f.ended
+worth H f = counted H f.next f.ended
 
 -- what the two notions have to say
 pub record Means (SameTable : Table → Table → Type 0) (SameEnds : Weighted End → Weighted End → Type 0) : Type 0 where
@@ -39,15 +40,6 @@ stop_onward H k (on s) = same_refl nought
 stop_onward H k failed = integral_sure H failed
 stop_onward H k (fault f) = integral_sure H (fault f)
 stop_onward H k (limit l) = integral_sure H (limit l)
-
-guard_at : (H : End → Rational) (v : Value) (a c : Weighted End) →
-    integral H (value_weighted v (λ z. by_truth z a c)) ≃ by_value v (λ f. H (fault f)) (λ z. by_truth z (integral H a) (integral H c))
-guard_at H (Err f) a c = integral_sure H (fault f)
-guard_at H (Ok z) a c = by_test (is_zero z)
-  where
-    by_test : (b : Bool) → integral H (cond b c a) ≃ cond b (integral H c) (integral H a)
-    by_test true = same_refl _
-    by_test false = same_refl _
 
 guard_holds : (H : End → Rational) (v : State → Value) (s : State) (a c : Weighted End) → holds v s ≡ true → integral H (value_weighted (v s) (λ z. by_truth z a c)) ≃ integral H a
 guard_holds H v s a c h = by (v s) h
@@ -73,17 +65,6 @@ within_none : (D : List State) (K : State → Rational) → EachState (λ s. K s
 within_none D K h [] w = below_refl nought
 within_none D K h (e ∷ J) w =
     below_trans (add_below (below_trans (times_below (of e.0) (stands (λ s. K s ⊑ nought) D e.1 w.0 h)) (times_nought (of e.0)).below) (within_none D K h J w.1)) (nought_add nought).below
-
--- a guard's parts, over a table
-guard_parts : (H : End → Rational) (v : State → Value) (a c : State → Weighted End) (I : Table) →
-    integral (λ s. integral H (value_weighted (v s) (λ z. by_truth z (a s) (c s)))) I
-    ≃ integral (stop H) (faults v I) ⊕ (integral (λ s. integral H (a s)) (only (holds v) I) ⊕ integral (λ s. integral H (c s)) (only (fails v) I))
-guard_parts H v a c I =
-    same_trans (integral_same (λ s. integral H (value_weighted (v s) (λ z. by_truth z (a s) (c s)))) (guarded v H (λ s. integral H (a s)) (λ s. integral H (c s))) I (λ s. guard_at H (v s) (a s) (c s)))
-    (integral_guard v H (λ s. integral H (a s)) (λ s. integral H (c s)) I)
-
-each_sure : (H : End → Rational) (I : Table) → integral (λ s. integral H (sure (on s))) I ≃ integral (λ s. H (on s)) I
-each_sure H I = integral_same (λ s. integral H (sure (on s))) (λ s. H (on s)) I (λ s. integral_sure H (on s))
 
 each_onward : (H : End → Rational) (step k : State → Weighted End) (I : Table) →
     integral (λ s. integral H (end_weighted (step s) k)) I ≃ integral (λ s. integral (onward H k) (step s)) I
@@ -131,10 +112,6 @@ both_worth H ended g h =
     (same_trans (integral_append (stop H) ended (g.ended ++ h.ended)) (add_same (same_refl (integral (stop H) ended)) (integral_append (stop H) g.ended h.ended))))
     (both_regroup (integral (λ s. H (on s)) g.next) (integral (λ s. H (on s)) h.next) (integral (stop H) ended) (integral (stop H) g.ended) (integral (stop H) h.ended))
 
--- one weight for all of a table
-weighed : (w : Fraction) (K : State → Rational) (I : Table) → integral (λ s. of w ⊗ K s) I ≃ integral K (scaled w I)
-weighed w K I = same_trans (integral_times (of w) K I) (same_sym (integral_scaled w K I))
-
 -- a weighed list from each entry, and another
 two_weighed : (H : End → Rational) (u : Fraction) (a c : State → Weighted End) (I : Table) →
     integral (λ s. integral H (scaled u (a s) ++ c s)) I ≃ integral (λ s. integral H (a s)) (scaled u I) ⊕ integral (λ s. integral H (c s)) I
@@ -156,14 +133,10 @@ module _ (SameTable : Table → Table → Type 0) (SameEnds : Weighted End → W
   Tends step I f = (H : End → Rational) → IsTest H → Near n (integral (λ s. integral H (step s)) I) (worth H f) f.turns
 
   near_outflow : (H : End → Rational) (f : Outflow) (after : Table) (gone : Weighted End) (cost : Fraction) (x : Rational) → Outflows f after gone cost →
-      Near n x (integral (λ s. H (on s)) after ⊕ integral (stop H) gone) cost → Near n x (worth H f) f.turns
+      Near n x (counted H after gone) cost → Near n x (worth H f) f.turns
   near_outflow H f after gone cost x o h =
       near_cost n (let z = o.fraction in omega arith) o.turns
       (near_same n (same_refl x) (add_same (means.tables f.next after o.next (λ s. H (on s))) (means.ends f.ended gone o.ended H)) h)
-
-  near_alone : (step : State → Weighted End) (I : Table) (f : Outflow) → SettlesAlone SameTable SameEnds step I f → Tends step I f
-  near_alone step I f o H t =
-      near_outflow H f (going_on (taken_on I step)) (gone (taken_on I step)) zero_share _ o (near_exact n (same_trans (same_sym (integral_taken H I step)) (integral_split H (taken_on I step))))
 
   near_split : (H : End → Rational) (ended : Weighted End) (g h f : Outflow) (x y : Rational) → SettlesBoth SameTable SameEnds ended g h f →
       Near n x (worth H g) g.turns → Near n y (worth H h) h.turns → Near n (integral (stop H) ended ⊕ (x ⊕ y)) (worth H f) f.turns
@@ -261,10 +234,10 @@ module _ (SameTable : Table → Table → Type 0) (SameEnds : Weighted End → W
   -- ---- statements
   mutual
     pub statement_tends : (st : Statement) → StatementIsWeighed st → (I : Table) (f : Outflow) → StatementSettles SameTable SameEnds st I f → Tends (statement_weighted n None st) I f
-    statement_tends Skip w I f o H t = near_alone (statement_weighted n None Skip) I f o H t
-    statement_tends (Set x e) w I f o H t = near_alone (statement_weighted n None (Set x e)) I f o H t
-    statement_tends (Observe e) w I f o H t = near_alone (statement_weighted n None (Observe e)) I f o H t
-    statement_tends (Uniform x e) w I f o H t = near_alone (statement_weighted n None (Uniform x e)) I f o H t
+    statement_tends Skip w I f o H t = near_outflow H f _ _ zero_share _ o (near_exact n (skip_counted H I))
+    statement_tends (Set x e) w I f o H t = near_outflow H f _ _ zero_share _ o (near_exact n (set_counted H x (value_of e) I))
+    statement_tends (Observe e) w I f o H t = near_outflow H f _ _ zero_share _ o (near_exact n (seen_counted H (value_of e) I))
+    statement_tends (Uniform x e) w I f o H t = near_outflow H f _ _ zero_share _ o (near_exact n (drawn_counted H x (value_of e) I))
     statement_tends (If e a c) w I f o H t =
         near_same n (guard_parts H (value_of e) (weighted_ends n None a) (weighted_ends n None c) I) (same_refl (worth H f))
         (near_split H (faults (value_of e) I) o.0 o.1 f _ _ o.4
@@ -294,7 +267,7 @@ module _ (SameTable : Table → Table → Type 0) (SameEnds : Weighted End → W
 
     pub block_tends : (b : Statements) → BlockIsWeighed b → (I : Table) (f : Outflow) → BlockSettles SameTable SameEnds b I f → Tends (weighted_ends n None b) I f
     block_tends done w I f o H t =
-        near_outflow H f I [] zero_share _ o (near_exact n (same_trans (each_sure H I) (same_sym (add_nought (integral (λ s. H (on s)) I)))))
+        near_outflow H f I [] zero_share _ o (near_exact n (skip_counted H I))
     block_tends (st ▸ b) w I f o H t =
         let g = o.0 in
         let h = o.1 in

@@ -8,8 +8,7 @@ use Rattle.gcl_core.specs.meaning.Syntax.{Expression, Num, Var, Bin, Skip, Set, 
 use Rattle.gcl_core.specs.meaning.Value.{State, value_of}
 use Rattle.gcl_core.specs.meaning.Blocks.{End}
 use Rattle.gcl_core.specs.weighing.Fractions.{Fraction, plus, zero_share}
-use Rattle.gcl_core.specs.weighing.WeightedEnds.{taken_on, statement_weighted}
-use Rattle.table_flow.specs.Tables.{Table, going_on, gone, holds, only}
+use Rattle.table_flow.specs.Tables.{Table, holds, only, statement_flow}
 use Rattle.unlimited_law.specs.Alike.{AreFractions, Alike}
 use Rattle.unlimited_law.specs.Settling.{Outflow, IsOutflow}
 use Rattle.unlimited_law.specs.SettledMasses.{Settles, ProgramSettles, settled_failed, settled_mass, gap, endless_mass}
@@ -54,7 +53,7 @@ by_two P a b c d false false = d
 abbrev two : Bool → Bool → Fraction → Fraction → Fraction
 two b c u v = cond b (plus u (cond c (plus v zero_share) zero_share)) (cond c (plus v zero_share) zero_share)
 
-turn_alike : Alike back (going_on (taken_on (only (holds (value_of guard)) visits) (statement_weighted 0 None (Uniform 0 (Num (pos 2))))))
+turn_alike : Alike back (statement_flow 0 None (Uniform 0 (Num (pos 2))) (only (holds (value_of guard)) visits)).next
 turn_alike = record {
   each = λ event. by_two (λ b c. IsEqual (two b c (1, 1) (1, 1)) (two b c (2, 2) (2, 2))) refl refl refl refl (event s0) (event s1);
   first = (omega arith, (omega arith, tt));
@@ -168,9 +167,8 @@ both_fractions : AreFractions (third ++ thirds)
 both_fractions = (omega arith, (omega arith, tt))
 
 -- a state stays where it is
-idle_settles : (I : Table) → AreFractions I → AreFractions (going_on (taken_on I (statement_weighted 0 None Skip))) → Alike I (going_on (taken_on I (statement_weighted 0 None Skip))) →
-    Alike {A = End} [] (gone (taken_on I (statement_weighted 0 None Skip))) → Settles idle I (out I)
-idle_settles I f g h k = (out I, out I, record { next = h; ended = k; turns = refl; fraction = omega arith }, plain I f, joined I f)
+idle_settles : (I : Table) → AreFractions I → Settles idle I (out I)
+idle_settles I f = (out I, out I, plain I f, plain I f, joined I f)
 
 -- with 2/3 it never ends: x stays 0
 pub waiting_settles : ProgramSettles waiting (out third)
@@ -186,9 +184,9 @@ waiting_settles = (
       thirds,
       s0 ∷ [],
       out [],
-      idle_settles [] tt tt (itself [] tt) none_alike,
+      idle_settles [] tt,
       itself (third ++ thirds) both_fractions,
-      ((refl, out start, idle_settles start start_fractions start_fractions (itself start start_fractions) none_alike, none_alike, (inl refl, tt)), tt),
+      ((refl, out start, idle_settles start start_fractions, none_alike, (inl refl, tt)), tt),
       (inl refl, tt),
       joined third third_fractions,
     ),

@@ -9,8 +9,8 @@ use Rattle.gcl_core.specs.meaning.Value.{State, Value, value_of}
 use Rattle.gcl_core.specs.meaning.Blocks.{End}
 use Rattle.gcl_core.specs.weighing.Fractions.{Fraction, zero_share, plus}
 use Rattle.gcl_core.specs.weighing.Mass.{sum_of}
-use Rattle.gcl_core.specs.weighing.WeightedEnds.{Weighted, sure, scaled, taken_on, class_weight, statement_weighted}
-use Rattle.table_flow.specs.Tables.{Table, going_on, gone, holds, fails, only, faults}
+use Rattle.gcl_core.specs.weighing.WeightedEnds.{Weighted, sure, scaled, class_weight}
+use Rattle.table_flow.specs.Tables.{Table, holds, fails, only, faults, statement_flow}
 
 -- the table after a block, the entries that ended, and the expected number of turns of all loops
 pub record Outflow : Type 0 where
@@ -42,9 +42,9 @@ module _ (SameTable : Table → Table → Type 0) (SameEnds : Weighted End → W
     pub turns : IsEqual f.turns cost
     pub fraction : 1 ≤ f.turns.1
 
-  -- each entry by itself
-  abbrev pub SettlesAlone : (State → Weighted End) → Table → Outflow → Type 0
-  SettlesAlone step I f = IsOutflow f (going_on (taken_on I step)) (gone (taken_on I step)) zero_share
+  -- a statement of which no other is a part, by its flow
+  abbrev pub SettlesAlone : Statement → Table → Outflow → Type 0
+  SettlesAlone st I f = IsOutflow f (statement_flow 0 None st I).next (statement_flow 0 None st I).ended zero_share
 
   abbrev pub SettlesBoth : Weighted End → Outflow → Outflow → Outflow → Type 0
   SettlesBoth ended g h f = IsOutflow f (g.next ++ h.next) (ended ++ (g.ended ++ h.ended)) (plus g.turns h.turns)
@@ -62,10 +62,10 @@ module _ (SameTable : Table → Table → Type 0) (SameEnds : Weighted End → W
 
   abbrev mutual
     pub StatementSettles : Statement → Table → Outflow → Type 0
-    StatementSettles Skip I f = SettlesAlone (statement_weighted 0 None Skip) I f
-    StatementSettles (Set x e) I f = SettlesAlone (statement_weighted 0 None (Set x e)) I f
-    StatementSettles (Observe e) I f = SettlesAlone (statement_weighted 0 None (Observe e)) I f
-    StatementSettles (Uniform x e) I f = SettlesAlone (statement_weighted 0 None (Uniform x e)) I f
+    StatementSettles Skip I f = SettlesAlone Skip I f
+    StatementSettles (Set x e) I f = SettlesAlone (Set x e) I f
+    StatementSettles (Observe e) I f = SettlesAlone (Observe e) I f
+    StatementSettles (Uniform x e) I f = SettlesAlone (Uniform x e) I f
     StatementSettles (If e a c) I f =
         (g : Outflow) × (h : Outflow)
         × BlockSettles a (only (holds (value_of e)) I) g
