@@ -43,8 +43,7 @@ use Rattle.unlimited_law.proofs.SameWeights.{sum_some}
 use Rattle.unlimited_law.proofs.EndlessLimits.{endless_tends}
 use Rattle.unlimited_law.proofs.FreeBlocks.{block_free}
 use Rattle.unlimited_law.proofs.ProgramLimits.{mass_tends, above_one}
-use Rattle.exact_fold.specs.Exact.{all_of, IsExact}
-use Rattle.exact_fold.specs.Refused.{FailsAlways}
+use Rattle.exact_fold.specs.Exact.{all_of, IsExact, FailsAlways}
 use Rattle.exact_fold.specs.inner.Settled.{AreUnlimited}
 use Rattle.exact_fold.proofs.FreeFlows.{AreStopped, stopped_unlimited, free_stopped}
 use Rattle.exact_fold.proofs.MassLimits.{nothing}

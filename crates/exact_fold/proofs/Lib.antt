@@ -11,4 +11,5 @@ pub mod Rows
 pub mod Sums
 pub mod Arms
 pub mod MassLimits
+pub mod InTheLimit
 pub mod StringLimits

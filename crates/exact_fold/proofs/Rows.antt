@@ -31,8 +31,7 @@ use Rattle.unlimited_law.specs.Alike.{AreFractions, Alike}
 use Rattle.unlimited_law.specs.Settling.{Outflow}
 use Rattle.unlimited_law.specs.SettledMasses.{ProgramSettles, over, settled_weight, settled_failed, rest_of_one, runs_out}
 use Rattle.unlimited_law.proofs.SameWeights.{sum_some}
-use Rattle.exact_fold.specs.Exact.{all_of, IsExact}
-use Rattle.exact_fold.specs.Refused.{FailsAlways}
+use Rattle.exact_fold.specs.Exact.{all_of, IsExact, FailsAlways}
 use Rattle.exact_fold.specs.inner.Settled.{as_table, AreAbove, IsUnlimited, AreUnlimited}
 use Rattle.exact_fold.specs.inner.Rounds.{SumsTo, RoundOf, DividesTo}
 use Rattle.exact_fold.proofs.Steps.{TogetherAt, together_at, above_fractions, are_held, held_amount}

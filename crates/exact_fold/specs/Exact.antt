@@ -5,7 +5,7 @@ use Rattle.gcl_core.specs.declared.answers.Limit.{Limit}
 use Rattle.gcl_core.specs.declared.answers.Outcome.TheVariants as outcome
 use Rattle.gcl_core.specs.meaning.Outcomes.{same_outcome}
 use Rattle.gcl_core.specs.meaning.Syntax.{SourceProgram}
-use Rattle.gcl_core.specs.weighing.Fractions.{Fraction, zero_share, one, plus, IsBelowOne}
+use Rattle.gcl_core.specs.weighing.Fractions.{Fraction, zero_share, one, plus, AtMost, IsBelowOne}
 use Rattle.mass_fold.specs.Rows.{Rows, AreMasses}
 use Rattle.unlimited_law.specs.Settling.{Outflow}
 use Rattle.unlimited_law.specs.SettledMasses.{ProgramSettles, settled_failed, settled_mass, endless_mass}
@@ -25,3 +25,9 @@ pub record IsExact (p : SourceProgram) (rows : Rows) (endless : Fraction) : Type
   pub rest : endless ≡ lowest (endless_mass p settled)
   pub no_limit : (k : Limit) → (settled_mass p settled (same_outcome (outcome.Limit k))).0 ≡ 0
   pub sum : IsEqual (plus (all_of rows) endless) one
+
+-- the body settles, and a round fails with all weight
+pub record FailsAlways (p : SourceProgram) : Type 0 where
+  pub settled : Outflow
+  pub settles : ProgramSettles p settled
+  pub fails : AtMost one (settled_failed p settled)

@@ -1,4 +1,5 @@
 pub mod Exact
+pub mod InTheLimit
 pub mod Limits
 pub mod Loops
 pub mod Strings

@@ -2,21 +2,13 @@
 use Rattle.std.specs.Prelude.{◌≡◌, ◌<◌, None, false}
 use Rattle.numbers.specs.Fraction.{Overfills}
 use Rattle.gcl_core.specs.meaning.Syntax.{SourceProgram}
-use Rattle.gcl_core.specs.weighing.Fractions.{one, AtMost}
-use Rattle.unlimited_law.specs.Settling.{Outflow}
-use Rattle.unlimited_law.specs.SettledMasses.{ProgramSettles, settled_failed}
 use Rattle.table_flow.specs.Tables.{peak_of}
 use Rattle.table_flow.specs.Width.{round_width}
 use Rattle.mass_fold.specs.declared.table.TheConstants.{MOST_STATES}
+use Rattle.exact_fold.specs.InTheLimit.{FailsInTheLimit}
 use Rattle.exact_fold.specs.Loops.{any_loops}
 use Rattle.exact_fold.specs.declared.error.ExactError.{ExactError}
 use Rattle.exact_fold.specs.declared.error.ExactError.TheVariants.{TooWide, TooManyStates, AllFailed, OutOfMemory}
-
--- the body settles, and a round fails with all weight
-pub record FailsAlways (p : SourceProgram) : Type 0 where
-  pub settled : Outflow
-  pub settles : ProgramSettles p settled
-  pub fails : AtMost one (settled_failed p settled)
 
 abbrev pub HasNoLoop : SourceProgram → Type 0
 HasNoLoop p = any_loops p.body ≡ false
@@ -24,7 +16,7 @@ HasNoLoop p = any_loops p.body ≡ false
 -- Without a loop, at a limit of one turn: the common denominator of the round is 2^128 or more, or some point is reached with too
 -- many states. With a loop nothing is said of these two: a fraction may be too wide that the finder of visits met on its way.
 abbrev pub WhyRefused : SourceProgram → ExactError → Type 0
-WhyRefused p AllFailed = FailsAlways p
+WhyRefused p AllFailed = FailsInTheLimit p
 WhyRefused p TooWide = HasNoLoop p → Overfills (round_width p 1 None)
 WhyRefused p TooManyStates = HasNoLoop p → MOST_STATES < peak_of p 1 None
 WhyRefused p OutOfMemory = Unit {0}

@@ -1,11 +1,12 @@
 //! Exact masses of a program where nothing is limited, its loops included. The expected visits of a loop are looked for, and one
 //! turn of the loop checks what was found.
 //!
-//! Proved: the rows of `exact` are exactly the masses of what the program settles to, in lowest terms, outcomes ascending, and
-//! what they leave of 1 runs for ever (`masses`). Laws: at n turns each mass is at most its row and short of it by at most an
-//! n-th of a rate (`exact_masses_are_limits`); each row lies within the bounds of every limit of turns
-//! (`exact_masses_lie_within_bounds`); and the strings of bits on which runs end come to weigh what the rows say, as limits grow
-//! (`strings_tend_to_exact_masses`).
+//! Proved: each row of `exact` is what the mass of its outcome rises to as turns grow, in lowest terms, outcomes ascending, and what
+//! runs for ever is what the mass of the limit of turns tends to (`limits`). These are the masses of what the program settles to,
+//! and what they leave of 1 (`masses`). Laws: no other rows are such limits, and they exclude that every round fails in the limit
+//! (`exact_masses_are_told_by_their_limits`); at n turns each mass is at most its row and short of it by at most an n-th of a rate
+//! (`exact_masses_are_limits`); each row lies within the bounds of every limit of turns (`exact_masses_lie_within_bounds`); and the
+//! strings of bits on which runs end come to weigh what the rows say, as limits grow (`strings_tend_to_exact_masses`).
 //!
 //! No clause says that a program with a loop has an answer: a call that refused each of them as too wide would keep the contract,
 //! and tests alone show that it does not. Nothing is promised of the visits that are looked for, only of what passed the check.
@@ -26,6 +27,7 @@ mod wide;
 
 pub use error::ExactError;
 pub use laws::{
-    exact_masses_are_limits, exact_masses_lie_within_bounds, strings_tend_to_exact_masses,
+    exact_masses_are_limits, exact_masses_are_told_by_their_limits, exact_masses_lie_within_bounds,
+    strings_tend_to_exact_masses,
 };
 pub use program::{ExactMasses, exact};

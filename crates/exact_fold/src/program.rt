@@ -6,6 +6,7 @@ ghost use Rattle.mass_fold.specs.Amounts.{AreHeld};
 ghost use Rattle.mass_fold.specs.inner.Rounds.{TableParts};
 ghost use Rattle.gcl_core.specs.meaning.Views.{source_of};
 ghost use Rattle.exact_fold.specs.Exact.{IsExact};
+ghost use Rattle.exact_fold.specs.InTheLimit.{IsExactInTheLimit};
 ghost use Rattle.exact_fold.specs.Loops.{any_loops};
 ghost use Rattle.exact_fold.specs.Refused.{HasNoLoop, WhyRefused};
 ghost use Rattle.exact_fold.specs.inner.Settled.{ProgramSettlesTo};
@@ -124,8 +125,10 @@ fn divided(alloc: Global, round: LimitRound) -> Result<ExactMasses, SettleError>
 fn settled(alloc: Global, p: &Checked) -> Result<ExactMasses, ExactError>
     requires { any_loops (source_of p.now).body ≡ true }
     ensures masses { IfOk result (λ e. IsExact (source_of p.now) e.rows e.endless) }
+    ensures limits { IfOk result (λ e. IsExactInTheLimit (source_of p.now) e.rows e.endless) }
     ensures refused { IfErr result (WhyRefused (source_of p.now)) }
 {
+    p.is_kept();
     let round = limit_round(alloc, p)?;
     if round.failed.num() >= round.failed.den() {
         return Err(ExactError::AllFailed);
@@ -138,6 +141,7 @@ fn settled(alloc: Global, p: &Checked) -> Result<ExactMasses, ExactError>
 fn at_once(alloc: Global, p: &Checked) -> Result<ExactMasses, ExactError>
     requires { HasNoLoop (source_of p.now) }
     ensures masses { IfOk result (λ e. IsExact (source_of p.now) e.rows e.endless) }
+    ensures limits { IfOk result (λ e. IsExactInTheLimit (source_of p.now) e.rows e.endless) }
     ensures refused { IfErr result (WhyRefused (source_of p.now)) }
 {
     p.is_kept();
@@ -156,6 +160,7 @@ fn at_once(alloc: Global, p: &Checked) -> Result<ExactMasses, ExactError>
 /// What is tried is a table of programs, in the tests. `AllFailed` comes only where in the limit every round fails.
 pub fn exact(alloc: Global, p: &Checked) -> Result<ExactMasses, ExactError>
     ensures masses { IfOk result (λ e. IsExact (source_of p.now) e.rows e.endless) }
+    ensures limits { IfOk result (λ e. IsExactInTheLimit (source_of p.now) e.rows e.endless) }
     ensures refused { IfErr result (WhyRefused (source_of p.now)) }
 {
     if block_loops(&p.program().body) {

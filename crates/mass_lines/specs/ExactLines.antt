@@ -1,6 +1,6 @@
 -- The lines of masses where nothing is limited, outcomes ascending.
 use Rattle.std.specs.Prelude.{◌≡◌, ℕ, ◌==◌, All, List, [], ◌++◌, if◌then◌else◌}
-use Rattle.exact_fold.specs.Exact.{IsExact}
+use Rattle.exact_fold.specs.InTheLimit.{IsExactInTheLimit}
 use Rattle.gcl_core.specs.declared.answers.Outcome.{Outcome}
 use Rattle.gcl_core.specs.meaning.Syntax.{SourceProgram}
 use Rattle.gcl_core.specs.weighing.Fractions.{Fraction}
@@ -17,7 +17,7 @@ exact_lines rows endless = mass_rows_text rows ++ (if endless.0 == 0 then [] els
 pub record AreExactLines (p : SourceProgram) (text : List ℕ) : Type 0 where
   pub rows : Rows
   pub endless : Fraction
-  pub exact : IsExact p rows endless
+  pub exact : IsExactInTheLimit p rows endless
   pub narrow : All (λ row. IsNarrow row.1) rows
   pub narrow_endless : IsNarrow endless
   pub lines : text ≡ exact_lines rows endless

@@ -6,7 +6,7 @@ returns-clause-lines c =
     record {
       rows = c.in_ok-masses.masses.rows;
       endless = c.in_ok-masses.masses.endless;
-      exact = c.in_ok-masses.ensures.masses;
+      exact = c.in_ok-masses.ensures.limits;
       narrow = text.narrow;
       narrow_endless = text.narrow_endless;
       lines = text.lines;
