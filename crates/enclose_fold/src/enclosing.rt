@@ -9,8 +9,10 @@ ghost use Rattle.gcl_core.specs.weighing.Mass.{failed_mass};
 ghost use Rattle.mass_fold.specs.Refused.{IsLimit};
 ghost use Rattle.table_flow.specs.Tables.{peak_of};
 ghost use Rattle.units_law.specs.Enclosures.{AreEnclosures, SomePasses, upper_of_others};
-ghost use Rattle.units_law.specs.Holding.{IsFor, MayEnd, Enclose, AreClose, most_apart};
+ghost use Rattle.units_law.specs.FewOthers.{HaveLittle};
+ghost use Rattle.units_law.specs.Holding.{IsFor, MayEnd, AreOrdered, Enclose, AreClose, most_apart};
 ghost use Rattle.enclose_fold.specs.declared.error.EncloseError.TheVariants.{AllFailed, TooUnlikely};
+ghost use Rattle.enclose_fold.specs.NonePass.{NonePass};
 ghost use Rattle.enclose_fold.specs.Refused.{EncloseRefused};
 ghost use Rattle.enclose_fold.specs.inner.Outcomes.{RoundGives};
 ghost use Rattle.enclose_fold.specs.inner.Refusals.{Refuses};
@@ -27,8 +29,8 @@ use posterior_bounds::Bounds;
 use std::alloc::Global;
 use std::collections::BTreeMap;
 use units_law::{
-    bounds_are_as_wide_as_what_is_lost, masses_lie_between, products_are_rounded_down,
-    units_are_lost_by_rounding,
+    bounds_are_as_wide_as_what_is_lost, masses_lie_between, others_have_little,
+    products_are_rounded_down, units_are_lost_by_rounding,
 };
 
 // What one round gives: the units of each outcome that counts, of a failed observation, and of all that does not fail.
@@ -86,7 +88,8 @@ fn none_passes(failed: u128) -> EncloseError
 /// hold for every greater limit of turns too: what ran out of turns has no row, and counts as lost.
 ///
 /// What is lost in a round is at most a unit for each product, and at most six with a limit of attempts. Without a limit of rounds
-/// it is divided by what does not fail, so the bounds of a program that nearly always fails are wide.
+/// it is divided by what does not fail, so the bounds of a program that nearly always fails are wide. Two bounds are no further apart
+/// than what outcomes without a row have, but for some units; and these have no more than all rounds may lose (`few`).
 ///
 /// `TooManyStates` comes only where some point of the program is reached with more than 65,536 states. Where rounds have no limit and no
 /// unit of a round passes, there are no bounds: `AllFailed` comes only where all units of a round fail, and so the whole round does, and
@@ -105,16 +108,20 @@ pub fn enclose(
     requires rounds { IfSome rounds IsLimit }
     ensures rows { IfOk result (λ b. AreEnclosures (source_of p.now) turns attempts rounds all_turns b.rows) }
     ensures other { IfOk result (λ b. b.other ≡ upper_of_others (source_of p.now) turns attempts rounds all_turns) }
+    ensures ordered { IfOk result (λ b. AreOrdered b.rows b.other) }
     ensures some { IfOk result (λ b. IfNone rounds (SomePasses (source_of p.now) turns attempts)) }
     ensures passes { IfOk result (λ b. IfNone rounds (IsBelowOne (failed_mass (source_of p.now) turns attempts))) }
     ensures enclose { IfOk result
         (λ b. (n : ℕ) → IsFor all_turns turns n → MayEnd (source_of p.now) n attempts rounds → Enclose (source_of p.now) n attempts rounds b.rows b.other) }
     ensures close { IfOk result (λ b. AreClose (most_apart rounds) b.rows b.other) }
+    ensures few { IfOk result (λ b. HaveLittle (source_of p.now) turns attempts rounds all_turns b.other) }
     ensures refused { IfErr result (λ e. EncloseRefused e (source_of p.now) turns attempts rounds) }
+    ensures units { IfErr result (λ e. NonePass e (source_of p.now) turns attempts) }
 {
     p.is_kept();
     masses_lie_between();
     bounds_are_as_wide_as_what_is_lost();
+    others_have_little();
     let given = one_round(alloc, p, turns, attempts, all_turns)?;
     if rounds.is_none() && given.passing == 0 {
         return Err(none_passes(given.failed));

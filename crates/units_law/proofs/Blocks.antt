@@ -41,11 +41,11 @@ one_few : (L : ℕ) (J : Units State) (Js : List (Units State)) → length J ≤
 one_few L = All-cons (λ J. length J ≤ L)
 
 module _ (cut : Rounding) (c : RoundsDown cut) (N L n : ℕ) (some : 0 < N) (r : Option ℕ) where
-  merged_below : (J : Units State) (I : Table) → IsBelow N J I → IsBelow N (merged J) I
+  pub merged_below : (J : Units State) (I : Table) → IsBelow N J I → IsBelow N (merged J) I
   merged_below J I h G = rw (held_merged J G) (h G)
 
   -- a class of a draw, and none of them
-  class_below : (b q : ℕ) → 0 < b → (J : Units State) (I : Table) → Wholes N I → Wholes N (scaled (class_weight b r q) I) → IsBelow N J I →
+  pub class_below : (b q : ℕ) → 0 < b → (J : Units State) (I : Table) → Wholes N I → Wholes N (scaled (class_weight b r q) I) → IsBelow N J I →
       IsBelow N (class_units cut b r q J) (scaled (class_weight b r q) I)
   class_below b q p J I = lessened N (class_weight b r q) (cut.share b r q) (λ w. c.shares b r q w p) J I (class_pos b r q p)
 
@@ -91,7 +91,7 @@ module _ (cut : Rounding) (c : RoundsDown cut) (N L n : ℕ) (some : 0 < N) (r :
       }
 
   mutual
-    statement_below : (st : Statement) → StatementIsWeighed st → (J : Units State) (I : Table) → Wholes N I → Wholes N (statement_flow n r st I).next → Within N L (statement_flow n r st I) → IsBelow N J I →
+    pub statement_below : (st : Statement) → StatementIsWeighed st → (J : Units State) (I : Table) → Wholes N I → Wholes N (statement_flow n r st I).next → Within N L (statement_flow n r st I) → IsBelow N J I →
         FlowIsBelow N L (statement_units cut n r st J) (statement_flow n r st I)
     statement_below Skip p J I w y s h = record { next = h; ended = none_below N; few = none_few L }
     statement_below (Set x e) p J I w y s h =

@@ -14,7 +14,8 @@ use Rattle.units_law.specs.Down.{down}
 use Rattle.units_law.specs.Flows.{UnitFlow}
 use Rattle.units_law.specs.Rounds.{StandsBelow, round_units}
 use Rattle.units_law.specs.Enclosures.{fails_in, units_of, counts, given}
-use Rattle.units_law.specs.Holding.{IsFor, MayEnd, IsBetween}
+use Rattle.units_law.specs.Events.{IsBetween}
+use Rattle.units_law.specs.Holding.{IsFor, MayEnd}
 use Rattle.units_law.proofs.Least.{below_more, between_below, between_above, between_fraction}
 use Rattle.units_law.proofs.OneRound.{mass_rises, fails_rise, parted}
 use Rattle.units_law.proofs.Units.{number, numbers_join, held_join, nothing_held}

@@ -21,3 +21,7 @@ pub mod RowsHold
 pub mod Widths
 pub mod InARound
 pub mod RoundsApart
+pub mod RoundsLose
+pub mod Points
+pub mod FewOthers
+pub mod Ordered

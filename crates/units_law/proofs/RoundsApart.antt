@@ -10,7 +10,7 @@ use Rattle.numbers.specs.declared.units.TheConstants.{ALL}
 use Rattle.units_law.specs.SomeRounds.{InRounds, no_round, followed, with_digit, with_digits, in_rounds}
 
 -- a share of a sum, where there are e units more
-shared_apart : (f x y z e : ℕ) → f ≤ ALL → z ≤ x + y + e → shared f z ≤ shared f x + shared f y + (e + 1)
+pub shared_apart : (f x y z e : ℕ) → f ≤ ALL → z ≤ x + y + e → shared f z ≤ shared f x + shared f y + (e + 1)
 shared_apart f x y z e most h =
     let a = mul-le-mul_left f h in
     let b = mul-le-mul_right e most in
@@ -21,10 +21,10 @@ shared_apart f x y z e most h =
     let y1 = mod_below (f * y) ALL (omega arith) in
     omega arith
 
-shared_most : (f g : ℕ) → f ≤ ALL → g ≤ ALL → shared f g ≤ ALL
+pub shared_most : (f g : ℕ) → f ≤ ALL → g ≤ ALL → shared f g ≤ ALL
 shared_most f g h k = let a = mul-le-mul_right g h in let d = div-add-mod' (f * g) ALL in omega arith
 
-shared_nothing : (f z : ℕ) → z ≡ 0 → shared f z ≡ 0
+pub shared_nothing : (f z : ℕ) → z ≡ 0 → shared f z ≡ 0
 shared_nothing f z e = let x = ap (λ t. f * t) e in let d = div-add-mod' (f * z) ALL in omega arith
 
 -- after n rounds

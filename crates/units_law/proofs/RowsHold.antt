@@ -20,7 +20,8 @@ use Rattle.units_law.specs.Rounds.{StandsBelow}
 use Rattle.units_law.specs.SomeRounds.{in_rounds}
 use Rattle.units_law.specs.Between.{rounded_down, rounded_up}
 use Rattle.units_law.specs.Enclosures.{fails_in, given, whole_units, least_units, most_units, lost_units, lower_of, upper_of, upper_of_others, AreEnclosures}
-use Rattle.units_law.specs.Holding.{MayEnd, IsBetween, Enclose}
+use Rattle.units_law.specs.Events.{IsBetween}
+use Rattle.units_law.specs.Holding.{MayEnd, Enclose}
 use Rattle.units_law.proofs.Given.{given_joins, given_nothing}
 use Rattle.units_law.proofs.KeptInRounds.{same_fails, given_kept}
 use Rattle.units_law.proofs.Least.{some_left}

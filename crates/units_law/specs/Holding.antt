@@ -1,13 +1,14 @@
 -- What rows of bounds promise: each mass lies between its two bounds, and they are as far apart as what was lost. This project's own
 -- rule.
-use Rattle.std.specs.Prelude.{◌≡◌, ℕ, ◌+◌, ◌≤◌, Bool, true, false, Option, Some, None, Contains}
+use Rattle.std.specs.Prelude.{◌≡◌, ℕ, ◌+◌, ◌≤◌, Bool, true, false, Option, Some, None, AllPairs, Contains}
 use Rattle.numbers.specs.declared.units.TheConstants.{ALL}
+use Rattle.numbers.specs.Fraction.{InLowest}
 use Rattle.gcl_core.specs.declared.answers.Outcome.{Outcome}
+use Rattle.gcl_core.specs.meaning.Order.{is_before}
 use Rattle.gcl_core.specs.meaning.Syntax.{SourceProgram}
 use Rattle.gcl_core.specs.weighing.Fractions.{Fraction, plus, AtMost, IsBelowOne}
 use Rattle.gcl_core.specs.weighing.Mass.{failed_mass, mass_of, mass_of_those}
-use Rattle.posterior_bounds.specs.Rows.{Rows, HasNone}
-use Rattle.units_law.specs.Enclosures.{whole_units, least_units, most_units}
+use Rattle.posterior_bounds.specs.Rows.{Rows, HasNone, outcomes_of}
 
 -- the limits of turns that bounds are for: the n that they were made with, or it and every greater one
 abbrev pub IsFor : Bool → ℕ → ℕ → Type 0
@@ -19,11 +20,11 @@ abbrev pub MayEnd : SourceProgram → ℕ → Option ℕ → Option ℕ → Type
 MayEnd p n r None = IsBelowOne (failed_mass p n r)
 MayEnd p n r (Some R) = Unit {0}
 
--- At n' turns, whatever outcomes are meant have a mass between what they have at least and at most of the whole, both included.
-pub record IsBetween (p : SourceProgram) (n n' : ℕ) (r R : Option ℕ) (all_turns : Bool) (meant : Outcome → Bool) : Type 0 where
-  pub fraction : 1 ≤ (mass_of_those p n' r R meant).1
-  pub from_below : AtMost (least_units p n r R all_turns meant, whole_units p n r R all_turns) (mass_of_those p n' r R meant)
-  pub from_above : AtMost (mass_of_those p n' r R meant) (most_units p n r R all_turns meant, whole_units p n r R all_turns)
+-- Outcomes ascend, each is possible, and all fractions are in lowest terms.
+pub record AreOrdered (rows : Rows) (other : Fraction) : Type 0 where
+  pub ascending : AllPairs (λ x y. is_before x y ≡ true) (outcomes_of rows)
+  pub each : (x : Outcome) (low high : Fraction) → Contains rows (x, low, high) → (1 ≤ low.0) × InLowest low × InLowest high
+  pub others : InLowest other
 
 -- At n' turns the mass of an outcome that has a row lies between its bounds, both included, and all outcomes that have none have
 -- together at most the bound of the others.

@@ -9,4 +9,6 @@ pub mod Roundings
 pub mod SomeRounds
 pub mod Between
 pub mod Enclosures
+pub mod Events
 pub mod Holding
+pub mod FewOthers

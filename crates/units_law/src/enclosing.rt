@@ -5,7 +5,7 @@ ghost use Rattle.numbers.specs.declared.units.TheConstants.{ALL};
 ghost use Rattle.gcl_core.specs.declared.answers.Outcome.{Outcome};
 ghost use Rattle.gcl_core.specs.meaning.Checked.{IsChecked};
 ghost use Rattle.gcl_core.specs.meaning.Syntax.{SourceProgram};
-ghost use Rattle.gcl_core.specs.weighing.Fractions.{Fraction, times, power, power_sum, IsBelowOne, IsOne};
+ghost use Rattle.gcl_core.specs.weighing.Fractions.{Fraction, times, power, power_sum, AtMost, IsBelowOne, IsOne};
 ghost use Rattle.gcl_core.specs.weighing.Mass.{failed_mass};
 ghost use Rattle.posterior_bounds.specs.Rows.{Rows};
 ghost use Rattle.units_law.specs.Down.{down};
@@ -13,8 +13,10 @@ ghost use Rattle.units_law.specs.Rounding.{LosesFew};
 ghost use Rattle.units_law.specs.Roundings.{round_roundings};
 ghost use Rattle.units_law.specs.Rounds.{StandsBelow};
 ghost use Rattle.units_law.specs.SomeRounds.{InRounds, in_rounds};
-ghost use Rattle.units_law.specs.Enclosures.{fails_in, lost_units, upper_of_others, SomePasses, AreEnclosures};
-ghost use Rattle.units_law.specs.Holding.{IsFor, MayEnd, IsBetween, Enclose, most_apart, AreClose};
+ghost use Rattle.units_law.specs.Enclosures.{fails_in, lost_units, upper_of_others, NothingPasses, SomePasses, AreEnclosures};
+ghost use Rattle.units_law.specs.Events.{IsBetween};
+ghost use Rattle.units_law.specs.FewOthers.{most_of_others, HaveLittle, NearlyFails};
+ghost use Rattle.units_law.specs.Holding.{IsFor, MayEnd, AreOrdered, Enclose, most_apart, AreClose};
 
 /// It does nothing: its clauses say that the units of R rounds, worked out by the binary digits of R, are at most the exact weights:
 /// those of what fails in all of them, and of what some outcomes have in them.
@@ -27,14 +29,17 @@ pub fn some_rounds_stay_below()
 /// It does nothing: its clauses say that the masses of a program lie between the bounds that one round gives, rounded down, for every
 /// checked program, all limits, and for all turns every greater limit of turns at which a round fails with probability below 1, where
 /// there is no limit of rounds. So it is for every set of outcomes, and for each row; outcomes without a row have together at most the
-/// bound of the others. Where the round has a unit that does not fail, it fails with probability below 1; where all units fail, with
-/// probability 1.
+/// bound of the others. Rows ascend, each is of a possible outcome, and all fractions are in lowest terms. Where the round has a unit
+/// that does not fail, it fails with probability below 1; where all units fail, with probability 1.
 pub fn masses_lie_between()
     ensures events { (p : SourceProgram) (n n' : ℕ) (r R : Option ℕ) (all_turns : Bool) → IsChecked p → IsFor all_turns n n' → MayEnd p n' r R →
         (meant : Outcome → Bool) → IsBetween p n n' r R all_turns meant }
     ensures rows { (p : SourceProgram) (n n' : ℕ) (r R : Option ℕ) (all_turns : Bool) → IsChecked p → IsFor all_turns n n' → MayEnd p n' r R →
         (rows : Rows) (other : Fraction) → AreEnclosures p n r R all_turns rows → other ≡ upper_of_others p n r R all_turns →
         Enclose p n' r R rows other }
+    ensures ordered { (p : SourceProgram) (n : ℕ) (r R : Option ℕ) (all_turns : Bool) → IsChecked p → MayEnd p n r R →
+        (rows : Rows) (other : Fraction) → AreEnclosures p n r R all_turns rows → other ≡ upper_of_others p n r R all_turns →
+        AreOrdered rows other }
     ensures passes { (p : SourceProgram) (n : ℕ) (r : Option ℕ) → IsChecked p → SomePasses p n r → IsBelowOne (failed_mass p n r) }
     ensures fails { (p : SourceProgram) (n : ℕ) (r : Option ℕ) → IsChecked p → fails_in p n r ≡ ALL → IsOne (failed_mass p n r) }
 {}
@@ -48,4 +53,17 @@ pub fn bounds_are_as_wide_as_what_is_lost()
         AreClose (most_apart R) rows other }
     ensures lost { (p : SourceProgram) (n k : ℕ) (r : Option ℕ) → IsChecked p → LosesFew k ALL r down →
         lost_units p n r None false ≤ k * round_roundings down p n r }
+{}
+
+/// It does nothing: its clauses say what the bound of the others is at most: the units that the roundings of a round lose, and for all
+/// turns what ran out of turns, in all rounds, and one unit more, with a limit of rounds two for each. Of roundings there are no more
+/// than the tables of a round, its peak of states and its widest uniform draw allow. Where no unit passes, a round fails with all
+/// weight but for so many units.
+pub fn others_have_little()
+    ensures by_roundings { (p : SourceProgram) (n k units : ℕ) (r R : Option ℕ) (all_turns : Bool) → IsChecked p → MayEnd p n r R →
+        LosesFew k ALL r down → k * round_roundings down p n r ≤ units →
+        AtMost (upper_of_others p n r R all_turns) (most_of_others p n r R all_turns units) }
+    ensures by_tables { (p : SourceProgram) (n : ℕ) (r R : Option ℕ) (all_turns : Bool) → IsChecked p → MayEnd p n r R →
+        HaveLittle p n r R all_turns (upper_of_others p n r R all_turns) }
+    ensures none { (p : SourceProgram) (n : ℕ) (r : Option ℕ) → IsChecked p → NothingPasses p n r → NearlyFails p n r }
 {}

@@ -1,12 +1,13 @@
-use Rattle.std.proofs.Common.{◌∙◌, ap, arith}
+use Rattle.std.proofs.Common.{◌∙◌, ap, sym, subst, arith}
 use Rattle.std.specs.Prelude.{not}
 use Rattle.gcl_core.specs.meaning.Views.{source_of}
 use Rattle.gcl_core.specs.weighing.Fractions.{IsBelowOne}
 use Rattle.gcl_core.specs.weighing.Mass.{failed_mass}
 use Rattle.units_law.specs.Enclosures.{NothingPasses, SomePasses}
+use Rattle.units_law.specs.FewOthers.{HaveLittle}
 use Rattle.enclose_fold.proofs.Enclosed.{rows_are, other_is}
 use Rattle.enclose_fold.proofs.Ending.{unlimited, anyway, limited, implied, may_end}
-use Rattle.enclose_fold.proofs.NonePass.{none_pass}
+use Rattle.enclose_fold.proofs.NonePass.{units_told, cause_told}
 use Rattle.enclose_fold.proofs.enclosing.enclose.Goals.{else-is_none-via-then-is_none+else-given-eq0, else-is_none-via-else-is_none}
 use Rattle.enclose_fold.proofs.enclosing.enclose.Goals as goal
 
@@ -45,11 +46,32 @@ returns-clause-close c =
     c.bounds_are_as_wide_as_what_is_lost.ensures.rows p c.args.turns c.args.attempts c.args.rounds c.args.all_turns c.is_kept.ensures.kept
     (may_end p c.args.turns c.args.attempts c.args.rounds (returns-clause-passes c)) c.in_ok-bound_rows.field-0 c.upper_of_rest.result (returns-clause-rows c) (returns-clause-other c)
 
+pub returns-clause-ordered : goal.returns-clause-ordered
+returns-clause-ordered c =
+    let p = source_of c.args.p.now in
+    c.masses_lie_between.ensures.ordered p c.args.turns c.args.attempts c.args.rounds c.args.all_turns c.is_kept.ensures.kept
+    (may_end p c.args.turns c.args.attempts c.args.rounds (returns-clause-passes c)) c.in_ok-bound_rows.field-0 c.upper_of_rest.result (returns-clause-rows c) (returns-clause-other c)
+
+pub returns-clause-few : goal.returns-clause-few
+returns-clause-few c =
+    let p = source_of c.args.p.now in
+    subst (HaveLittle p c.args.turns c.args.attempts c.args.rounds c.args.all_turns) (sym (returns-clause-other c))
+    (c.others_have_little.ensures.by_tables p c.args.turns c.args.attempts c.args.rounds c.args.all_turns c.is_kept.ensures.kept
+    (may_end p c.args.turns c.args.attempts c.args.rounds (returns-clause-passes c)))
+
 pub returns-then-given-eq0-clause-refused : goal.returns-then-given-eq0-clause-refused
 returns-then-given-eq0-clause-refused c =
     let p = source_of c.args.p.now in
     let given = c.in_ok-given.ensures.ok in
     let nothing : NothingPasses p c.args.turns c.args.attempts = let z = given.passed in omega (arith, z, c.if-given-eq0.true) in
-    none_pass p c.args.turns c.args.attempts c.in_ok-given.given.failed given.failed (let z = given.within in omega (arith, z))
-    (c.masses_lie_between.ensures.fails p c.args.turns c.args.attempts c.is_kept.ensures.kept) nothing
-    c.args.rounds (unlimited c.args.rounds (c.is_none.ensures ∙ ap not c.if-is_none.true)) c.none_passes.result c.none_passes.ensures.all c.none_passes.ensures.some
+    cause_told p c.args.turns c.args.attempts c.in_ok-given.given.failed given.failed (let z = given.within in omega (arith, z)) nothing c.none_passes.result c.none_passes.ensures.all c.none_passes.ensures.some
+    (c.masses_lie_between.ensures.fails p c.args.turns c.args.attempts c.is_kept.ensures.kept)
+    (c.others_have_little.ensures.none p c.args.turns c.args.attempts c.is_kept.ensures.kept nothing)
+    c.args.rounds (unlimited c.args.rounds (c.is_none.ensures ∙ ap not c.if-is_none.true))
+
+pub returns-then-given-eq0-clause-units : goal.returns-then-given-eq0-clause-units
+returns-then-given-eq0-clause-units c =
+    let p = source_of c.args.p.now in
+    let given = c.in_ok-given.ensures.ok in
+    let nothing : NothingPasses p c.args.turns c.args.attempts = let z = given.passed in omega (arith, z, c.if-given-eq0.true) in
+    units_told p c.args.turns c.args.attempts c.in_ok-given.given.failed given.failed (let z = given.within in omega (arith, z)) nothing c.none_passes.result c.none_passes.ensures.all c.none_passes.ensures.some

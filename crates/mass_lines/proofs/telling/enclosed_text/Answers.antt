@@ -7,13 +7,12 @@ returns-clause-lines c =
     record {
       rows = c.in_ok-found.found.rows;
       other = c.in_ok-found.found.other;
-      exact = b.rows;
-      others = b.other;
+      ordered = b.ordered;
       narrow = text.narrow;
       narrow_others = text.narrow_others;
-      some = b.some;
       passes = b.passes;
       enclose = b.enclose;
       close = b.close;
+      few = b.few;
       lines = text.lines;
     }
