@@ -13,6 +13,6 @@ pub returns-clause-program : goal.returns-clause-program
 returns-clause-program g c =
     let one = c.one_reading.ensures.written c.as_slice.result.now in
     record {
-      tells = λ file agrees. writes_file _ _ _ (c.in_ok-text.ensures.text file agrees ∙ ap Some (sym c.as_slice.ensures.value)) one c.parse_text.ensures.written;
-      some = (Some c.as_slice.result.now, writes_file _ _ _ refl one c.parse_text.ensures.written);
+      tells = λ file agrees. writes_file _ _ _ (c.in_ok-text.ensures.text file agrees ∙ ap Some (sym c.as_slice.ensures.value)) one c.written_program.ensures.written;
+      some = (Some c.as_slice.result.now, writes_file _ _ _ refl one c.written_program.ensures.written);
     }
