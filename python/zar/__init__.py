@@ -4,6 +4,8 @@
     >>> die = zar.Program("face ~ uniform(6); observe face % 2 = 1; return face + 1;")
     >>> die.mass()
     {2: Fraction(1, 3), 4: Fraction(1, 3), 6: Fraction(1, 3)}
+    >>> die.mass().mean()
+    Fraction(4, 1)
     >>> die.tally(1000, seed=1)[4]
     326
     >>> die.draws(5, seed=1)
@@ -14,12 +16,13 @@ exact. A refused text is Refused, with its line and its column.
 """
 from .dice import Die
 from .library import lines as _lines
+from .masses import Masses
 from .printed import Bounds, Fault, Limit, Outcome, Rest
 from .programs import Program
 from .refusals import NoValue, Refused
 from .streams import Runs
 
-__all__ = ["Bounds", "Die", "Fault", "Limit", "NoValue", "Outcome", "Program", "Refused", "Rest", "Runs", "version"]
+__all__ = ["Bounds", "Die", "Fault", "Limit", "Masses", "NoValue", "Outcome", "Program", "Refused", "Rest", "Runs", "version"]
 
 
 def version() -> str:

@@ -5,6 +5,7 @@ import array
 import ctypes
 import dataclasses
 import functools
+import mmap
 import operator
 import os
 import pathlib
@@ -15,8 +16,9 @@ NAME = "libzar.so.1"
 TEXT = (ctypes.c_char_p, ctypes.c_size_t)
 ARRAY = (ctypes.c_void_p, ctypes.c_size_t)
 NUMBER = ctypes.c_uint64
-# How many bytes of lines there is room for at first.
-ROOM = 4096
+# How many bytes of lines there is room for at first, so that they are worked out once: more than 65,536 outcomes take. Memory that
+# nothing is written to is not taken.
+ROOM = 1 << 24
 # The statuses but 0, for an answer.
 TEXT_REFUSED, NUMBERS_REFUSED, OUT_OF_MEMORY, MASS_REFUSED = 1, 2, 5, 6
 
@@ -79,6 +81,16 @@ def whole(name: str, value: int) -> int:
     return number
 
 
+def limits(**numbers: int) -> Limits:
+    """The limits of runs."""
+    return Limits(**{name: whole(name, it) for name, it in numbers.items()})
+
+
+def roll_limits(**numbers: int) -> RollLimits:
+    """The limits of rolls."""
+    return RollLimits(**{name: whole(name, it) for name, it in numbers.items()})
+
+
 def taken(said: Said, **numbers: int) -> Said:
     """What a call said, where its status is 0."""
     if said.status == NUMBERS_REFUSED:
@@ -106,10 +118,10 @@ def lines(call: str, *text: bytes, **numbers: int) -> str:
     given = [it for one in text for it in (one, len(one))] + [whole(name, it) for name, it in numbers.items()]
     room = ROOM
     while True:
-        buffer = ctypes.create_string_buffer(room)
-        said = taken(getattr(loaded(), call)(*given, buffer, room), **numbers)
+        memory = mmap.mmap(-1, room)
+        said = taken(getattr(loaded(), call)(*given, (ctypes.c_char * room).from_buffer(memory), room), **numbers)
         if said.length <= room:
-            return buffer.raw[: said.length].decode()
+            return memory[: said.length].decode()
         room = said.length
 
 

@@ -9,40 +9,37 @@ import re
 import typing
 from collections import Counter
 from fractions import Fraction
-from typing import Unpack
 
-from . import library, printed
+from . import library, printed, shown
+from .masses import Masses
 from .printed import Bounds, Outcome
 from .refusals import REASONS, Refused
-from .streams import Runs, Streams, streams, with_usual
+from .streams import Runs, Streams, streams
 
 Text = typing.Union[str, bytes]
 Path = typing.Union[str, os.PathLike[str]]
 NAME = re.compile(r"[A-Za-z_][A-Za-z0-9_]*", re.ASCII)
-USUAL = {"budget": 65536, "turns": 1000, "attempts": 1000, "rounds": 1000}
-
-
-class Limits(typing.TypedDict, total=False):
-    """The limits of runs: bits that a run may read, turns of each entry of a loop, attempts of each draw, and rounds."""
-
-    budget: int
-    turns: int
-    attempts: int
-    rounds: int
+# The limits of a run, where none are given, and the turns of a loop that are weighed.
+BUDGET, TURNS, ATTEMPTS, ROUNDS = 65536, 1000, 1000, 1000
+WEIGHED_TURNS = 30
 
 
 class Program:
-    """A program of cpGCL, of a text or, with `path`, of a file. A text that is none is Refused.
+    """A program of cpGCL, of a text or, with `path`, of the file of that name. A text that is none is Refused.
 
     Numbers given by name are assignments before the text: `Program("x ~ uniform(n); return x;", n=6)`. A weight of a `choice` is no
-    expression, so a parameter cannot stand there.
+    expression, so a parameter cannot stand there. Programs of the same text with the same parameters are equal.
+
+    A run reads at most `budget` bits of its stream, from 0 to 10^9, and makes at most so many `turns` of each entry of a loop, from 0
+    to 10^9, `attempts` of each draw, from 1 to 10^9, and `rounds`, from 1 to 10^9: where an `observe` fails a new round begins. A run
+    that is cut off is Rest.MORE_BITS or a Limit. A number out of its range is a ValueError, and want of memory a MemoryError. The
+    limits where none are given are those of the commands: more for runs than for what is weighed.
     """
 
     def __init__(self, text: Text | None = None, /, *, path: Path | None = None, **parameters: int) -> None:
         if (text is None) == (path is None):
             raise TypeError("either a text or a path is to be given")
-        given = pathlib.Path(path).read_bytes() if path is not None else text
-        own = given.encode() if isinstance(given, str) else bytes(given or b"")
+        own = pathlib.Path(path).read_bytes() if path is not None else encoded(text)
         before = "".join(assignment(name, value) for name, value in parameters.items()).encode()
         self._text = before + own
         said = library.check(self._text)
@@ -56,7 +53,19 @@ class Program:
         return self._text
 
     def __repr__(self) -> str:
-        return f"{type(self).__name__}({self._text.decode('utf-8', 'replace')!r})"
+        return f"{type(self).__name__}({shown.short(self._words())})"
+
+    def _repr_html_(self) -> str:
+        return shown.text(self._words())
+
+    def _words(self) -> str:
+        return self._text.decode("utf-8", "replace")
+
+    def __eq__(self, other: object) -> bool:
+        return isinstance(other, Program) and self._text == other._text
+
+    def __hash__(self) -> int:
+        return hash(self._text)
 
     def show(self) -> str:
         """The canonical text."""
@@ -66,53 +75,81 @@ class Program:
         """The listing of the code that samples it."""
         return library.lines("zar_code", self._text)
 
-    def mass(self, *, turns: int = 30, attempts: int | None = None, rounds: int | None = None) -> dict[Outcome, Fraction]:
-        """The exact probability of each outcome, with no limit of attempts or rounds where none is given.
+    def mass(self, *, turns: int = WEIGHED_TURNS, attempts: int | None = None, rounds: int | None = None) -> Masses:
+        """The exact probability of each outcome.
 
-        Refused with E13 to E15 where the masses are too wide, too many or none.
+        The limits: `turns` 30 of each entry of a loop, where `runs` has 1000; no limit of `attempts` and `rounds`. Refused with E13 to
+        E15 where the masses are too wide, too many or none.
         """
         limits = {"attempts": or_none("attempts", attempts), "rounds": or_none("rounds", rounds)}
-        return printed.rows(library.lines("zar_mass", self._text, turns=turns, **limits), "mass")
+        return Masses(printed.rows(library.lines("zar_mass", self._text, turns=turns, **limits), "mass"))
 
-    def exact(self) -> dict[Outcome, Fraction]:
+    def exact(self) -> Masses:
         """The exact probability of each value and fault where nothing is limited, and of Rest.ENDLESS, that a run never ends.
 
         Refused as `mass`.
         """
-        return printed.rows(library.lines("zar_exact", self._text), "mass")
+        return Masses(printed.rows(library.lines("zar_exact", self._text), "mass"))
 
-    def posterior(self, *, turns: int = 30) -> dict[Outcome, Bounds]:
-        """Bounds of the probability of each value and fault, and of Rest.OTHER, all others; they hold for every greater limit of turns.
+    def posterior(self, *, turns: int = WEIGHED_TURNS) -> dict[Outcome, Bounds]:
+        """Bounds of the probability of each value and fault, and of Rest.OTHER, all others.
 
-        Refused as `mass`.
+        The limit: `turns` 30 of each entry of a loop. The bounds hold for every greater one. Refused as `mass`.
         """
         return printed.bounds(library.lines("zar_posterior", self._text, turns=turns))
 
-    def cost(self, *, attempts: int, rounds: int, turns: int = 30) -> Fraction:
-        """How many bits a run reads on average under these limits. Refused with E13 or E14 as `mass`."""
+    def cost(self, *, turns: int = WEIGHED_TURNS, attempts: int = 2, rounds: int = 1) -> Fraction:
+        """How many bits a run reads on average under these limits.
+
+        The limits: `turns` 30 of each entry of a loop, `attempts` 2 of each draw, `rounds` 1. Each attempt makes the figure wider.
+        Refused with E13 or E14 as `mass`.
+        """
         return printed.bits(library.lines("zar_cost", self._text, turns=turns, attempts=attempts, rounds=rounds))
 
-    def runs(self, count: int, *, seed: int, first: int = 0, threads: int = 1, **limits: Unpack[Limits]) -> Runs:
+    def runs(
+        self, count: int, *, seed: int, first: int = 0, threads: int = 1,
+        budget: int = BUDGET, turns: int = TURNS, attempts: int = ATTEMPTS, rounds: int = ROUNDS,
+    ) -> Runs:
         """How the runs on the streams `first` to `first + count - 1` of the seed end, those without a value, too.
 
-        The answer is the same whatever the number of threads.
+        The limits of a run: `budget` 65536 bits, `turns` 1000 of each entry of a loop, `attempts` 1000 of each draw, `rounds` 1000. The
+        answer is the same whatever the number of threads.
         """
-        return self._streams(seed, first, count, limits).run(threads)
+        return self._streams(count, seed, first, budget, turns, attempts, rounds).run(threads)
 
-    def draws(self, count: int, *, seed: int, first: int = 0, threads: int = 1, **limits: Unpack[Limits]) -> array.array[int]:
+    def draws(
+        self, count: int, *, seed: int, first: int = 0, threads: int = 1,
+        budget: int = BUDGET, turns: int = TURNS, attempts: int = ATTEMPTS, rounds: int = ROUNDS,
+    ) -> array.array[int]:
         """The values of these runs, as an array of 64-bit numbers, which numpy.asarray takes without a copy.
 
-        The first run that ends without a value is NoValue: to leave it out would be to condition on its not coming.
+        The limits of a run: `budget` 65536 bits, `turns` 1000 of each entry of a loop, `attempts` 1000 of each draw, `rounds` 1000. The
+        first run that ends without a value is NoValue: to leave it out would be to condition on its not coming.
         """
-        return self._streams(seed, first, count, limits).values(threads)
+        return self._streams(count, seed, first, budget, turns, attempts, rounds).values(threads)
 
-    def tally(self, count: int, *, seed: int, first: int = 0, threads: int = 1, **limits: Unpack[Limits]) -> Counter[Outcome]:
-        """How many of these runs end in each outcome. Memory does not grow with the count."""
-        return self._streams(seed, first, count, limits).tally(threads)
+    def tally(
+        self, count: int, *, seed: int, first: int = 0, threads: int = 1,
+        budget: int = BUDGET, turns: int = TURNS, attempts: int = ATTEMPTS, rounds: int = ROUNDS,
+    ) -> Counter[Outcome]:
+        """How many of these runs end in each outcome. Memory does not grow with the count.
 
-    def _streams(self, seed: int, first: int, count: int, limits: Limits) -> Streams:
-        seed, numbers = library.whole("seed", seed), library.Limits(**with_usual(USUAL, limits))
-        return streams(lambda start, places: library.draws(self._text, seed, start, numbers, places), first, count)
+        The limits of a run: `budget` 65536 bits, `turns` 1000 of each entry of a loop, `attempts` 1000 of each draw, `rounds` 1000.
+        """
+        return self._streams(count, seed, first, budget, turns, attempts, rounds).tally(threads)
+
+    def _streams(self, count: int, seed: int, first: int, budget: int, turns: int, attempts: int, rounds: int) -> Streams:
+        seed, limits = library.whole("seed", seed), library.limits(budget=budget, turns=turns, attempts=attempts, rounds=rounds)
+        return streams(lambda start, places: library.draws(self._text, seed, start, limits, places), first, count)
+
+
+def encoded(text: Text | None) -> bytes:
+    """The bytes of a text."""
+    if isinstance(text, str):
+        return text.encode()
+    if not isinstance(text, bytes):
+        raise TypeError(f"a text is str or bytes, and no {type(text).__name__}; a file is given as path=")
+    return text
 
 
 def assignment(name: str, value: int) -> str:
@@ -126,7 +163,10 @@ def assignment(name: str, value: int) -> str:
 def refusal(code: int, place: int | None, before: bytes, own: bytes) -> ValueError:
     """A refusal with its place in the text without the parameters, or, where that lies in them, of the parameter."""
     if place is None or place >= len(before):
-        return Refused(code, own, None if place is None else place - len(before))
+        why = Refused(code, own, None if place is None else place - len(before))
+        if own.endswith(b".gcl"):
+            why.add_note("this was taken for a text; a file is given as path=")
+        return why
     name = before[:place].decode().rpartition("\n")[2] or before[place:].decode().partition(" ")[0]
     return ValueError(f"{name.partition(' ')[0]} is no name of a parameter: {REASONS[code]}")
 

@@ -1,8 +1,12 @@
 """Why there is no answer."""
 from __future__ import annotations
 
+import typing
+
 from .printed import Outcome, words
 
+# How an error is copied, and handed from one process to another: by what it was made of, since what it says is no such thing.
+Reduced = tuple[type, tuple[typing.Any, ...], dict[str, typing.Any]]
 # The words of the codes, as `zar` prints them.
 REASONS = {
     1: "text too long",
@@ -31,6 +35,7 @@ class Refused(ValueError):
     """
 
     def __init__(self, code: int, text: bytes = b"", offset: int | None = None) -> None:
+        self._given = code, text, offset
         self.code, self.reason, self.offset = f"E{code}", REASONS[code], offset
         self.line: int | None = None
         self.column: int | None = None
@@ -41,6 +46,9 @@ class Refused(ValueError):
             told = f"{told}, line {self.line}, column {self.column}\n{self.excerpt}"
         super().__init__(told)
 
+    def __reduce__(self) -> Reduced:
+        return type(self), self._given, self.__dict__
+
 
 class NoValue(ArithmeticError):
     """A draw that ended without a value: `stream` is its stream, and `outcome` how it ended."""
@@ -48,6 +56,9 @@ class NoValue(ArithmeticError):
     def __init__(self, stream: int, outcome: Outcome) -> None:
         self.stream, self.outcome = stream, outcome
         super().__init__(f"the run on stream {stream} has no value: {words(outcome)}")
+
+    def __reduce__(self) -> Reduced:
+        return type(self), (self.stream, self.outcome), self.__dict__
 
 
 def placed(text: bytes, offset: int) -> tuple[int, int, str]:

@@ -3,12 +3,15 @@ from __future__ import annotations
 
 import array
 import collections
+import collections.abc
 import concurrent.futures
 import ctypes
 import dataclasses
+import itertools
+import sys
 import typing
 
-from . import library
+from . import library, shown
 from .printed import Fault, Limit, Outcome, Rest
 from .refusals import NoValue
 
@@ -17,20 +20,50 @@ ENDS: tuple[Outcome, ...] = (0, *Fault, Limit.TURNS, Limit.ATTEMPTS, Limit.ROUND
 # So many draws, where no more are asked for at a time, are one call of the library: a thread that is done takes the next ones, and an
 # interrupt is heard.
 BLOCK = 1 << 16
+# So many blocks for each thread are handed out and not yet taken back.
+AHEAD = 2
+Part = typing.TypeVar("Part")
+# The numbers of `values`, in the words of numpy.
+NUMBERS = "<i8" if sys.byteorder == "little" else ">i8"
 
 
-@dataclasses.dataclass(frozen=True)
-class Runs:
-    """How runs ended, in the order of their streams.
+@dataclasses.dataclass(frozen=True, repr=False)
+class Runs(collections.abc.Sequence[Outcome]):
+    """How runs ended: the sequence of their outcomes, in the order of their streams.
 
-    `values` is an array of 64-bit numbers, 0 where a run has no value. `ends` has a byte for each run, 0 for a value.
+    `values` is an array of 64-bit numbers, 0 where a run has no value. `ends` has a byte for each run, 0 for a value. `streams` has the
+    numbers of the streams. numpy.asarray takes the values without a copy where each run has one, and else the outcomes, as objects.
     """
 
     values: array.array[int]
     ends: bytearray
+    streams: range
 
     def __len__(self) -> int:
         return len(self.ends)
+
+    @typing.overload
+    def __getitem__(self, place: int) -> Outcome: ...
+
+    @typing.overload
+    def __getitem__(self, place: slice) -> Runs: ...
+
+    def __getitem__(self, place: int | slice) -> Outcome | Runs:
+        if isinstance(place, slice):
+            return Runs(self.values[place], self.ends[place], self.streams[place])
+        return ENDS[self.ends[place]] if self.ends[place] else self.values[place]
+
+    def __iter__(self) -> typing.Iterator[Outcome]:
+        return (ENDS[end] if end else value for value, end in zip(self.values, self.ends))
+
+    def __repr__(self) -> str:
+        return f"<{len(self)} runs: {shown.short([*self[:9]])}>"
+
+    @property
+    def __array_interface__(self) -> dict[str, typing.Any]:
+        if not self.all_values:
+            raise AttributeError("not each run has a value")
+        return {"version": 3, "shape": (len(self),), "typestr": NUMBERS, "data": self.values}
 
     @property
     def all_values(self) -> bool:
@@ -39,11 +72,11 @@ class Runs:
 
     def outcomes(self) -> typing.Iterator[Outcome]:
         """The outcome of each run."""
-        return (ENDS[end] if end else value for value, end in zip(self.values, self.ends))
+        return iter(self)
 
     def tally(self) -> collections.Counter[Outcome]:
         """How many runs ended in each outcome."""
-        return collections.Counter(self.values if self.all_values else self.outcomes())
+        return collections.Counter(self.values if self.all_values else self)
 
 
 @dataclasses.dataclass(frozen=True)
@@ -57,7 +90,7 @@ class Streams:
 
     def run(self, threads: int) -> Runs:
         """The runs on the streams."""
-        runs = Runs(array.array("q", [0]) * self.count, bytearray(self.count))
+        runs = Runs(array.array("q", [0]) * self.count, bytearray(self.count), range(self.first, self.first + self.count))
         if self.count:  # an empty array has no address
             self._fill(runs, threads)
         return runs
@@ -78,7 +111,7 @@ class Streams:
         runs = self.run(threads)
         if not runs.all_values:
             place = next(place for place, end in enumerate(runs.ends) if end)
-            raise NoValue(self.first + place, ENDS[runs.ends[place]])
+            raise NoValue(runs.streams[place], ENDS[runs.ends[place]])
         return runs.values
 
     def tally(self, threads: int) -> collections.Counter[Outcome]:
@@ -92,8 +125,8 @@ class Streams:
             whole.update(part)
         return whole
 
-    def _parts(self) -> list[range]:
-        return [range(start, min(start + self.block, self.count)) for start in range(0, self.count, self.block)]
+    def _parts(self) -> typing.Iterator[range]:
+        return (range(start, min(start + self.block, self.count)) for start in range(0, self.count, self.block))
 
 
 def streams(write: typing.Callable[[int, library.Places], None], first: int, count: int, block: int = BLOCK) -> Streams:
@@ -103,19 +136,16 @@ def streams(write: typing.Callable[[int, library.Places], None], first: int, cou
     return Streams(write, first, count, block)
 
 
-def with_usual(usual: dict[str, int], limits: typing.Mapping[str, typing.Any]) -> dict[str, int]:
-    """The limits, and the usual ones where none is given. A name that is no limit is a TypeError."""
-    if unknown := limits.keys() - usual.keys():
-        raise TypeError(f"no limit is called {', '.join(sorted(unknown))}")
-    return {name: library.whole(name, it) for name, it in {**usual, **limits}.items()}
-
-
-def side_by_side(work: typing.Callable[[range], typing.Any], blocks: list[range], threads: int) -> typing.Iterator[typing.Any]:
-    """The results of the work on the blocks, in their order, by so many threads."""
+def side_by_side(work: typing.Callable[[range], Part], blocks: typing.Iterator[range], threads: int) -> typing.Iterator[Part]:
+    """The results of the work on the blocks, in their order, by so many threads. Few blocks are taken ahead of what is asked for."""
     if threads < 1:
         raise ValueError("there is no thread")
     if threads == 1:
         yield from map(work, blocks)
         return
     with concurrent.futures.ThreadPoolExecutor(threads) as pool:
-        yield from pool.map(work, blocks)
+        begun = collections.deque(pool.submit(work, block) for block in itertools.islice(blocks, AHEAD * threads))
+        while begun:
+            done = begun.popleft().result()
+            begun.extend(pool.submit(work, block) for block in itertools.islice(blocks, 1))
+            yield done
