@@ -5,7 +5,7 @@
  * which it gives back. The command `enclose` of the program has no function here.
  *
  * What a caller must keep, since no call can test it:
- *   - no pointer is null, not even one to an array of length 0;
+ *   - no pointer is null, not even one to an array of length 0, which may be any other; an empty vector or view of C++ may have a null one;
  *   - each array has the length that is told beside it, and no two arrays of a call overlap;
  *   - no other thread writes the text, the weights or the limits of a call while it runs, nor reads or writes the arrays that it writes.
  * All else is tested, and answered by a status.
@@ -18,6 +18,9 @@
 #ifdef __cplusplus
 extern "C" {
 #endif
+
+/* The version of this header, for a test as it is compiled: 10000 times the first number, 100 times the second, and the third. */
+#define ZAR_VERSION 10000
 
 /* The statuses of a call, which are those that the program `zar` ends with. Numbers are tested before the text, and the text before
  * its masses are worked out. */
@@ -37,6 +40,14 @@ typedef struct {
     uint32_t place;  /* how many bytes stand before it; else 0 */
     uint64_t length; /* of the lines, in bytes; else 0 */
 } zar_said;
+
+/* The words of the code of a refusal, as `zar` prints them; of any other number none. They are of this header, and not of the library. */
+static inline const char *zar_reason(uint8_t code) {
+    static const char *const words[] = {
+        "", "text too long", "bad byte", "number too wide", "name too long", "unexpected", "too deep", "kind mismatch", "unknown name",
+        "too many names", "zero denominator", "weight above one", "weight too fine", "fraction too wide", "too many states", "every round fails"};
+    return code < sizeof words / sizeof words[0] ? words[code] : "";
+}
 
 /* Lines are written to the front of an array, of this capacity in bytes, where they fit, and else it stays as it was; `length` is
  * theirs in either case. So a call with a capacity of 0 asks how much room they need. They are the bytes that the program prints,
@@ -74,6 +85,13 @@ enum {
     ZAR_MORE_BITS = 7,    /* it needs more bits than the budget has */
     ZAR_FLIPS = 8         /* a roll alone: cut off by the limit of flips */
 };
+
+/* The words of an end, as `zar` prints them; of any other number none. */
+static inline const char *zar_ending(uint8_t end) {
+    static const char *const words[] = {
+        "value", "fault overflow", "fault zero divisor", "fault bad bound", "limit turns", "limit attempts", "limit rounds", "more bits", "limit flips"};
+    return end < sizeof words / sizeof words[0] ? words[end] : "";
+}
 
 /* Draws: at place k of both arrays it writes how the run on the stream first + k of the seed ends, which is what
  *     zar sample TEXT --seed SEED --stream FIRST+K --budget .. --turns .. --attempts .. --rounds ..

@@ -1,5 +1,6 @@
 /* Tests at random: numbers at the edges come as often as plain ones, and a case is named by the number of its stream, so that the one
  * that fails can be run again alone. The function under test is wrong for two odd numbers.
+ *   links with: zar
  *   prints: case 0: middle(7, 2147483647) is not 1073741827
  */
 #include <stdio.h>

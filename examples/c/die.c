@@ -1,4 +1,5 @@
 /* Ten throws of a die, each on a stream of its own. The same seed and the same streams give the same throws.
+ *   links with: zar
  *   prints: 4 1 4 2 1 6 1 4 6 6
  */
 #include <inttypes.h>

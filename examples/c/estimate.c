@@ -1,4 +1,5 @@
 /* An estimate by a million runs: how far two dice are apart on average. The exact mean is 35/18, which is 1.9444.
+ *   links with: zar m
  *   prints: mean 1.9454, standard error 0.0014
  */
 #include <math.h>

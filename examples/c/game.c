@@ -1,5 +1,6 @@
 /* A loaded die in a game: who first has 30 points wins. Its six comes with 3/8, and each other face with 1/8. The same seed plays the
  * same game, and each player has a seed of his own.
+ *   links with: zar
  *   prints: player 1 wins with 32 points after 9 rounds
  */
 #include <stdio.h>

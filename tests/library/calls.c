@@ -1,15 +1,13 @@
 /* calls FILE SEED COUNT: all calls of the library on the text of a file, by C and by C++. It prints the line of the version, the
  * lines of show, code, mass, exact, posterior and cost, or status and code, and the outcomes of the first streams of the seed in the words of the program;
- * and those of rolls by the weights 3, 2 and 1 on these streams. */
+ * and those of rolls by the weights 3, 2 and 1 on these streams. With no words it prints the version of the header, and the words of
+ * each code. */
 #include "zar.h"
 #include <inttypes.h>
 #include <stdio.h>
 #include <stdlib.h>
 #include <string.h>
 
-static const char *const ENDS[] = {"value",       "fault overflow", "fault zero divisor", "fault bad bound",
-                                   "limit turns", "limit attempts", "limit rounds",       "more bits",
-                                   "limit flips"};
 static uint8_t text[70000], lines[1 << 20];
 static size_t text_length;
 
@@ -30,7 +28,7 @@ static void draw(uint64_t seed, size_t count) {
         if (ends[k] == ZAR_VALUE)
             printf("value %" PRId64 "\n", values[k]);
         else
-            printf("%s\n", ENDS[ends[k]]);
+            printf("%s\n", zar_ending(ends[k]));
     free(values);
     free(ends);
 }
@@ -46,12 +44,22 @@ static void roll(uint64_t seed, size_t count) {
         if (ends[k] == ZAR_VALUE)
             printf("value %" PRIu64 "\n", labels[k]);
         else
-            printf("%s\n", ENDS[ends[k]]);
+            printf("%s\n", zar_ending(ends[k]));
     free(labels);
     free(ends);
 }
 
+static int tell_words(void) {
+    printf("%d.%d.%d\n", ZAR_VERSION / 10000, ZAR_VERSION / 100 % 100, ZAR_VERSION % 100);
+    for (int code = 0; code < 256; code++)
+        if (zar_reason((uint8_t)code)[0])
+            printf("E%d %s\n", code, zar_reason((uint8_t)code));
+    return zar_ending(ZAR_FLIPS + 1)[0] || zar_ending(255)[0];
+}
+
 int main(int count, char **words) {
+    if (count == 1)
+        return tell_words();
     FILE *file = count == 4 ? fopen(words[1], "rb") : NULL;
     if (!file)
         return 3;
