@@ -1,0 +1,138 @@
+//! The calls of the library, by the types of its header `zar.h`, and what they answer.
+use crate::error::{Error, Refused};
+
+/// `zar_said`.
+#[repr(C)]
+pub(crate) struct Said {
+    status: u8,
+    code: u8,
+    has_place: bool,
+    place: u32,
+    length: u64,
+}
+
+/// `zar_limits`, and `zar_roll_limits` by its first two numbers.
+#[repr(C)]
+pub(crate) struct Four(pub u64, pub u64, pub u64, pub u64);
+
+extern "C" {
+    fn zar_version(lines: *mut u8, capacity: usize) -> Said;
+    fn zar_check(text: *const u8, length: usize) -> Said;
+    fn zar_show(text: *const u8, length: usize, lines: *mut u8, capacity: usize) -> Said;
+    fn zar_code(text: *const u8, length: usize, lines: *mut u8, capacity: usize) -> Said;
+    fn zar_mass(text: *const u8, length: usize, turns: u64, attempts: u64, rounds: u64, lines: *mut u8, capacity: usize) -> Said;
+    fn zar_posterior(text: *const u8, length: usize, turns: u64, lines: *mut u8, capacity: usize) -> Said;
+    fn zar_exact(text: *const u8, length: usize, lines: *mut u8, capacity: usize) -> Said;
+    fn zar_cost(text: *const u8, length: usize, turns: u64, attempts: u64, rounds: u64, lines: *mut u8, capacity: usize) -> Said;
+    #[rustfmt::skip]
+    fn zar_draws(
+        text: *const u8,
+        length: usize,
+        seed: u64,
+        first: u64,
+        limits: *const Four,
+        values: *mut i64,
+        values_length: usize,
+        ends: *mut u8,
+        ends_length: usize,
+    ) -> Said;
+    #[rustfmt::skip]
+    fn zar_roll(
+        weights: *const u64,
+        length: usize,
+        seed: u64,
+        first: u64,
+        limits: *const Four,
+        labels: *mut u64,
+        labels_length: usize,
+        ends: *mut u8,
+        ends_length: usize,
+    ) -> Said;
+}
+
+/// A call that writes lines about a text.
+pub(crate) enum Ask {
+    Show,
+    Code,
+    Mass(u64, u64, u64),
+    Posterior(u64),
+    Exact,
+    Cost(u64, u64, u64),
+}
+
+/// What a call said of a text, where that is an answer.
+fn taken(said: Said, text: &str) -> Result<Said, Error> {
+    match said.status {
+        0 => Ok(said),
+        2 => Err(Error::OutOfRange),
+        5 => Err(Error::OutOfMemory),
+        _ => Err(Refused::of(said.code, said.has_place.then_some(said.place as usize), text).into()),
+    }
+}
+
+/// Whether a text spells a program.
+pub(crate) fn check(text: &str) -> Result<(), Error> {
+    // SAFETY: the pointer and the length are those of one text, which nothing writes.
+    taken(unsafe { zar_check(text.as_ptr(), text.len()) }, text).map(|_| ())
+}
+
+/// The lines that a call about a text writes.
+pub(crate) fn lines(text: &str, ask: &Ask) -> Result<String, Error> {
+    let (from, length) = (text.as_ptr(), text.len());
+    written(text, |to, room| {
+        // SAFETY: the pointers and the lengths are those of a text, which nothing writes, and of an array of its own.
+        unsafe {
+            match *ask {
+                Ask::Show => zar_show(from, length, to, room),
+                Ask::Code => zar_code(from, length, to, room),
+                Ask::Mass(turns, attempts, rounds) => zar_mass(from, length, turns, attempts, rounds, to, room),
+                Ask::Posterior(turns) => zar_posterior(from, length, turns, to, room),
+                Ask::Exact => zar_exact(from, length, to, room),
+                Ask::Cost(turns, attempts, rounds) => zar_cost(from, length, turns, attempts, rounds, to, room),
+            }
+        }
+    })
+}
+
+/// The version of the library.
+pub fn version() -> String {
+    // SAFETY: the pointer and the length are those of an array of its own.
+    let line = written("", |to, room| unsafe { zar_version(to, room) }).expect("a version is never refused");
+    line.trim_start_matches("zar ").trim_end().to_owned()
+}
+
+/// The lines that a call writes, asked for again where they have no room at first. Memory that nothing is written to is not taken.
+fn written(text: &str, call: impl Fn(*mut u8, usize) -> Said) -> Result<String, Error> {
+    let mut room = 1 << 24;
+    loop {
+        let mut lines = vec![0; room];
+        let length = taken(call(lines.as_mut_ptr(), room), text)?.length as usize;
+        if length <= room {
+            lines.truncate(length);
+            lines.shrink_to_fit();
+            return Ok(String::from_utf8(lines).expect("the library writes ASCII"));
+        }
+        room = length;
+    }
+}
+
+/// Draws of the program of a text, or rolls by weights.
+pub(crate) enum Source<'a> {
+    Text(&'a str),
+    Weights(&'a [u64]),
+}
+
+/// How the runs on so many streams of a seed end, from the first on: the values, and the numbers of the ends.
+pub(crate) fn ends(source: &Source, seed: u64, first: u64, count: usize, limits: &Four) -> Result<(Vec<i64>, Vec<u8>), Error> {
+    let (mut values, mut ends) = (vec![0i64; count], vec![0; count]);
+    let (to, end) = (values.as_mut_ptr(), ends.as_mut_ptr());
+    // SAFETY: the pointers and the lengths are those of what is borrowed, which nothing writes, and of two arrays of its own. A label is
+    // below 2^32, so it is the same number with a sign.
+    let said = unsafe {
+        match source {
+            Source::Text(text) => zar_draws(text.as_ptr(), text.len(), seed, first, limits, to, count, end, count),
+            Source::Weights(weights) => zar_roll(weights.as_ptr(), weights.len(), seed, first, limits, to.cast(), count, end, count),
+        }
+    };
+    taken(said, "").map(|_| (values, ends))
+}

@@ -1,0 +1,89 @@
+//! Programs, and what is asked of them.
+use crate::library::{check, lines, Ask, Source};
+use crate::{runs, Bounds, Error, Fraction, Limits, Outcome};
+use std::ops::Range;
+
+/// A program of cpGCL. Programs of one text are equal.
+#[derive(Clone, Debug, Eq, Hash, PartialEq)]
+pub struct Program {
+    text: String,
+}
+
+impl Program {
+    /// The program of a text. A text that is none is `Refused`.
+    pub fn new(text: impl Into<String>) -> Result<Self, Error> {
+        let text = text.into();
+        check(&text)?;
+        Ok(Program { text })
+    }
+
+    /// Its text.
+    pub fn text(&self) -> &str {
+        &self.text
+    }
+
+    /// Its canonical text.
+    pub fn show(&self) -> Result<String, Error> {
+        lines(&self.text, &Ask::Show)
+    }
+
+    /// The listing of the code that samples it.
+    pub fn code(&self) -> Result<String, Error> {
+        lines(&self.text, &Ask::Code)
+    }
+
+    /// The exact probability of each outcome, with at most so many `turns` of each entry of a loop, 0 to 1,000,000,000; without a limit of
+    /// `attempts` or `rounds` where it is `None`. `zar` takes 30 turns. Refused where the masses are too wide, too many or none.
+    pub fn mass(&self, turns: u64, attempts: Option<u64>, rounds: Option<u64>) -> Result<Vec<(Outcome, Fraction)>, Error> {
+        if attempts == Some(0) || rounds == Some(0) {
+            return Err(Error::OutOfRange);
+        }
+        let ask = Ask::Mass(turns, attempts.unwrap_or(0), rounds.unwrap_or(0));
+        Ok(rows(&lines(&self.text, &ask)?, " mass ", fraction))
+    }
+
+    /// The exact probability of each value and fault where nothing is limited, and of `Endless`. Refused as `mass`.
+    pub fn exact(&self) -> Result<Vec<(Outcome, Fraction)>, Error> {
+        Ok(rows(&lines(&self.text, &Ask::Exact)?, " mass ", fraction))
+    }
+
+    /// Bounds of the probability of each value and fault, and of `Other`, that hold at every limit of turns from `turns` on. Refused as
+    /// `mass`.
+    pub fn posterior(&self, turns: u64) -> Result<Vec<(Outcome, Bounds)>, Error> {
+        Ok(rows(&lines(&self.text, &Ask::Posterior(turns))?, " from ", bounds))
+    }
+
+    /// How many bits a run reads on average under these limits. `zar` takes 30 turns, 2 attempts and 1 round. Refused as `mass`.
+    pub fn cost(&self, turns: u64, attempts: u64, rounds: u64) -> Result<Fraction, Error> {
+        let line = lines(&self.text, &Ask::Cost(turns, attempts, rounds))?;
+        Ok(fraction(line.trim_start_matches("bits ").trim_end()))
+    }
+
+    /// How the runs on these streams of the seed end.
+    pub fn runs(&self, seed: u64, streams: Range<u64>, limits: &Limits) -> Result<Vec<Outcome>, Error> {
+        runs::outcomes(&Source::Text(&self.text), seed, streams, &limits.four())
+    }
+
+    /// The values of these runs. The first run without one is `NoValue`.
+    pub fn draws(&self, seed: u64, streams: Range<u64>, limits: &Limits) -> Result<Vec<i64>, Error> {
+        runs::values(&Source::Text(&self.text), seed, streams, &limits.four())
+    }
+}
+
+/// The rows of lines: an outcome, a word, and what is read of the rest.
+fn rows<T>(lines: &str, word: &str, read: impl Fn(&str) -> T) -> Vec<(Outcome, T)> {
+    let row = |line: &str| {
+        let (outcome, rest) = line.split_once(word)?;
+        Some((Outcome::of_words(outcome)?, read(rest)))
+    };
+    lines.lines().map(|line| row(line).expect("a line of the library")).collect()
+}
+
+fn fraction(text: &str) -> Fraction {
+    text.parse().expect("a fraction of the library")
+}
+
+fn bounds(text: &str) -> Bounds {
+    let (low, high) = text.split_once(" to ").expect("bounds of the library");
+    Bounds { low: fraction(low), high: fraction(high) }
+}
