@@ -1,0 +1,109 @@
+/* The calls of libzar as R makes them. Numbers of 64 bits are doubles in R, so whole ones up to 2^53. */
+#include <R.h>
+#include <R_ext/Rdynload.h>
+#include <Rinternals.h>
+#include <zar.h>
+
+enum { BLOCK = 65536, ROOM = 1 << 24 };
+static const int64_t EXACT = INT64_C(1) << 53;
+
+/* What a call answers: status, code, and place or NA; and what it wrote. */
+static SEXP answer(zar_said said, SEXP first, SEXP second) {
+    const char *names[] = {"status", "code", "place", "first", "second", ""};
+    SEXP list = PROTECT(Rf_mkNamed(VECSXP, names));
+    SET_VECTOR_ELT(list, 0, Rf_ScalarInteger(said.status));
+    SET_VECTOR_ELT(list, 1, Rf_ScalarInteger(said.code));
+    SET_VECTOR_ELT(list, 2, Rf_ScalarInteger(said.has_place ? (int)said.place : NA_INTEGER));
+    SET_VECTOR_ELT(list, 3, first);
+    SET_VECTOR_ELT(list, 4, second);
+    UNPROTECT(1);
+    return list;
+}
+
+static zar_said lines_of(int ask, SEXP text, const double *limits, uint8_t *lines, size_t room) {
+    const uint8_t *bytes = RAW(text);
+    size_t length = (size_t)XLENGTH(text);
+    switch (ask) {
+    case 0: return zar_check(bytes, length);
+    case 1: return zar_show(bytes, length, lines, room);
+    case 2: return zar_mass(bytes, length, (uint64_t)limits[0], (uint64_t)limits[1], (uint64_t)limits[2], lines, room);
+    case 3: return zar_exact(bytes, length, lines, room);
+    default: return zar_version(lines, room);
+    }
+}
+
+/* The lines of a call about a text, asked for again where they have no room at first. */
+static SEXP call_lines(SEXP ask, SEXP text, SEXP limits) {
+    size_t room = ROOM;
+    for (;;) {
+        uint8_t *lines = (uint8_t *)R_alloc(room, 1);
+        zar_said said = lines_of(Rf_asInteger(ask), text, REAL(limits), lines, room);
+        if (said.length <= room) {
+            SEXP told = PROTECT(Rf_ScalarString(Rf_mkCharLenCE((const char *)lines, (int)said.length, CE_UTF8)));
+            SEXP list = answer(said, told, R_NilValue);
+            UNPROTECT(1);
+            return list;
+        }
+        room = (size_t)said.length;
+    }
+}
+
+/* A part of the runs on the streams of a seed, by the text, or of rolls by the weights. */
+static zar_said part_of(SEXP from, SEXP limits, uint64_t seed, uint64_t first, int64_t *values, uint8_t *ends, size_t count) {
+    const double *of = REAL(limits);
+    if (TYPEOF(from) == RAWSXP) {
+        const zar_limits run = {(uint64_t)of[0], (uint64_t)of[1], (uint64_t)of[2], (uint64_t)of[3]};
+        return zar_draws(RAW(from), (size_t)XLENGTH(from), seed, first, &run, values, count, ends, count);
+    }
+    const zar_roll_limits roll = {(uint64_t)of[0], (uint64_t)of[1]};
+    size_t length = (size_t)XLENGTH(from);
+    uint64_t *weights = (uint64_t *)R_alloc(length + 1, sizeof *weights);
+    for (size_t k = 0; k < length; k++)
+        weights[k] = (uint64_t)REAL(from)[k];
+    return zar_roll(weights, length, seed, first, &roll, (uint64_t *)values, count, ends, count);
+}
+
+/* The runs or rolls on the streams of a seed, so many at a time that an interrupt is heard: values, NA where there is none, and ends. */
+static SEXP call_runs(SEXP from, SEXP seed, SEXP first, SEXP count, SEXP limits) {
+    size_t length = (size_t)Rf_asReal(count), done = 0;
+    int64_t *values = (int64_t *)R_alloc(BLOCK, sizeof *values);
+    uint8_t *ends = (uint8_t *)R_alloc(BLOCK, 1);
+    SEXP numbers = PROTECT(Rf_allocVector(REALSXP, (R_xlen_t)length)), codes = PROTECT(Rf_allocVector(INTSXP, (R_xlen_t)length));
+    zar_said said;
+    do {
+        size_t part = length - done < BLOCK ? length - done : BLOCK;
+        const void *top = vmaxget();
+        said = part_of(from, limits, (uint64_t)Rf_asReal(seed), (uint64_t)Rf_asReal(first) + done, values, ends, part);
+        vmaxset(top);
+        for (size_t k = 0; said.status == ZAR_DONE && k < part; k++) {
+            if (values[k] < -EXACT || values[k] > EXACT)
+                Rf_error("the value on stream %.0f is beyond 2^53", Rf_asReal(first) + (double)(done + k));
+            REAL(numbers)[done + k] = ends[k] == ZAR_VALUE ? (double)values[k] : NA_REAL;
+            INTEGER(codes)[done + k] = ends[k] + 1;
+        }
+        done += part;
+        R_CheckUserInterrupt();
+    } while (said.status == ZAR_DONE && done < length);
+    SEXP list = answer(said, numbers, codes);
+    UNPROTECT(2);
+    return list;
+}
+
+/* The words of the code of a refusal, and those of all ends. */
+static SEXP call_reason(SEXP code) { return Rf_mkString(zar_reason((uint8_t)Rf_asInteger(code))); }
+
+static SEXP call_endings(void) {
+    SEXP words = PROTECT(Rf_allocVector(STRSXP, ZAR_FLIPS + 1));
+    for (int end = 0; end <= ZAR_FLIPS; end++)
+        SET_STRING_ELT(words, end, Rf_mkChar(zar_ending((uint8_t)end)));
+    UNPROTECT(1);
+    return words;
+}
+
+void R_init_zar(DllInfo *library) {
+    static const R_CallMethodDef calls[] = {
+        {"call_lines", (DL_FUNC)&call_lines, 3},   {"call_runs", (DL_FUNC)&call_runs, 5}, {"call_reason", (DL_FUNC)&call_reason, 1},
+        {"call_endings", (DL_FUNC)&call_endings, 0}, {NULL, NULL, 0}};
+    R_registerRoutines(library, NULL, calls, NULL, NULL);
+    R_useDynamicSymbols(library, FALSE);
+}

@@ -1,0 +1,37 @@
+# What the library answers through the package, beside what is worked out by hand.
+library(zar)
+
+refused <- function(call) tryCatch({ call; "nothing" }, error = conditionMessage)
+
+die <- "face ~ uniform(6); observe face % 2 = 1; return face + 1;"
+masses <- zar_mass(die)
+stopifnot(identical(masses$value, c(2, 4, 6)), identical(masses$mass, rep("1/3", 3)), identical(masses$p, rep(1 / 3, 3)))
+stopifnot(identical(zar_mass(die, rounds = 2)$mass, rep("1/4", 4)), is.na(zar_mass(die, rounds = 2)$value[4]))
+
+faulty <- "x ~ uniform(2); while x = 1 { skip; } return 1 / x;"
+stopifnot(identical(zar_exact(faulty)$outcome, c("fault zero divisor", "endless")))
+stopifnot(identical(zar_exact("return 0 - 5;")$value, -5))
+
+# Parts of a range of streams are the whole, across the blocks that the package draws in.
+coin <- "x ~ uniform(2); return x;"
+whole <- zar_draws(coin, 100000, seed = 7)
+stopifnot(all(whole %in% 0:1), identical(c(zar_draws(coin, 10, 7), zar_draws(coin, 99990, 7, first = 10)), whole))
+stopifnot(identical(zar_draws(coin, 0, seed = 1), numeric()), nrow(zar_runs(coin, 0, seed = 1)) == 0)
+runs <- zar_runs(coin, 3, seed = 1, budget = 0)
+stopifnot(all(runs$end == "more bits"), all(is.na(runs$value)))
+
+# The stream 0 of the seed 0 begins with 1010, on which the weights 3, 2 and 1 give the second label.
+stopifnot(identical(zar_roll(c(3, 2, 1), 1, seed = 0), 2))
+
+why <- tryCatch(zar_check("x := 1;\n\t# \u00e9\n\ty := x +;\nreturn y;"), zar_refused = identity)
+stopifnot(why$code == 5, why$line == 3, why$column == 10, conditionMessage(why) == "E5 unexpected, line 3, column 10")
+stopifnot(refused(zar_mass("observe false; return 1;")) == "E15 every round fails")
+stopifnot(refused(zar_check("")) == "E5 unexpected, line 1, column 1")
+stopifnot(refused(zar_draws(coin, 9, seed = 1, first = 3, budget = 0)) == "the run on stream 3 has no value: more bits")
+stopifnot(refused(zar_draws("return 9007199254740993;", 1, seed = 1)) == "the value on stream 0 is beyond 2^53")
+stopifnot(refused(zar_draws(coin, 1, seed = -1)) == "seed is no whole number from 0 to 2^53")
+stopifnot(refused(zar_draws(coin, 1, seed = 1, rounds = 0)) == "a number is out of its range")
+stopifnot(refused(zar_mass(coin, attempts = 0)) == "attempts is no whole number from 1 to 2^53")
+stopifnot(refused(zar_roll(c(0, 5), 1, seed = 1)) == "a number is out of its range", refused(zar_roll(numeric(), 1, seed = 1)) == "a number is out of its range")
+stopifnot(refused(zar_check(3)) == "a text is one string")
+stopifnot(identical(zar_show("x:=1;return x;"), "x := 1;\nreturn x;\n"), grepl("^[0-9.]+$", zar_version()))
