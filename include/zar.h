@@ -89,7 +89,8 @@ enum {
 /* The words of an end, as `zar` prints them; of any other number none. */
 static inline const char *zar_ending(uint8_t end) {
     static const char *const words[] = {
-        "value", "fault overflow", "fault zero divisor", "fault bad bound", "limit turns", "limit attempts", "limit rounds", "more bits", "limit flips"};
+        "value", "fault overflow", "fault zero divisor", "fault bad bound", "limit turns", "limit attempts", "limit rounds", "more bits",
+        "limit flips"};
     return end < sizeof words / sizeof words[0] ? words[end] : "";
 }
 

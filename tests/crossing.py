@@ -1,5 +1,5 @@
 #!/usr/bin/env python3
-"""The errors of the Python package, raised in another process: those that come back to who asked for the work, a line each.
+"""The errors of the Python package, raised in another process: those that come back to who asked for the work, two lines each.
 
     crossing pool|executor|joblib|dask
 
@@ -47,8 +47,8 @@ def dask(work):
 
 def told(why):
     """What an error says, and what it knows."""
-    known = {name: it for name, it in sorted(vars(why).items()) if not name.startswith("_")}
-    return f"{type(why).__module__}.{type(why).__name__}: {str(why).splitlines()[0]} {known}"
+    known = " ".join(f"{name}={it!r}" for name, it in sorted(vars(why).items()) if not name.startswith("_"))
+    return f"{type(why).__module__}.{type(why).__name__}: {str(why).splitlines()[0]}\n  {known}"
 
 
 def main():

@@ -32,6 +32,7 @@ stopifnot(refused(zar_draws("return 9007199254740993;", 1, seed = 1)) == "the va
 stopifnot(refused(zar_draws(coin, 1, seed = -1)) == "seed is no whole number from 0 to 2^53")
 stopifnot(refused(zar_draws(coin, 1, seed = 1, rounds = 0)) == "a number is out of its range")
 stopifnot(refused(zar_mass(coin, attempts = 0)) == "attempts is no whole number from 1 to 2^53")
-stopifnot(refused(zar_roll(c(0, 5), 1, seed = 1)) == "a number is out of its range", refused(zar_roll(numeric(), 1, seed = 1)) == "a number is out of its range")
+for (weights in list(numeric(), 5, c(0, 5), c(2^62, 1)))
+    stopifnot(refused(zar_roll(weights, 1, seed = 1)) %in% c("a number is out of its range", "weights is no whole number from 0 to 2^53"))
 stopifnot(refused(zar_check(3)) == "a text is one string")
 stopifnot(identical(zar_show("x:=1;return x;"), "x := 1;\nreturn x;\n"), grepl("^[0-9.]+$", zar_version()))
