@@ -19,8 +19,11 @@ int main(void) {
     zar_said weighed = zar_mass((const uint8_t *)die, strlen(die), 30, 0, 0, lines, sizeof lines);     /* 30 turns of a loop */
     if (drawn.status != ZAR_DONE || weighed.status != ZAR_DONE || weighed.length > sizeof lines)
         return 1;
-    for (int k = 0; k < 10; k++)
+    for (int k = 0; k < 10; k++) {
+        if (ends[k] != ZAR_VALUE)
+            return 1;
         printf("%" PRId64 "%c", faces[k], k < 9 ? ' ' : '\n');
+    }
     fwrite(lines, 1, weighed.length, stdout);
     return 0;
 }

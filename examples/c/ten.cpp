@@ -22,7 +22,10 @@ int main() {
     const auto weighed = zar_mass(text, die.size(), 30, 0, 0, reinterpret_cast<std::uint8_t *>(lines.data()), lines.size()); // 30 turns
     if (drawn.status != ZAR_DONE || weighed.status != ZAR_DONE || weighed.length > lines.size())
         return 1;
-    for (std::size_t k = 0; k < faces.size(); k++)
+    for (std::size_t k = 0; k < faces.size(); k++) {
+        if (ends[k] != ZAR_VALUE)
+            return 1;
         std::cout << faces[k] << (k + 1 < faces.size() ? ' ' : '\n');
+    }
     std::cout << lines.substr(0, weighed.length);
 }

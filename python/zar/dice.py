@@ -37,7 +37,7 @@ class Die:
         self._weights = array.array("Q", faces)
 
     def __repr__(self) -> str:
-        return f"Die({shown.short(self._weights.tolist())})"
+        return f"Die({shown.short(self._weights[:9].tolist())})"
 
     def __eq__(self, other: object) -> bool:
         return isinstance(other, Die) and self._weights == other._weights
