@@ -1,8 +1,8 @@
 # The calls of the library, and why they have no answer.
 
-# Whole numbers that a double has exactly.
-whole <- function(name, it, least = 0) {
-    if (!is.numeric(it) || anyNA(it) || any(it < least | it > 2^53 | it != floor(it)))
+# A whole number that a double has exactly, or several.
+whole <- function(name, it, least = 0, several = FALSE) {
+    if (!is.numeric(it) || (length(it) != 1 && !several) || anyNA(it) || any(it < least | it > 2^53 | it != floor(it)))
         stop(sprintf("%s is no whole number from %d to 2^53", name, least), call. = FALSE)
     as.double(it)
 }

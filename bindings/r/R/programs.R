@@ -27,7 +27,7 @@ zar_draws <- function(text, n, seed, first = 0, budget = 65536, turns = 1000, at
 
 zar_roll <- function(weights, n, seed, first = 0, budget = 65536, flips = 1000) {
     limits <- c(whole("budget", budget), whole("flips", flips))
-    1 + values_of(frame(runs_of(whole("weights", weights), n, seed, first, limits)), first)
+    1 + values_of(frame(runs_of(whole("weights", weights, several = TRUE), n, seed, first, limits)), first)
 }
 
 # A limit as the library takes it: 0 where there is none.

@@ -29,6 +29,7 @@ stopifnot(refused(zar_mass("observe false; return 1;")) == "E15 every round fail
 stopifnot(refused(zar_check("")) == "E5 unexpected, line 1, column 1")
 stopifnot(refused(zar_draws(coin, 9, seed = 1, first = 3, budget = 0)) == "the run on stream 3 has no value: more bits")
 stopifnot(refused(zar_draws("return 9007199254740993;", 1, seed = 1)) == "the value on stream 0 is beyond 2^53")
+stopifnot(refused(zar_draws(coin, 1:2, seed = 1)) == "n is no whole number from 0 to 2^53")
 stopifnot(refused(zar_draws(coin, 1, seed = -1)) == "seed is no whole number from 0 to 2^53")
 stopifnot(refused(zar_draws(coin, 1, seed = 1, rounds = 0)) == "a number is out of its range")
 stopifnot(refused(zar_mass(coin, attempts = 0)) == "attempts is no whole number from 1 to 2^53")

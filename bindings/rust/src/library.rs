@@ -122,9 +122,17 @@ pub(crate) enum Source<'a> {
     Weights(&'a [u64]),
 }
 
+/// So many zeros, where there is memory for them.
+fn zeros<T: Clone + Default>(count: usize) -> Result<Vec<T>, Error> {
+    let mut zeros = Vec::new();
+    zeros.try_reserve_exact(count).map_err(|_| Error::OutOfMemory)?;
+    zeros.resize(count, T::default());
+    Ok(zeros)
+}
+
 /// How the runs on so many streams of a seed end, from the first on: the values, and the numbers of the ends.
 pub(crate) fn ends(source: &Source, seed: u64, first: u64, count: usize, limits: &Four) -> Result<(Vec<i64>, Vec<u8>), Error> {
-    let (mut values, mut ends) = (vec![0i64; count], vec![0; count]);
+    let (mut values, mut ends) = (zeros::<i64>(count)?, zeros(count)?);
     let (to, end) = (values.as_mut_ptr(), ends.as_mut_ptr());
     // SAFETY: the pointers and the lengths are those of what is borrowed, which nothing writes, and of two arrays of its own. A label is
     // below 2^32, so it is the same number with a sign.

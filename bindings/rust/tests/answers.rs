@@ -67,6 +67,7 @@ fn numbers_have_ranges() {
     assert_eq!(coin.mass(1, Some(0), None), Err(Error::OutOfRange));
     assert_eq!(coin.cost(1, 1, 0), Err(Error::OutOfRange));
     assert_eq!(coin.draws(1, 0..2, &Limits { budget: 1_000_000_001, ..USUAL }), Err(Error::OutOfRange));
+    assert_eq!(coin.draws(1, 0..u64::MAX, &USUAL), Err(Error::OutOfMemory));
     for weights in [vec![], vec![5], vec![0, 5], vec![1 << 62, 1]] {
         assert_eq!(Die::new(weights), Err(Error::OutOfRange));
     }
