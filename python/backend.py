@@ -18,6 +18,7 @@ import zipfile
 HERE = pathlib.Path(__file__).resolve().parent
 BUILT = HERE.parent / "out" / "library" / "libzar.so.1"
 LICENSES = ("LICENSE-APACHE", "LICENSE-MIT")
+CHANGES = "CHANGELOG.md"
 
 
 def project():
@@ -31,16 +32,20 @@ def tag(library):
 
 
 def metadata(told):
-    fields = {
-        "Metadata-Version": "2.1",
-        "Name": told["name"],
-        "Version": told["version"],
-        "Summary": told["description"],
-        "License": told["license"],
-        "Requires-Python": told["requires-python"],
-        "Description-Content-Type": "text/markdown",
-    }
-    head = "".join(f"{name}: {it}\n" for name, it in fields.items())
+    fields = [
+        ("Metadata-Version", "2.1"),
+        ("Name", told["name"]),
+        ("Version", told["version"]),
+        ("Summary", told["description"]),
+        ("Keywords", ",".join(told["keywords"])),
+        ("Author", ", ".join(it["name"] for it in told["authors"])),
+        ("License", told["license"]),
+        *(("License-File", it) for it in LICENSES),
+        *(("Classifier", it) for it in told["classifiers"]),
+        ("Requires-Python", told["requires-python"]),
+        ("Description-Content-Type", "text/markdown"),
+    ]
+    head = "".join(f"{name}: {it}\n" for name, it in fields)
     return head + "\n" + (HERE / told["readme"]).read_text(encoding="utf-8")
 
 
@@ -54,7 +59,7 @@ def contents(library, beside):
     files["zar/libzar.so.1"] = library
     files[f"{info}/METADATA"] = metadata(told).encode()
     files[f"{info}/WHEEL"] = f"Wheel-Version: 1.0\nGenerator: zar\nRoot-Is-Purelib: false\nTag: {its_tag}\n".encode()
-    for path in [*(HERE.parent / it for it in LICENSES), *map(pathlib.Path, beside)]:
+    for path in [*(HERE.parent / it for it in (*LICENSES, CHANGES)), *map(pathlib.Path, beside)]:
         files[f"{info}/{path.name}"] = path.read_bytes()
     return files, f"{name}-{its_tag}.whl", f"{info}/RECORD"
 
