@@ -3,7 +3,8 @@ use Rattle.std.proofs.Common.{◌≡◌, ◌⊎◌, inl, inr, ⊎_elim, ℕ, zer
 use Rattle.std.specs.Prelude.{Contains}
 use Rattle.std.proofs.lemmas.Bool.{cases_lt}
 use Rattle.std.proofs.Math.Nat.{mul-le-mul_left, mul-le-mul_right, le_of_mul-le-mul_right}
-use Rattle.numbers.specs.Fraction.{IsEqual, InLowest, lowest}
+use Rattle.numbers.specs.Arithmetic.{InLowest}
+use Rattle.numbers.specs.Fraction.{IsEqual, lowest}
 use Rattle.numbers.proofs.Divisors.{lowest_in_lowest, lowest_equal}
 use Rattle.gcl_core.specs.declared.answers.Limit.TheVariants.{Turns}
 use Rattle.gcl_core.specs.declared.answers.Outcome.{Outcome}

@@ -1,14 +1,14 @@
 -- What exact masses promise, by the masses at n turns alone, without limits of attempts and of rounds. This project's own rule.
 use Rattle.std.specs.Prelude.{◌≡◌, ℕ, ◌≤◌, true, Contains, None}
-use Rattle.numbers.specs.Fraction.{InLowest}
+use Rattle.numbers.specs.Arithmetic.{InLowest}
 use Rattle.gcl_core.specs.declared.answers.Limit.TheVariants.{Turns}
 use Rattle.gcl_core.specs.declared.answers.Outcome.{Outcome}
 use Rattle.gcl_core.specs.declared.answers.Outcome.TheVariants as outcome
+use Rattle.gcl_core.specs.meaning.Outcomes.{is_settled}
 use Rattle.gcl_core.specs.meaning.Syntax.{SourceProgram}
 use Rattle.gcl_core.specs.weighing.Fractions.{Fraction, one, plus, AtMost}
 use Rattle.gcl_core.specs.weighing.Mass.{failed_mass, mass_of}
 use Rattle.mass_fold.specs.Rows.{Rows, Ascending}
-use Rattle.posterior_bounds.specs.PosteriorBounds.{is_settled}
 
 -- from some n on no further from q than 1 / k, whatever k
 abbrev pub TendsTo : Fraction → (ℕ → Fraction) → Type 0

@@ -3,7 +3,8 @@ use Rattle.std.proofs.Common.{◌≡◌, ℕ, zero, suc, ◌+◌, ◌*◌, ◌/�
 use Rattle.std.specs.Int.{div_ceil}
 use Rattle.std.proofs.lemmas.Nat.{div-add-mod', mod_below}
 use Rattle.numbers.specs.declared.units.TheConstants.{ALL}
-use Rattle.numbers.specs.Fraction.{InLowest, lowest}
+use Rattle.numbers.specs.Arithmetic.{InLowest}
+use Rattle.numbers.specs.Fraction.{lowest}
 use Rattle.numbers.proofs.Divisors.{lowest_in_lowest, lowest_equal}
 use Rattle.gcl_core.specs.meaning.Outcomes.{same_outcome}
 use Rattle.gcl_core.specs.meaning.Syntax.{SourceProgram}

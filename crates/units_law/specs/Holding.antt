@@ -2,7 +2,7 @@
 -- rule.
 use Rattle.std.specs.Prelude.{◌≡◌, ℕ, ◌+◌, ◌≤◌, Bool, true, false, Option, Some, None, AllPairs, Contains}
 use Rattle.numbers.specs.declared.units.TheConstants.{ALL}
-use Rattle.numbers.specs.Fraction.{InLowest}
+use Rattle.numbers.specs.Arithmetic.{InLowest}
 use Rattle.gcl_core.specs.declared.answers.Outcome.{Outcome}
 use Rattle.gcl_core.specs.meaning.Order.{is_before}
 use Rattle.gcl_core.specs.meaning.Syntax.{SourceProgram}
