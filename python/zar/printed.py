@@ -52,11 +52,20 @@ BOUNDS = re.compile(rf"(.*) from ({FRACTION}) to ({FRACTION})\n")
 BITS = re.compile(rf"bits ({FRACTION})\n")
 
 
+# The most characters of a text that a message quotes.
+QUOTED = 80
+
+
 class Bounds(typing.NamedTuple):
     """Two fractions between which a mass lies."""
 
     low: Fraction
     high: Fraction
+
+
+def quoted(text: str) -> str:
+    """A text as a message quotes it, cut where it is long."""
+    return repr(text) if len(text) <= QUOTED else f"{text[:QUOTED]!r}.."
 
 
 def outcome(text: str) -> Outcome:
@@ -65,7 +74,7 @@ def outcome(text: str) -> Outcome:
     if value and -(2**63) <= int(value[1]) < 2**63:
         return int(value[1])
     if text not in NAMED:
-        raise ValueError(f"{text!r} is no outcome")
+        raise ValueError(f"{quoted(text)} is no outcome")
     return NAMED[text]
 
 
@@ -88,10 +97,10 @@ def row(line: str, word: str) -> tuple[Outcome, typing.Any]:
     if not between:
         raise ValueError(f"it does not have ` {word} `")
     if not form.fullmatch(number):
-        raise ValueError(f"{number!r} is not {said}")
+        raise ValueError(f"{quoted(number)} is not {said}")
     found = outcome(name)
     if isinstance(found, Rest) and found not in rest:
-        raise ValueError(f"{name!r} has no {word}")
+        raise ValueError(f"{quoted(name)} has no {word}")
     return found, read(number)
 
 
@@ -104,7 +113,7 @@ def told(form: re.Pattern[str], line: str) -> re.Match[str]:
     """The parts of a line of this form, else a ValueError."""
     found = form.fullmatch(line)
     if not found:
-        raise ValueError(f"{line!r} is not of the form {form.pattern}")
+        raise ValueError(f"{quoted(line)} is not of the form {form.pattern}")
     return found
 
 
