@@ -4,16 +4,14 @@ import hashlib
 import html
 import math
 import pathlib
-import re
 import subprocess
-import time
 import typing
 
 import jumps
 import pictures
 import printed
+from caller import Refused, Silent
 
-REFUSED = re.compile(r"error E\d+ .* at (\d+)")
 STYLE = pathlib.Path(__file__).with_name("page.css")
 PAGE = """<!DOCTYPE html>
 <html lang="en">
@@ -47,45 +45,6 @@ def is_within(asked, most):
     return all(least <= it <= greatest for least, it, greatest in zip(LEAST, asked, most))
 
 
-class Silent(Exception):
-    """A call without an answer, with its reason."""
-
-
-class Caller:
-    """The program `zar` over one text, which it reads from its standard input. All calls together have so many seconds, where given."""
-
-    def __init__(self, zar, name, text, seconds=None):
-        self.zar, self.name, self.text, self.seconds = zar, name, text, seconds
-        self.end = None if seconds is None else time.monotonic() + seconds
-
-    def left(self):
-        """How many seconds are left, or None."""
-        return None if self.end is None else max(self.end - time.monotonic(), 0)
-
-    def said(self, command, *options):
-        """What a command prints. One that fails or is late is Silent."""
-        words = [self.zar, command, "/dev/stdin", *options]
-        try:
-            run = subprocess.run(words, input=self.text, capture_output=True, timeout=self.left())
-        except subprocess.TimeoutExpired:
-            raise Silent(f"no answer within {self.seconds} seconds") from None
-        if run.returncode:
-            raise Silent(self.placed(run.stderr.decode().strip()) or f"it ended with status {run.returncode}")
-        return run.stdout.decode()
-
-    def placed(self, why):
-        """A refusal, with the line of the text that it speaks of."""
-        found = REFUSED.fullmatch(why)
-        if not found:
-            return why
-        line, column, excerpt = printed.placed(self.text, int(found[1]))
-        return f"{why}\n{self.name}, line {line}, column {column}\n{excerpt}"
-
-    def call(self, command, *options):
-        """The call as one types it."""
-        return " ".join(["zar", command, self.name, *options])
-
-
 def tag(name, content="", **attributes):
     told = "".join(f' {key}="{html.escape(str(it))}"' for key, it in attributes.items() if it != "")
     return f"<{name}{told}>{content}</{name}>"
@@ -111,63 +70,15 @@ def row(name, marks, said):
 
 def figure(title, body, calls, note=""):
     """A part of the page, with the calls that made it under it."""
-    under = "<br>".join(tag("code", html.escape(call)) for call in calls)
-    return tag("h2", title) + "\n" + tag("figure", body + tag("figcaption", under + (f"<br>{note}" if note else ""))) + "\n"
+    under = "<br>".join([*(tag("code", html.escape(call)) for call in calls), *([html.escape(note)] if note else [])])
+    return tag("h2", title) + "\n" + tag("figure", body + tag("figcaption", under)) + "\n"
 
 
 # ---- the parts
 
 
 def program(zar, _):
-    return figure("The program", pre(zar.said("show")), [zar.call("show")])
-
-
-def comparison_row(line, runs, reach):
-    """The mass as a bar, what chance allows as an interval, and the share that was counted as a dot."""
-    share, far = fractions.Fraction(line.count, runs), pictures.bound(line.mass, runs)
-    low, high = max(float(line.mass) - far, 0) / reach, min(float(line.mass) + far, 1) / reach
-    marks = div("mass", style=f"width:{percent(float(line.mass) / reach)}")
-    marks += div("chance", style=f"left:{percent(low)};width:{percent(high - low)}")
-    marks += div("share", style=f"left:{percent(float(share) / reach)}")
-    return row(line.outcome, marks, f"{line.mass}  {pictures.percent(line.mass)}  counted {pictures.percent(share)}")
-
-
-# So many rounds and bits that they end a run only where hardly any observation succeeds.
-AMPLE = "--rounds 1000000 --budget 1000000"
-
-
-def masses(zar, asked):
-    mass = ["mass", "--turns", str(asked.turns)]
-    tally = ["tally", *f"--seed {asked.seed} --from 0 --to {asked.runs} --turns {asked.turns} {AMPLE}".split()]
-    compared = pictures.beside(zar.said(*mass), zar.said(*tally))
-    reach = pictures.scale(compared)[-1]
-    body = "\n".join(comparison_row(line, compared.runs, reach) for line in compared.rows)
-    note = (
-        f"Bars are exact masses, on a scale from 0 to {100 * reach:.3g} %. Dots are the shares of {asked.runs} runs, which chance leaves "
-        f"between the marks but for about 3 times in 1000."
-    )
-    return figure("Masses and counts", body, [zar.call(*mass), zar.call(*tally)], note)
-
-
-def answered(zar, *call):
-    """The masses that a call prints, or none where it is refused."""
-    try:
-        return printed.rows(zar.said(*call), "mass")
-    except Silent:
-        return {}
-
-
-def settled(zar, asked):
-    """The masses where nothing is limited, where a limit of turns changes them or they are refused within it."""
-    within, exact = answered(zar, "mass", "--turns", str(asked.turns)), answered(zar, "exact")
-    if not exact or (within and printed.Limit.TURNS not in within):
-        return ""
-    lines = [
-        row(printed.words(it), div("mass settled", style=f"width:{percent(mass)}"), f"{mass}  {pictures.percent(mass)}")
-        for it, mass in exact.items()
-    ]
-    note = "The masses where neither turns nor attempts nor rounds have a limit, on a scale from 0 to 1."
-    return figure("Masses without a limit", "\n".join(lines), [zar.call("exact")], note)
+    return figure("The program", pre(zar.said("show")), [zar.typed("show")])
 
 
 def between(low, high):
@@ -177,14 +88,107 @@ def between(low, high):
     return f"{math.floor(low * 10**6) / 10**6:.6f} to {math.ceil(high * 10**6) / 10**6:.6f}"
 
 
+def comparison_row(line, high, runs, reach):
+    """The mass, which is at most `high`, as a bar, what chance allows as an interval, and the share that was counted as a dot."""
+    share, low = fractions.Fraction(line.count, runs), line.mass
+    least, most = max(float(low) - pictures.bound(low, runs), 0) / reach, min(float(high) + pictures.bound(high, runs), 1) / reach
+    marks = div("mass", style=f"width:{percent(float(low) / reach)}")
+    marks += div("chance", style=f"left:{percent(least)};width:{percent(most - least)}")
+    marks += div("share", style=f"left:{percent(float(share) / reach)}")
+    figures = f"{low}  {pictures.percent(low)}" if low == high else between(low, high)
+    return row(line.outcome, marks, f"{figures}  counted {pictures.percent(share)}")
+
+
+# So many rounds and bits that they end a run only where hardly any observation succeeds.
+AMPLE = "--rounds 1000000 --budget 1000000"
+# So many turns, at least, have the runs beside masses that have no limit of them, and bounds where a limit of turns has much of all mass.
+MANY_TURNS, MUCH = 1000, fractions.Fraction(1, 100)
+# What the bars of a comparison are.
+BARS = {"mass": "exact masses", "exact": "exact masses where nothing is limited", "enclose": "the lower of two bounds of each mass"}
+
+
+def turns_of(asked):
+    return "--turns", str(asked.turns)
+
+
+def counted(zar, asked, turns):
+    """A tally, and its counts."""
+    call = ("tally", *f"--seed {asked.seed} --from 0 --to {asked.runs} --turns {turns} {AMPLE}".split())
+    return call, printed.rows(zar.said(*call), "count")
+
+
+def counts(zar, asked, why):
+    """The shares of runs alone."""
+    call, rows = counted(zar, asked, asked.turns)
+    shares = {it: fractions.Fraction(count, asked.runs) for it, count in rows.items()}
+    lines = [row(printed.words(it), div("share", style=f"left:{percent(share)}"), f"counted {pictures.percent(share)}") for it, share in shares.items()]
+    note = f"{why} Dots are the shares of {asked.runs} runs, on a scale from 0 to 1."
+    return figure("Masses and counts", "\n".join(lines), [zar.typed(*call)], note)
+
+
+def masses(zar, asked):
+    turns = turns_of(asked)
+    try:
+        told = zar.told(("mass", *turns), ("exact",), ("enclose", *turns))
+    except Refused as why:
+        return counts(zar, asked, str(why))
+    tally, rows = counted(zar, asked, max(asked.turns, MANY_TURNS) if told.call == ("exact",) else asked.turns)
+    bounds = {it: two for it, two in told.bounds().items() if it != printed.Rest.OTHER}
+    compared = pictures.joined({it: low for it, (low, _) in bounds.items()}, rows)
+    highs = {printed.words(it): high for it, (_, high) in bounds.items()}
+    reach = pictures.scale(compared)[-1]
+    body = "\n".join(comparison_row(line, highs.get(line.outcome, line.mass), compared.runs, reach) for line in compared.rows)
+    note = (
+        f"{told.refused} Bars are {BARS[told.call[0]]}, on a scale from 0 to {100 * reach:.3g} %. Dots are the shares of {asked.runs} runs, "
+        f"which chance leaves between the marks but for about 3 times in 1000."
+    )
+    return figure("Masses and counts", body, [zar.typed(*told.call), zar.typed(*tally)], note.strip())
+
+
+LIE_BETWEEN = "Each mass lies on its mark, on a scale from 0 to 1, at every greater limit of turns, too; orange where two bounds differ."
+MOST_ROWS = 20  # of bounds of masses without a limit
+
+
+def bounds_row(outcome, low, high):
+    mark = div("bounds one" if low == high else "bounds", style=f"left:{percent(low)};width:{percent(high - low)}")
+    return row(printed.words(outcome), mark, between(low, high))
+
+
+def settled_row(outcome, low, high):
+    if low < high:
+        return bounds_row(outcome, low, high)
+    return row(printed.words(outcome), div("mass settled", style=f"width:{percent(low)}"), f"{low}  {pictures.percent(low)}")
+
+
+def most(bounds):
+    """The outcomes that may have most, MOST_ROWS of them at most, in their order."""
+    kept = sorted(bounds, key=lambda it: bounds[it].high, reverse=True)[:MOST_ROWS]
+    return [it for it in bounds if it in kept]
+
+
+def settled(zar, asked):
+    """The masses where nothing is limited, where a limit of turns changes them; or bounds of these, where it has much of all mass."""
+    further = ("enclose", "--turns", str(max(asked.turns, MANY_TURNS)), "--all-turns")
+    try:
+        cut = printed.rows(zar.said("mass", *turns_of(asked)), "mass").get(printed.Limit.TURNS, 0)
+        told = zar.told(("exact",), *([further] if cut > MUCH else [])) if cut else None
+    except Silent:
+        told = None
+    if not told:
+        return ""
+    if told.call == ("exact",):
+        kept, note = told.bounds(), "The masses where neither turns nor attempts nor rounds have a limit, on a scale from 0 to 1."
+    else:
+        kept, note = most(told.bounds()), f"{told.refused} {LIE_BETWEEN} At most {MOST_ROWS} outcomes are shown, those that may have most."
+    lines = [settled_row(it, *told.bounds()[it]) for it in kept]
+    return figure("Masses without a limit", "\n".join(lines), [zar.typed(*told.call)], note)
+
+
 def bounds(zar, asked):
-    call = ["posterior", "--turns", str(asked.turns)]
-    lines = []
-    for outcome, (low, high) in printed.bounds(zar.said(*call)).items():
-        mark = div("bounds one" if low == high else "bounds", style=f"left:{percent(low)};width:{percent(high - low)}")
-        lines.append(row(printed.words(outcome), mark, between(low, high)))
-    note = "Each mass lies on its mark, on a scale from 0 to 1, at every greater limit of turns, too; orange where two bounds differ."
-    return figure("Bounds", "\n".join(lines), [zar.call(*call)], note)
+    turns = turns_of(asked)
+    told = zar.told(("posterior", *turns), ("enclose", *turns, "--all-turns"))
+    lines = [bounds_row(it, *two) for it, two in told.bounds().items()]
+    return figure("Bounds", "\n".join(lines), [zar.typed(*told.call)], f"{told.refused} {LIE_BETWEEN}".strip())
 
 
 def decided(zar, bits, turns):
@@ -198,29 +202,36 @@ def column(bits, share):
     return div("column", f"{math.floor(100 * share)}" + tag("span", tag("b", style=f"height:{percent(share)}")) + str(bits))
 
 
+def read_on_average(zar, cost):
+    """What is said of the bits that a run reads."""
+    try:
+        average = printed.bits(zar.told(cost).text)
+    except Refused as why:
+        return str(why)
+    return f"With one attempt at each draw and one round, a run reads {average} bits on average, {float(average):.4g} in decimals."
+
+
 def reading(zar, asked):
-    cost = ["cost", *f"--attempts 1 --rounds 1 --turns {asked.turns}".split()]
+    turns = turns_of(asked)
+    audit, cost = ("audit", "--depth", f"0 .. {asked.depth}", *turns), ("cost", *"--attempts 1 --rounds 1".split(), *turns)
     body = div("columns", "".join(column(bits, decided(zar, bits, asked.turns)) for bits in range(asked.depth + 1)))
-    average = printed.bits(zar.said(*cost))
-    calls = [zar.call("audit", "--depth", f"0 .. {asked.depth}", "--turns", str(asked.turns)), zar.call(*cost)]
-    note = (
-        "Of all strings of so many bits, how many in a hundred end the run. With one attempt at each draw and one round, a run reads "
-        f"{average} bits on average, {float(average):.4g} in decimals."
-    )
-    return figure("Bits", body, calls, note)
+    note = f"Of all strings of so many bits, how many in a hundred end the run. {read_on_average(zar, cost)}"
+    return figure("Bits", body, [zar.typed(*it) for it in (audit, cost)], note)
 
 
 def code(zar, _):
     listing = zar.said("code")
     body = div("code", jumps.drawn(listing) + pre(listing))
-    return figure("Code", body, [zar.call("code")], "An arrow for each jump, orange where it leads back.")
+    return figure("Code", body, [zar.typed("code")], "An arrow for each jump, orange where it leads back.")
 
 
+# In the order of a page; what needs least comes last.
 PARTS = {"Masses and counts": masses, "Masses without a limit": settled, "Bounds": bounds, "Bits": reading, "Code": code}
 
 
 def part(title, make, zar, asked):
     """A part of the page, or why it is not there."""
+    zar.begin()
     try:
         return make(zar, asked)
     except Silent as why:
@@ -237,6 +248,7 @@ def page(zar, asked, is_alone=True):
     """The page of a program, as `whole` makes it. One whose text is refused is Silent."""
     zar.said("check")
     version = subprocess.run([zar.zar, "--version"], capture_output=True, text=True, check=True).stdout.strip()
-    parts = program(zar, asked) + "".join(part(title, make, zar, asked) for title, make in PARTS.items())
+    made = {title: part(title, PARTS[title], zar, asked) for title in reversed(PARTS)}
+    parts = program(zar, asked) + "".join(made[title] for title in PARTS)
     foot = f"Made by tools/report with {version}. The program is the text with the SHA-256 {hashlib.sha256(zar.text).hexdigest()}."
     return whole(zar.name, parts + tag("footer", tag("p", foot)) + "\n", is_alone)

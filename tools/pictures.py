@@ -31,12 +31,11 @@ def said(zar, *words):
     return subprocess.run([zar, *words], capture_output=True, text=True, check=True).stdout
 
 
-def beside(mass, tally):
-    """What a `mass` or an `exact` and a `tally` printed, side by side. An outcome that one of them does not have is 0 there, and what
-    never ends is counted where runs reach the limit of turns."""
-    masses, counts = printed.rows(mass, "mass"), printed.rows(tally, "count")
+def joined(masses, counts):
+    """Masses and counts, side by side. An outcome that one of them does not have is 0 there, and what never ends is counted where runs
+    reach the limit of turns."""
     if printed.Rest.ENDLESS in masses and printed.Limit.TURNS in counts:
-        counts[printed.Rest.ENDLESS] = counts.pop(printed.Limit.TURNS)
+        counts = {printed.Rest.ENDLESS if it == printed.Limit.TURNS else it: count for it, count in counts.items()}
     rows = [
         Row(printed.words(outcome), masses.get(outcome, fractions.Fraction(0)), counts.get(outcome, 0))
         for outcome in sorted({*masses, *counts}, key=printed.order)
@@ -46,7 +45,7 @@ def beside(mass, tally):
 
 def compared(zar, mass, tally):
     """What the words of a `mass` or an `exact` and of a `tally` print, side by side."""
-    return beside(said(zar, *mass), said(zar, *tally))
+    return joined(printed.rows(said(zar, *mass), "mass"), printed.rows(said(zar, *tally), "count"))
 
 
 def bound(mass, runs):
