@@ -155,6 +155,9 @@ def of_report(zar, folder):
     (folder / "wrong.gcl").write_text("x := 1;\nreturn y;", encoding="utf-8")
     excerpt = "report: error E8 unknown name at 8\nwrong.gcl, line 2, column 1\n  return y;\n  ^\n"
     yield "a text that is refused", report(zar, folder / "wrong.gcl") == excerpt
+    (folder / "long.gcl").write_text("x := 0" + " + 1" * 10_000 + " + & + 1;", encoding="utf-8")
+    around = "error E2 bad byte at 40009\nlong.gcl, line 1, column 40010\n  " + "+ 1 " * 12 + "+ & + 1;\n  " + " " * 50 + "^\n"
+    yield "a long line is cut", report(zar, folder / "long.gcl") == f"report: {around}"
     (folder / "never.gcl").write_text("observe false; return 1;", encoding="utf-8")
     yield "masses that are refused", "<pre>error E15 every round fails</pre>" in report(zar, folder / "never.gcl")
     yield "no file", report(zar, folder / "none") == f"report: there is no {folder / 'none'}\n"

@@ -31,7 +31,7 @@ class Refused(ValueError):
     """A text is no program, or a program has no masses that can be given.
 
     `code` is that of the refusal, as "E5", and `reason` its words. Where it has a place in the text, `offset` is that in bytes from 0
-    on, `line` and `column` are those in characters from 1 on, and `excerpt` is the line with a mark under the place; else all are None.
+    on, `line` and `column` are those in characters from 1 on, and `excerpt` is the line around it with a mark under the place; else all are None.
     """
 
     def __init__(self, code: int, text: bytes = b"", offset: int | None = None) -> None:
@@ -61,10 +61,15 @@ class NoValue(ArithmeticError):
         return type(self), (self.stream, self.outcome), self.__dict__
 
 
+# How much of a line is shown, and how much of it before its mark, in characters.
+WIDTH, BEFORE = 76, 50
+
+
 def placed(text: bytes, offset: int) -> tuple[int, int, str]:
-    """The line and the column of a place in a text, and that line with a mark under the place."""
+    """The line and the column of a place in a text, and that line around it, with a mark under the place."""
     start = text.rfind(b"\n", 0, offset) + 1
     before = text[start:offset].decode("utf-8", "replace")
     whole = text[start:].split(b"\n", 1)[0].decode("utf-8", "replace")
-    under = "".join(it if it == "\t" else " " for it in before)
-    return text.count(b"\n", 0, offset) + 1, len(before) + 1, f"  {whole}\n  {under}^"
+    first = max(len(before) - BEFORE, 0)
+    under = "".join(it if it == "\t" else " " for it in before[first:])
+    return text.count(b"\n", 0, offset) + 1, len(before) + 1, f"  {whole[first:first + WIDTH]}\n  {under}^"
