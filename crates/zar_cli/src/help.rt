@@ -242,7 +242,6 @@ pub const EXACT: Page = (
     "zar exact FILE
     print each outcome with its exact mass where nothing is limited, and what never ends
 
-
 ",
     &[EXPLAIN],
 );
@@ -295,7 +294,6 @@ pub const CHECK: Page = (
     "zar check FILE
     check the program, and count its statements and names
 
-
 ",
     &[EXPLAIN],
 );
@@ -304,7 +302,6 @@ pub const SHOW: Page = (
     "zar show FILE
     print the canonical text of the program
 
-
 ",
     &[EXPLAIN],
 );
@@ -312,7 +309,6 @@ pub const SHOW: Page = (
 pub const CODE: Page = (
     "zar code FILE
     list the code that samples the program
-
 
 ",
     &[EXPLAIN],
