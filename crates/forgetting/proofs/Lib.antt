@@ -1,0 +1,8 @@
+pub mod Agreeing
+pub mod Forgetting
+pub mod Results
+pub mod Marking
+pub mod Kept
+pub mod Making
+pub mod Naming
+pub mod Costs

@@ -1,0 +1,4 @@
+pub mod Liveness
+pub mod Forgetful
+pub mod SameMeaning
+pub mod Marks
