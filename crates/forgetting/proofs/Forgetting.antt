@@ -9,7 +9,8 @@ use Rattle.gcl_core.specs.meaning.Syntax.{Expression, Num, Statement, Skip, Set,
 use Rattle.gcl_core.specs.meaning.Value.{State, Value, value_of, is_zero}
 use Rattle.gcl_core.specs.meaning.Blocks.{on, failed, fault, limit, by_truth, by_side}
 use Rattle.gcl_core.proofs.Plays.{Play, ended, drawing, with_end, with_value, uniform_play, loop_play, statement_play, block_play, arm_play}
-use Rattle.forgetting.specs.Liveness.{Names, reads, matters_to, matters_to_arms, before_statement, before}
+use Rattle.forgetting.specs.Liveness.{Names, both, reads, matters_to, matters_to_arms, before_statement, before}
+use Rattle.forgetting.specs.Filling.{behind_statement}
 use Rattle.forgetting.specs.Forgetful.{forget, ends_with, forgetful_statement, forgetful, forgetful_arms}
 use Rattle.forgetting.proofs.Agreeing.{Agree, agree_on, set_agrees, forgotten_agrees, value_agrees, left_or, right_or}
 
@@ -104,57 +105,59 @@ module _ (n : ℕ) where
       by_test true k = k
       by_test false k = right_or (reads x e) _ (right_or (after x) _ (subst (λ b. matters_to x a b ≡ true) k h))
 
-  pub same_parts : (count : ℕ) (arms : ArmList) (old L : Names) → parts_of arms ≡ parts_of (forgetful_arms count arms old L)
-  same_parts count no_arm old L = refl
-  same_parts count (arm p b arms) old L = ap (λ ps. p ∷ ps) (same_parts count arms old L)
+  pub same_parts : (count : ℕ) (arms : ArmList) (old F L : Names) → parts_of arms ≡ parts_of (forgetful_arms count arms old F L)
+  same_parts count no_arm old F L = refl
+  same_parts count (arm p b arms) old F L = ap (λ ps. p ∷ ps) (same_parts count arms old F L)
 
   mutual
-    pub statement_alike : (count : ℕ) (st : Statement) (L : Names) (s t : State) → Agree (before_statement st L) s t →
-        Alike L (statement_play n st s) (statement_play n (forgetful_statement count st L) t)
-    statement_alike count Skip L s t a = on_alike L s t a
-    statement_alike count (Set x e) L s t a =
+    pub statement_alike : (count : ℕ) (st : Statement) (F L : Names) (s t : State) → Agree (before_statement st L) s t →
+        Alike L (statement_play n st s) (statement_play n (forgetful_statement count st F L) t)
+    statement_alike count Skip F L s t a = on_alike L s t a
+    statement_alike count (Set x e) F L s t a =
         value_alike L _ _ _ _ (value_agrees (before_statement (Set x e) L) e s t (λ y k. left_or (reads y e) _ k) a)
         (λ z. on_alike L _ _ (set_agrees L x z s t (agree_on _ _ s t (λ y k. right_or (reads y e) _ k) a)))
-    statement_alike count (Observe e) L s t a =
+    statement_alike count (Observe e) F L s t a =
         value_alike L _ _ _ _ (value_agrees (before_statement (Observe e) L) e s t (λ y k. left_or (reads y e) _ k) a)
         (λ z. truth_alike L z _ _ _ _ (on_alike L s t (agree_on _ _ s t (λ y k. right_or (reads y e) _ k) a)) (record { same = λ f g l. refl }))
-    statement_alike count (Uniform x e) L s t a =
+    statement_alike count (Uniform x e) F L s t a =
         value_alike L _ _ _ _ (value_agrees (before_statement (Uniform x e) L) e s t (λ y k. left_or (reads y e) _ k) a)
         (λ z. uniform_alike L x z s t (agree_on _ _ s t (λ y k. right_or (reads y e) _ k) a))
-    statement_alike count (If e b c) L s t a =
+    statement_alike count (If e b c) F L s t a =
         let M = before_statement (If e b c) L in
         value_alike L _ _ _ _ (value_agrees M e s t (λ y k. left_or (reads y e) _ k) a)
         (λ z. truth_alike L z _ _ _ _
-        (forget_alike count M (before b L) L (forgetful count b L) (block_play n b s) s t (λ t a. block_alike count b L s t a) (agree_on _ _ s t (λ y k. right_or (reads y e) _ (left_or (matters_to y b (L y)) _ k)) a))
-        (forget_alike count M (before c L) L (forgetful count c L) (block_play n c s) s t (λ t a. block_alike count c L s t a) (agree_on _ _ s t (λ y k. right_or (reads y e) _ (right_or (matters_to y b (L y)) _ k)) a)))
-    statement_alike count (Choice w b c) L s t a =
+        (forget_alike count (both M F) (before b L) L (forgetful count b F L) (block_play n b s) s t (λ t a. block_alike count b F L s t a) (agree_on _ _ s t (λ y k. right_or (reads y e) _ (left_or (matters_to y b (L y)) _ k)) a))
+        (forget_alike count (both M F) (before c L) L (forgetful count c F L) (block_play n c s) s t (λ t a. block_alike count c F L s t a) (agree_on _ _ s t (λ y k. right_or (reads y e) _ (right_or (matters_to y b (L y)) _ k)) a)))
+    statement_alike count (Choice w b c) F L s t a =
         let M = before_statement (Choice w b c) L in
         draws_alike L (choice_ends w) _ _ (λ i. side_alike L i _ _ _ _
-        (forget_alike count M (before b L) L (forgetful count b L) (block_play n b s) s t (λ t a. block_alike count b L s t a) (agree_on _ _ s t (λ y k. left_or (matters_to y b (L y)) _ k) a))
-        (forget_alike count M (before c L) L (forgetful count c L) (block_play n c s) s t (λ t a. block_alike count c L s t a) (agree_on _ _ s t (λ y k. right_or (matters_to y b (L y)) _ k) a)))
-    statement_alike count (Choose arms) L s t a =
+        (forget_alike count (both M F) (before b L) L (forgetful count b F L) (block_play n b s) s t (λ t a. block_alike count b F L s t a) (agree_on _ _ s t (λ y k. left_or (matters_to y b (L y)) _ k) a))
+        (forget_alike count (both M F) (before c L) L (forgetful count c F L) (block_play n c s) s t (λ t a. block_alike count c F L s t a) (agree_on _ _ s t (λ y k. right_or (matters_to y b (L y)) _ k) a)))
+    statement_alike count (Choose arms) F L s t a =
         let M = before_statement (Choose arms) L in
-        subst (λ ps. Alike L (statement_play n (Choose arms) s) (drawing (partial_sums ps) (λ i. arm_play n (forgetful_arms count arms M L) i t)))
-        (same_parts count arms M L)
-        (draws_alike L (partial_sums (parts_of arms)) _ _ (λ i. arms_alike count arms M L i s t a))
-    statement_alike count (While e b) L s t a =
+        subst (λ ps. Alike L (statement_play n (Choose arms) s) (drawing (partial_sums ps) (λ i. arm_play n (forgetful_arms count arms (both M F) F L) i t)))
+        (same_parts count arms (both M F) F L)
+        (draws_alike L (partial_sums (parts_of arms)) _ _ (λ i. arms_alike count arms (both M F) F L i s t a))
+    statement_alike count (While e b) F L s t a =
         let M = before_statement (While e b) L in
+        let G = behind_statement (While e b) F in
         loop_alike M L (value_of e) (block_play n b) _ (λ s t a. value_agrees M e s t (λ y k. left_or (reads y e) _ k) a)
-        (λ s t a. forget_alike count M (before b M) M (forgetful count b M) (block_play n b s) s t (λ t a. block_alike count b M s t a) (agree_on _ _ s t (λ y k. head_holds y e b L k) a))
+        (λ s t a. forget_alike count (both M G) (before b M) M (forgetful count b G M) (block_play n b s) s t (λ t a. block_alike count b G M s t a) (agree_on _ _ s t (λ y k. head_holds y e b L k) a))
         (λ y k. right_or (reads y e) _ (left_or (L y) _ k)) n s t a
 
-    pub block_alike : (count : ℕ) (b : Statements) (L : Names) (s t : State) → Agree (before b L) s t →
-        Alike L (block_play n b s) (block_play n (forgetful count b L) t)
-    block_alike count done L s t a = on_alike L s t a
-    block_alike count (st ▸ b) L s t a =
+    pub block_alike : (count : ℕ) (b : Statements) (F L : Names) (s t : State) → Agree (before b L) s t →
+        Alike L (block_play n b s) (block_play n (forgetful count b F L) t)
+    block_alike count done F L s t a = on_alike L s t a
+    block_alike count (st ▸ b) F L s t a =
         let K = before b L in
-        then_alike L K _ _ _ _ (statement_alike count st K s t a)
-        (λ s t a. forget_alike count (ends_with st K) K L (forgetful count b L) (block_play n b s) s t (λ t a. block_alike count b L s t a) a)
+        let G = behind_statement st F in
+        then_alike L K _ _ _ _ (statement_alike count st F K s t a)
+        (λ s t a. forget_alike count (both (ends_with st K) G) K L (forgetful count b G L) (block_play n b s) s t (λ t a. block_alike count b G L s t a) a)
 
-    arms_alike : (count : ℕ) (arms : ArmList) (old L : Names) (i : ℕ) (s t : State) → Agree (λ x. matters_to_arms x arms (L x)) s t →
-        Alike L (arm_play n arms i s) (arm_play n (forgetful_arms count arms old L) i t)
-    arms_alike count no_arm old L i s t a = on_alike L s t a
-    arms_alike count (arm p b arms) old L zero s t a =
-        forget_alike count old (before b L) L (forgetful count b L) (block_play n b s) s t (λ t a. block_alike count b L s t a) (agree_on _ _ s t (λ y k. left_or (matters_to y b (L y)) _ k) a)
-    arms_alike count (arm p b arms) old L (suc i) s t a =
-        arms_alike count arms old L i s t (agree_on _ _ s t (λ y k. right_or (matters_to y b (L y)) _ k) a)
+    arms_alike : (count : ℕ) (arms : ArmList) (old F L : Names) (i : ℕ) (s t : State) → Agree (λ x. matters_to_arms x arms (L x)) s t →
+        Alike L (arm_play n arms i s) (arm_play n (forgetful_arms count arms old F L) i t)
+    arms_alike count no_arm old F L i s t a = on_alike L s t a
+    arms_alike count (arm p b arms) old F L zero s t a =
+        forget_alike count old (before b L) L (forgetful count b F L) (block_play n b s) s t (λ t a. block_alike count b F L s t a) (agree_on _ _ s t (λ y k. left_or (matters_to y b (L y)) _ k) a)
+    arms_alike count (arm p b arms) old F L (suc i) s t a =
+        arms_alike count arms old F L i s t (agree_on _ _ s t (λ y k. right_or (matters_to y b (L y)) _ k) a)

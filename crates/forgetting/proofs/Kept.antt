@@ -17,7 +17,8 @@ use Rattle.gcl_core.specs.meaning.Checked.{IsChecked}
 use Rattle.gcl_core.specs.meaning.Lowest.{lowest_terms, lowest_arms, divided, statement_in_lowest, block_in_lowest, arms_in_lowest, in_lowest}
 use Rattle.gcl_core.specs.meaning.Divisor.{common_divisor}
 use Rattle.gcl_core.specs.meaning.Syntax.{Expression, Num, Truth, Var, Neg, Not, Bin, Statement, Skip, Set, If, While, Choice, Choose, Uniform, Observe, Statements, done, ◌▸◌, ArmList, no_arm, arm, SourceProgram}
-use Rattle.forgetting.specs.Liveness.{Names, reads, matters_to_statement, matters_to, matters_to_arms, before_statement, before}
+use Rattle.forgetting.specs.Liveness.{Names, no_names, both, reads, matters_to_statement, matters_to, matters_to_arms, before_statement, before}
+use Rattle.forgetting.specs.Filling.{filled_by_statement, filled_by, filled_by_arms, behind_statement}
 use Rattle.forgetting.specs.Forgetful.{forget, ends_with, forgetful_statement, forgetful, forgetful_arms, forgetful_of}
 use Rattle.forgetting.proofs.Forgetting.{same_parts}
 
@@ -37,69 +38,69 @@ module _ (count : ℕ) where
   below_forget old kept b h = fact_forget (BlockBelow count) count (λ x b lt h. ((lt, tt), h)) count old kept b (omega arith) h
 
   mutual
-    statement_below : (s : Statement) (L : Names) → StatementBelow count s → StatementBelow count (forgetful_statement count s L)
-    statement_below Skip L h = h
-    statement_below (Set x e) L h = h
-    statement_below (Uniform x e) L h = h
-    statement_below (Observe e) L h = h
-    statement_below (If e a c) L h = (h.0, below_forget _ _ _ (block_below a L h.1), below_forget _ _ _ (block_below c L h.2))
-    statement_below (While e a) L h = (h.0, below_forget _ _ _ (block_below a (before_statement (While e a) L) h.1))
-    statement_below (Choice w a c) L h = (below_forget _ _ _ (block_below a L h.0), below_forget _ _ _ (block_below c L h.1))
-    statement_below (Choose arms) L h = arms_below arms (before_statement (Choose arms) L) L h
+    statement_below : (s : Statement) (F L : Names) → StatementBelow count s → StatementBelow count (forgetful_statement count s F L)
+    statement_below Skip F L h = h
+    statement_below (Set x e) F L h = h
+    statement_below (Uniform x e) F L h = h
+    statement_below (Observe e) F L h = h
+    statement_below (If e a c) F L h = (h.0, below_forget _ _ _ (block_below a F L h.1), below_forget _ _ _ (block_below c F L h.2))
+    statement_below (While e a) F L h = (h.0, below_forget _ _ _ (block_below a (behind_statement (While e a) F) (before_statement (While e a) L) h.1))
+    statement_below (Choice w a c) F L h = (below_forget _ _ _ (block_below a F L h.0), below_forget _ _ _ (block_below c F L h.1))
+    statement_below (Choose arms) F L h = arms_below arms (both (before_statement (Choose arms) L) F) F L h
 
-    block_below : (b : Statements) (L : Names) → BlockBelow count b → BlockBelow count (forgetful count b L)
-    block_below done L h = h
-    block_below (s ▸ b) L h = (statement_below s (before b L) h.0, below_forget _ _ _ (block_below b L h.1))
+    block_below : (b : Statements) (F L : Names) → BlockBelow count b → BlockBelow count (forgetful count b F L)
+    block_below done F L h = h
+    block_below (s ▸ b) F L h = (statement_below s F (before b L) h.0, below_forget _ _ _ (block_below b (behind_statement s F) L h.1))
 
-    arms_below : (arms : ArmList) (old L : Names) → ArmsBelow count arms → ArmsBelow count (forgetful_arms count arms old L)
-    arms_below no_arm old L h = h
-    arms_below (arm p b arms) old L h = (below_forget _ _ _ (block_below b L h.0), arms_below arms old L h.1)
+    arms_below : (arms : ArmList) (old F L : Names) → ArmsBelow count arms → ArmsBelow count (forgetful_arms count arms old F L)
+    arms_below no_arm old F L h = h
+    arms_below (arm p b arms) old F L h = (below_forget _ _ _ (block_below b F L h.0), arms_below arms old F L h.1)
 
   fit_forget : (old kept : Names) (b : Statements) → BlockFits b → BlockFits (forget count old kept b)
   fit_forget old kept b h = fact_forget BlockFits count (λ x b lt h. (refl, h)) count old kept b (omega arith) h
 
   mutual
-    statement_fits : (s : Statement) (L : Names) → StatementFits s → StatementFits (forgetful_statement count s L)
-    statement_fits Skip L h = h
-    statement_fits (Set x e) L h = h
-    statement_fits (Uniform x e) L h = h
-    statement_fits (Observe e) L h = h
-    statement_fits (If e a c) L h = (h.0, fit_forget _ _ _ (block_fits a L h.1), fit_forget _ _ _ (block_fits c L h.2))
-    statement_fits (While e a) L h = (h.0, fit_forget _ _ _ (block_fits a (before_statement (While e a) L) h.1))
-    statement_fits (Choice w a c) L h = (fit_forget _ _ _ (block_fits a L h.0), fit_forget _ _ _ (block_fits c L h.1))
-    statement_fits (Choose arms) L h = arms_fit arms (before_statement (Choose arms) L) L h
+    statement_fits : (s : Statement) (F L : Names) → StatementFits s → StatementFits (forgetful_statement count s F L)
+    statement_fits Skip F L h = h
+    statement_fits (Set x e) F L h = h
+    statement_fits (Uniform x e) F L h = h
+    statement_fits (Observe e) F L h = h
+    statement_fits (If e a c) F L h = (h.0, fit_forget _ _ _ (block_fits a F L h.1), fit_forget _ _ _ (block_fits c F L h.2))
+    statement_fits (While e a) F L h = (h.0, fit_forget _ _ _ (block_fits a (behind_statement (While e a) F) (before_statement (While e a) L) h.1))
+    statement_fits (Choice w a c) F L h = (fit_forget _ _ _ (block_fits a F L h.0), fit_forget _ _ _ (block_fits c F L h.1))
+    statement_fits (Choose arms) F L h = arms_fit arms (both (before_statement (Choose arms) L) F) F L h
 
-    block_fits : (b : Statements) (L : Names) → BlockFits b → BlockFits (forgetful count b L)
-    block_fits done L h = h
-    block_fits (s ▸ b) L h = (statement_fits s (before b L) h.0, fit_forget _ _ _ (block_fits b L h.1))
+    block_fits : (b : Statements) (F L : Names) → BlockFits b → BlockFits (forgetful count b F L)
+    block_fits done F L h = h
+    block_fits (s ▸ b) F L h = (statement_fits s F (before b L) h.0, fit_forget _ _ _ (block_fits b (behind_statement s F) L h.1))
 
-    arms_fit : (arms : ArmList) (old L : Names) → ArmsFit arms → ArmsFit (forgetful_arms count arms old L)
-    arms_fit no_arm old L h = h
-    arms_fit (arm p b arms) old L h = (fit_forget _ _ _ (block_fits b L h.0), arms_fit arms old L h.1)
+    arms_fit : (arms : ArmList) (old F L : Names) → ArmsFit arms → ArmsFit (forgetful_arms count arms old F L)
+    arms_fit no_arm old F L h = h
+    arms_fit (arm p b arms) old F L h = (fit_forget _ _ _ (block_fits b F L h.0), arms_fit arms old F L h.1)
 
   module _ (Fact : Weight → Type 0) (PartsFact : List ℕ → Type 0) where
     weights_forget : (old kept : Names) (b : Statements) → BlockWeights Fact PartsFact b → BlockWeights Fact PartsFact (forget count old kept b)
     weights_forget old kept b h = fact_forget (BlockWeights Fact PartsFact) count (λ x b lt h. (tt, h)) count old kept b (omega arith) h
 
     mutual
-      statement_weighs : (s : Statement) (L : Names) → StatementWeights Fact PartsFact s → StatementWeights Fact PartsFact (forgetful_statement count s L)
-      statement_weighs Skip L h = h
-      statement_weighs (Set x e) L h = h
-      statement_weighs (Uniform x e) L h = h
-      statement_weighs (Observe e) L h = h
-      statement_weighs (If e a c) L h = (weights_forget _ _ _ (block_weighs a L h.0), weights_forget _ _ _ (block_weighs c L h.1))
-      statement_weighs (While e a) L h = weights_forget _ _ _ (block_weighs a (before_statement (While e a) L) h)
-      statement_weighs (Choice w a c) L h = (h.0, weights_forget _ _ _ (block_weighs a L h.1), weights_forget _ _ _ (block_weighs c L h.2))
-      statement_weighs (Choose arms) L h =
-          (subst PartsFact (same_parts 0 count arms (before_statement (Choose arms) L) L) h.0, arms_weigh arms (before_statement (Choose arms) L) L h.1)
+      statement_weighs : (s : Statement) (F L : Names) → StatementWeights Fact PartsFact s → StatementWeights Fact PartsFact (forgetful_statement count s F L)
+      statement_weighs Skip F L h = h
+      statement_weighs (Set x e) F L h = h
+      statement_weighs (Uniform x e) F L h = h
+      statement_weighs (Observe e) F L h = h
+      statement_weighs (If e a c) F L h = (weights_forget _ _ _ (block_weighs a F L h.0), weights_forget _ _ _ (block_weighs c F L h.1))
+      statement_weighs (While e a) F L h = weights_forget _ _ _ (block_weighs a (behind_statement (While e a) F) (before_statement (While e a) L) h)
+      statement_weighs (Choice w a c) F L h = (h.0, weights_forget _ _ _ (block_weighs a F L h.1), weights_forget _ _ _ (block_weighs c F L h.2))
+      statement_weighs (Choose arms) F L h =
+          (subst PartsFact (same_parts 0 count arms (both (before_statement (Choose arms) L) F) F L) h.0, arms_weigh arms (both (before_statement (Choose arms) L) F) F L h.1)
 
-      block_weighs : (b : Statements) (L : Names) → BlockWeights Fact PartsFact b → BlockWeights Fact PartsFact (forgetful count b L)
-      block_weighs done L h = h
-      block_weighs (s ▸ b) L h = (statement_weighs s (before b L) h.0, weights_forget _ _ _ (block_weighs b L h.1))
+      block_weighs : (b : Statements) (F L : Names) → BlockWeights Fact PartsFact b → BlockWeights Fact PartsFact (forgetful count b F L)
+      block_weighs done F L h = h
+      block_weighs (s ▸ b) F L h = (statement_weighs s F (before b L) h.0, weights_forget _ _ _ (block_weighs b (behind_statement s F) L h.1))
 
-      arms_weigh : (arms : ArmList) (old L : Names) → ArmsWeights Fact PartsFact arms → ArmsWeights Fact PartsFact (forgetful_arms count arms old L)
-      arms_weigh no_arm old L h = h
-      arms_weigh (arm p b arms) old L h = (weights_forget _ _ _ (block_weighs b L h.0), arms_weigh arms old L h.1)
+      arms_weigh : (arms : ArmList) (old F L : Names) → ArmsWeights Fact PartsFact arms → ArmsWeights Fact PartsFact (forgetful_arms count arms old F L)
+      arms_weigh no_arm old F L h = h
+      arms_weigh (arm p b arms) old F L h = (weights_forget _ _ _ (block_weighs b F L h.0), arms_weigh arms old F L h.1)
 
 -- ---- what matters is the same in lowest terms
 left_true : (a b : Bool) → a ≡ true → (a || b) ≡ true
@@ -136,6 +137,34 @@ module _ (x : ℕ) where
     same_arms no_arm after = refl
     same_arms (arm p b arms) after = ap (λ t. t || matters_to_arms x (arms_in_lowest arms) after) (same_block b after) ∙ ap (λ t. matters_to x b after || t) (same_arms arms after)
 
+-- ---- so is what may differ from 0
+module _ (x : ℕ) where
+  filled_divided : (d : ℕ) (arms : ArmList) (f : Bool) → filled_by_arms x (divided d arms) f ≡ filled_by_arms x arms f
+  filled_divided d no_arm f = refl
+  filled_divided d (arm p b arms) f = ap (λ t. filled_by x b f || t) (filled_divided d arms f)
+
+  mutual
+    statement_fills : (s : Statement) (f : Bool) → filled_by_statement x (statement_in_lowest s) f ≡ filled_by_statement x s f
+    statement_fills Skip f = refl
+    statement_fills (Set y e) f = refl
+    statement_fills (Uniform y e) f = refl
+    statement_fills (Observe e) f = refl
+    statement_fills (If e a c) f = ap (λ t. t || filled_by x (block_in_lowest c) f) (block_fills a f) ∙ ap (λ t. filled_by x a f || t) (block_fills c f)
+    statement_fills (While e a) f = ap (λ t. f || t) (block_fills a false)
+    statement_fills (Choice w a c) f = ap (λ t. t || filled_by x (block_in_lowest c) f) (block_fills a f) ∙ ap (λ t. filled_by x a f || t) (block_fills c f)
+    statement_fills (Choose arms) f = filled_divided (common_divisor (parts_of (arms_in_lowest arms))) (arms_in_lowest arms) f ∙ arms_fill arms f
+
+    block_fills : (b : Statements) (f : Bool) → filled_by x (block_in_lowest b) f ≡ filled_by x b f
+    block_fills done f = refl
+    block_fills (s ▸ b) f = block_fills b (filled_by_statement x (statement_in_lowest s) f) ∙ ap (filled_by x b) (statement_fills s f)
+
+    arms_fill : (arms : ArmList) (f : Bool) → filled_by_arms x (arms_in_lowest arms) f ≡ filled_by_arms x arms f
+    arms_fill no_arm f = refl
+    arms_fill (arm p b arms) f = ap (λ t. t || filled_by_arms x (arms_in_lowest arms) f) (block_fills b f) ∙ ap (λ t. filled_by x b f || t) (arms_fill arms f)
+
+behind_same : (s : Statement) (F : Names) → behind_statement s F ≡ behind_statement (statement_in_lowest s) F
+behind_same s F = fun_ext (λ x. sym (statement_fills x s (F x)))
+
 before_same : (b : Statements) (L : Names) → before b L ≡ before (block_in_lowest b) L
 before_same b L = fun_ext (λ x. sym (same_block x b (L x)))
 
@@ -165,60 +194,68 @@ low_forget (suc x) old kept b = by_test (old x && not (kept x)) x (forget x old 
     by_test false x b b' e = e
 
 module _ (count : ℕ) where
-  branch_low : (b : Statements) (old old' L : Names) → old ≡ old' → block_in_lowest (forgetful count b L) ≡ forgetful count (block_in_lowest b) L →
-      block_in_lowest (forget count old (before b L) (forgetful count b L)) ≡ forget count old' (before (block_in_lowest b) L) (forgetful count (block_in_lowest b) L)
-  branch_low b old old' L e h =
-      low_forget count old (before b L) (forgetful count b L)
+  branch_low : (b : Statements) (old old' F L : Names) → old ≡ old' → block_in_lowest (forgetful count b F L) ≡ forgetful count (block_in_lowest b) F L →
+      block_in_lowest (forget count old (before b L) (forgetful count b F L)) ≡ forget count old' (before (block_in_lowest b) L) (forgetful count (block_in_lowest b) F L)
+  branch_low b old old' F L e h =
+      low_forget count old (before b L) (forgetful count b F L)
       ∙ ap (forget count old (before b L)) h
-      ∙ ap (λ o. forget count o (before b L) (forgetful count (block_in_lowest b) L)) e
-      ∙ ap (λ k. forget count old' k (forgetful count (block_in_lowest b) L)) (before_same b L)
+      ∙ ap (λ o. forget count o (before b L) (forgetful count (block_in_lowest b) F L)) e
+      ∙ ap (λ k. forget count old' k (forgetful count (block_in_lowest b) F L)) (before_same b L)
 
-  divided_forgets : (d : ℕ) (arms : ArmList) (old L : Names) → divided d (forgetful_arms count arms old L) ≡ forgetful_arms count (divided d arms) old L
-  divided_forgets d no_arm old L = refl
-  divided_forgets d (arm p b arms) old L = ap (arm (p / d) (forget count old (before b L) (forgetful count b L))) (divided_forgets d arms old L)
+  divided_forgets : (d : ℕ) (arms : ArmList) (old F L : Names) → divided d (forgetful_arms count arms old F L) ≡ forgetful_arms count (divided d arms) old F L
+  divided_forgets d no_arm old F L = refl
+  divided_forgets d (arm p b arms) old F L = ap (arm (p / d) (forget count old (before b L) (forgetful count b F L))) (divided_forgets d arms old F L)
 
-  lowest_forgets : (arms : ArmList) (old L : Names) → lowest_arms (forgetful_arms count arms old L) ≡ forgetful_arms count (lowest_arms arms) old L
-  lowest_forgets arms old L =
-      ap (λ ps. divided (common_divisor ps) (forgetful_arms count arms old L)) (sym (same_parts 0 count arms old L))
-      ∙ divided_forgets (common_divisor (parts_of arms)) arms old L
+  lowest_forgets : (arms : ArmList) (old F L : Names) → lowest_arms (forgetful_arms count arms old F L) ≡ forgetful_arms count (lowest_arms arms) old F L
+  lowest_forgets arms old F L =
+      ap (λ ps. divided (common_divisor ps) (forgetful_arms count arms old F L)) (sym (same_parts 0 count arms old F L))
+      ∙ divided_forgets (common_divisor (parts_of arms)) arms old F L
 
   mutual
-    statement_low : (s : Statement) (L : Names) → statement_in_lowest (forgetful_statement count s L) ≡ forgetful_statement count (statement_in_lowest s) L
-    statement_low Skip L = refl
-    statement_low (Set x e) L = refl
-    statement_low (Uniform x e) L = refl
-    statement_low (Observe e) L = refl
-    statement_low (If e a c) L =
-        let same = statement_before_same (If e a c) L in
-        two (If e) (branch_low a _ _ L same (block_low a L)) (branch_low c _ _ L same (block_low c L))
-    statement_low (While e a) L =
+    statement_low : (s : Statement) (F L : Names) → statement_in_lowest (forgetful_statement count s F L) ≡ forgetful_statement count (statement_in_lowest s) F L
+    statement_low Skip F L = refl
+    statement_low (Set x e) F L = refl
+    statement_low (Uniform x e) F L = refl
+    statement_low (Observe e) F L = refl
+    statement_low (If e a c) F L =
+        let same = ap (λ M. both M F) (statement_before_same (If e a c) L) in
+        two (If e) (branch_low a _ _ F L same (block_low a F L)) (branch_low c _ _ F L same (block_low c F L))
+    statement_low (While e a) F L =
         let M = before_statement (While e a) L in
         let N = before_statement (While e (block_in_lowest a)) L in
+        let G = behind_statement (While e a) F in
+        let H = behind_statement (While e (block_in_lowest a)) F in
         let same : M ≡ N = statement_before_same (While e a) L in
-        ap (While e) (branch_low a M M M refl (block_low a M)) ∙ ap (λ K. While e (forget count K (before (block_in_lowest a) K) (forgetful count (block_in_lowest a) K))) same
-    statement_low (Choice w a c) L =
-        let same = statement_before_same (Choice w a c) L in
-        two (Choice (lowest_terms w)) (branch_low a _ _ L same (block_low a L)) (branch_low c _ _ L same (block_low c L))
-    statement_low (Choose arms) L =
-        let old = before_statement (Choose arms) L in
-        let low = before_statement (statement_in_lowest (Choose arms)) L in
-        ap (λ a. Choose (lowest_arms a)) (arms_low arms old low L (statement_before_same (Choose arms) L))
-        ∙ ap Choose (lowest_forgets (arms_in_lowest arms) low L)
+        let filled : G ≡ H = behind_same (While e a) F in
+        ap (While e) (branch_low a (both M G) (both M G) G M refl (block_low a G M))
+        ∙ ap (λ K. While e (forget count (both K G) (before (block_in_lowest a) K) (forgetful count (block_in_lowest a) G K))) same
+        ∙ ap (λ G. While e (forget count (both N G) (before (block_in_lowest a) N) (forgetful count (block_in_lowest a) G N))) filled
+    statement_low (Choice w a c) F L =
+        let same = ap (λ M. both M F) (statement_before_same (Choice w a c) L) in
+        two (Choice (lowest_terms w)) (branch_low a _ _ F L same (block_low a F L)) (branch_low c _ _ F L same (block_low c F L))
+    statement_low (Choose arms) F L =
+        let old = both (before_statement (Choose arms) L) F in
+        let low = both (before_statement (statement_in_lowest (Choose arms)) L) F in
+        ap (λ a. Choose (lowest_arms a)) (arms_low arms old low F L (ap (λ M. both M F) (statement_before_same (Choose arms) L)))
+        ∙ ap Choose (lowest_forgets (arms_in_lowest arms) low F L)
 
-    block_low : (b : Statements) (L : Names) → block_in_lowest (forgetful count b L) ≡ forgetful count (block_in_lowest b) L
-    block_low done L = refl
-    block_low (s ▸ b) L =
+    block_low : (b : Statements) (F L : Names) → block_in_lowest (forgetful count b F L) ≡ forgetful count (block_in_lowest b) F L
+    block_low done F L = refl
+    block_low (s ▸ b) F L =
         let K = before b L in
-        ap (λ t. t ▸ block_in_lowest (forget count (ends_with s K) K (forgetful count b L))) (statement_low s K)
-        ∙ ap (λ t. forgetful_statement count (statement_in_lowest s) K ▸ t)
-        (low_forget count (ends_with s K) K (forgetful count b L) ∙ ap (forget count (ends_with s K) K) (block_low b L)
-        ∙ ap (λ o. forget count o K (forgetful count (block_in_lowest b) L)) (ends_same s K))
-        ∙ ap (λ K. forgetful_statement count (statement_in_lowest s) K ▸ forget count (ends_with (statement_in_lowest s) K) K (forgetful count (block_in_lowest b) L)) (before_same b L)
+        let G = behind_statement s F in
+        let H = behind_statement (statement_in_lowest s) F in
+        ap (λ t. t ▸ block_in_lowest (forget count (both (ends_with s K) G) K (forgetful count b G L))) (statement_low s F K)
+        ∙ ap (λ t. forgetful_statement count (statement_in_lowest s) F K ▸ t)
+        (low_forget count (both (ends_with s K) G) K (forgetful count b G L) ∙ ap (forget count (both (ends_with s K) G) K) (block_low b G L)
+        ∙ ap (λ o. forget count (both o G) K (forgetful count (block_in_lowest b) G L)) (ends_same s K))
+        ∙ ap (λ G. forgetful_statement count (statement_in_lowest s) F K ▸ forget count (both (ends_with (statement_in_lowest s) K) G) K (forgetful count (block_in_lowest b) G L)) (behind_same s F)
+        ∙ ap (λ K. forgetful_statement count (statement_in_lowest s) F K ▸ forget count (both (ends_with (statement_in_lowest s) K) H) K (forgetful count (block_in_lowest b) H L)) (before_same b L)
 
-    arms_low : (arms : ArmList) (old old' L : Names) → old ≡ old' → arms_in_lowest (forgetful_arms count arms old L) ≡ forgetful_arms count (arms_in_lowest arms) old' L
-    arms_low no_arm old old' L e = refl
-    arms_low (arm p b arms) old old' L e =
-        two (arm p) (branch_low b old old' L e (block_low b L)) (arms_low arms old old' L e)
+    arms_low : (arms : ArmList) (old old' F L : Names) → old ≡ old' → arms_in_lowest (forgetful_arms count arms old F L) ≡ forgetful_arms count (arms_in_lowest arms) old' F L
+    arms_low no_arm old old' F L e = refl
+    arms_low (arm p b arms) old old' F L e =
+        two (arm p) (branch_low b old old' F L e (block_low b F L)) (arms_low arms old old' F L e)
 
 -- ---- what is set stays set
 set_forget : (x k : ℕ) (old kept : Names) (b : Statements) → sets b x ≡ true → sets (forget k old kept b) x ≡ true
@@ -235,36 +272,36 @@ either false b c d f g e = right_true c d (g e)
 
 module _ (x count : ℕ) where
   mutual
-    statement_stays : (s : Statement) (L : Names) → statement_sets s x ≡ true → statement_sets (forgetful_statement count s L) x ≡ true
-    statement_stays Skip L h = h
-    statement_stays (Set y e) L h = h
-    statement_stays (Uniform y e) L h = h
-    statement_stays (Observe e) L h = h
-    statement_stays (If e a c) L h =
+    statement_stays : (s : Statement) (F L : Names) → statement_sets s x ≡ true → statement_sets (forgetful_statement count s F L) x ≡ true
+    statement_stays Skip F L h = h
+    statement_stays (Set y e) F L h = h
+    statement_stays (Uniform y e) F L h = h
+    statement_stays (Observe e) F L h = h
+    statement_stays (If e a c) F L h =
         let M = before_statement (If e a c) L in
-        either (sets a x) (sets c x) (sets (forget count M (before a L) (forgetful count a L)) x) (sets (forget count M (before c L) (forgetful count c L)) x)
-        (λ k. set_forget x count M (before a L) (forgetful count a L) (block_stays a L k)) (λ k. set_forget x count M (before c L) (forgetful count c L) (block_stays c L k)) h
-    statement_stays (While e a) L h =
+        either (sets a x) (sets c x) (sets (forget count (both M F) (before a L) (forgetful count a F L)) x) (sets (forget count (both M F) (before c L) (forgetful count c F L)) x)
+        (λ k. set_forget x count (both M F) (before a L) (forgetful count a F L) (block_stays a F L k)) (λ k. set_forget x count (both M F) (before c L) (forgetful count c F L) (block_stays c F L k)) h
+    statement_stays (While e a) F L h =
         let M = before_statement (While e a) L in
-        set_forget x count M (before a M) (forgetful count a M) (block_stays a M h)
-    statement_stays (Choice w a c) L h =
+        set_forget x count (both M (behind_statement (While e a) F)) (before a M) (forgetful count a (behind_statement (While e a) F) M) (block_stays a (behind_statement (While e a) F) M h)
+    statement_stays (Choice w a c) F L h =
         let M = before_statement (Choice w a c) L in
-        either (sets a x) (sets c x) (sets (forget count M (before a L) (forgetful count a L)) x) (sets (forget count M (before c L) (forgetful count c L)) x)
-        (λ k. set_forget x count M (before a L) (forgetful count a L) (block_stays a L k)) (λ k. set_forget x count M (before c L) (forgetful count c L) (block_stays c L k)) h
-    statement_stays (Choose arms) L h = arms_stay arms (before_statement (Choose arms) L) L h
+        either (sets a x) (sets c x) (sets (forget count (both M F) (before a L) (forgetful count a F L)) x) (sets (forget count (both M F) (before c L) (forgetful count c F L)) x)
+        (λ k. set_forget x count (both M F) (before a L) (forgetful count a F L) (block_stays a F L k)) (λ k. set_forget x count (both M F) (before c L) (forgetful count c F L) (block_stays c F L k)) h
+    statement_stays (Choose arms) F L h = arms_stay arms (both (before_statement (Choose arms) L) F) F L h
 
-    block_stays : (b : Statements) (L : Names) → sets b x ≡ true → sets (forgetful count b L) x ≡ true
-    block_stays done L h = h
-    block_stays (s ▸ b) L h =
+    block_stays : (b : Statements) (F L : Names) → sets b x ≡ true → sets (forgetful count b F L) x ≡ true
+    block_stays done F L h = h
+    block_stays (s ▸ b) F L h =
         let K = before b L in
-        either (statement_sets s x) (sets b x) (statement_sets (forgetful_statement count s K) x) (sets (forget count (ends_with s K) K (forgetful count b L)) x)
-        (statement_stays s K) (λ k. set_forget x count (ends_with s K) K (forgetful count b L) (block_stays b L k)) h
+        either (statement_sets s x) (sets b x) (statement_sets (forgetful_statement count s F K) x) (sets (forget count (both (ends_with s K) (behind_statement s F)) K (forgetful count b (behind_statement s F) L)) x)
+        (statement_stays s F K) (λ k. set_forget x count (both (ends_with s K) (behind_statement s F)) K (forgetful count b (behind_statement s F) L) (block_stays b (behind_statement s F) L k)) h
 
-    arms_stay : (arms : ArmList) (old L : Names) → arms_set arms x ≡ true → arms_set (forgetful_arms count arms old L) x ≡ true
-    arms_stay no_arm old L h = h
-    arms_stay (arm p b arms) old L h =
-        either (sets b x) (arms_set arms x) (sets (forget count old (before b L) (forgetful count b L)) x) (arms_set (forgetful_arms count arms old L) x)
-        (λ k. set_forget x count old (before b L) (forgetful count b L) (block_stays b L k)) (arms_stay arms old L) h
+    arms_stay : (arms : ArmList) (old F L : Names) → arms_set arms x ≡ true → arms_set (forgetful_arms count arms old F L) x ≡ true
+    arms_stay no_arm old F L h = h
+    arms_stay (arm p b arms) old F L h =
+        either (sets b x) (arms_set arms x) (sets (forget count old (before b L) (forgetful count b F L)) x) (arms_set (forgetful_arms count arms old F L) x)
+        (λ k. set_forget x count old (before b L) (forgetful count b F L) (block_stays b F L k)) (arms_stay arms old F L) h
 
 -- ---- no flaw
 abbrev AllNone : List (Option Flaw) → Type 0
@@ -331,42 +368,42 @@ module _ (known known' : ℕ → Bool) (more : (x : ℕ) → known x ≡ true �
     flawless_forget old kept b h = fact_forget (λ b. AllNone (map (statement_flaw known') (listed b))) count (λ x b lt h. (refl, h)) count old kept b (omega arith) h
 
     mutual
-      statement_flawless : (s : Statement) (L : Names) → AllNone (map (statement_flaw known) (statement_listed s)) → AllNone (map (statement_flaw known') (statement_listed (forgetful_statement count s L)))
-      statement_flawless Skip L all = all
-      statement_flawless (Set x e) L all = (still_flawless Number e all.0, tt)
-      statement_flawless (Uniform x e) L all = (still_flawless Number e all.0, tt)
-      statement_flawless (Observe e) L all = (still_flawless Truth e all.0, tt)
-      statement_flawless (If e a c) L all =
-          let both = split_map (statement_flaw known) (listed a) (listed c) all.1 in
+      statement_flawless : (s : Statement) (F L : Names) → AllNone (map (statement_flaw known) (statement_listed s)) → AllNone (map (statement_flaw known') (statement_listed (forgetful_statement count s F L)))
+      statement_flawless Skip F L all = all
+      statement_flawless (Set x e) F L all = (still_flawless Number e all.0, tt)
+      statement_flawless (Uniform x e) F L all = (still_flawless Number e all.0, tt)
+      statement_flawless (Observe e) F L all = (still_flawless Truth e all.0, tt)
+      statement_flawless (If e a c) F L all =
+          let parts = split_map (statement_flaw known) (listed a) (listed c) all.1 in
           let M = before_statement (If e a c) L in (
             still_flawless Truth e all.0,
-            join_map (statement_flaw known') (listed (forget count M (before a L) (forgetful count a L))) (listed (forget count M (before c L) (forgetful count c L)))
-                (flawless_forget M (before a L) (forgetful count a L) (block_flawless a L both.0)) (flawless_forget M (before c L) (forgetful count c L) (block_flawless c L both.1)),
+            join_map (statement_flaw known') (listed (forget count (both M F) (before a L) (forgetful count a F L))) (listed (forget count (both M F) (before c L) (forgetful count c F L)))
+                (flawless_forget (both M F) (before a L) (forgetful count a F L) (block_flawless a F L parts.0)) (flawless_forget (both M F) (before c L) (forgetful count c F L) (block_flawless c F L parts.1)),
           )
-      statement_flawless (While e a) L all = (still_flawless Truth e all.0, let M = before_statement (While e a) L in flawless_forget M (before a M) (forgetful count a M) (block_flawless a M all.1))
-      statement_flawless (Choice w a c) L all =
-          let both = split_map (statement_flaw known) (listed a) (listed c) all.1 in
+      statement_flawless (While e a) F L all = (still_flawless Truth e all.0, let M = before_statement (While e a) L in flawless_forget (both M (behind_statement (While e a) F)) (before a M) (forgetful count a (behind_statement (While e a) F) M) (block_flawless a (behind_statement (While e a) F) M all.1))
+      statement_flawless (Choice w a c) F L all =
+          let parts = split_map (statement_flaw known) (listed a) (listed c) all.1 in
           let M = before_statement (Choice w a c) L in (
             all.0,
-            join_map (statement_flaw known') (listed (forget count M (before a L) (forgetful count a L))) (listed (forget count M (before c L) (forgetful count c L)))
-                (flawless_forget M (before a L) (forgetful count a L) (block_flawless a L both.0)) (flawless_forget M (before c L) (forgetful count c L) (block_flawless c L both.1)),
+            join_map (statement_flaw known') (listed (forget count (both M F) (before a L) (forgetful count a F L))) (listed (forget count (both M F) (before c L) (forgetful count c F L)))
+                (flawless_forget (both M F) (before a L) (forgetful count a F L) (block_flawless a F L parts.0)) (flawless_forget (both M F) (before c L) (forgetful count c F L) (block_flawless c F L parts.1)),
           )
-      statement_flawless (Choose arms) L all =
-          (ap parts_flaw (sym (same_parts 0 count arms (before_statement (Choose arms) L) L)) ∙ all.0, arms_flawless arms (before_statement (Choose arms) L) L all.1)
+      statement_flawless (Choose arms) F L all =
+          (ap parts_flaw (sym (same_parts 0 count arms (both (before_statement (Choose arms) L) F) F L)) ∙ all.0, arms_flawless arms (both (before_statement (Choose arms) L) F) F L all.1)
 
-      block_flawless : (b : Statements) (L : Names) → AllNone (map (statement_flaw known) (listed b)) → AllNone (map (statement_flaw known') (listed (forgetful count b L)))
-      block_flawless done L all = tt
-      block_flawless (s ▸ b) L all =
-          let both = split_map (statement_flaw known) (statement_listed s) (listed b) all in
+      block_flawless : (b : Statements) (F L : Names) → AllNone (map (statement_flaw known) (listed b)) → AllNone (map (statement_flaw known') (listed (forgetful count b F L)))
+      block_flawless done F L all = tt
+      block_flawless (s ▸ b) F L all =
+          let parts = split_map (statement_flaw known) (statement_listed s) (listed b) all in
           let K = before b L in
-          join_map (statement_flaw known') (statement_listed (forgetful_statement count s K)) (listed (forget count (ends_with s K) K (forgetful count b L)))
-          (statement_flawless s K both.0) (flawless_forget (ends_with s K) K (forgetful count b L) (block_flawless b L both.1))
+          join_map (statement_flaw known') (statement_listed (forgetful_statement count s F K)) (listed (forget count (both (ends_with s K) (behind_statement s F)) K (forgetful count b (behind_statement s F) L)))
+          (statement_flawless s F K parts.0) (flawless_forget (both (ends_with s K) (behind_statement s F)) K (forgetful count b (behind_statement s F) L) (block_flawless b (behind_statement s F) L parts.1))
 
-      arms_flawless : (arms : ArmList) (old L : Names) → AllNone (map (statement_flaw known) (arms_listed arms)) → AllNone (map (statement_flaw known') (arms_listed (forgetful_arms count arms old L)))
-      arms_flawless no_arm old L all = tt
-      arms_flawless (arm p b arms) old L all =
-          let both = split_map (statement_flaw known) (listed b) (arms_listed arms) all in
-          join_map (statement_flaw known') (listed (forget count old (before b L) (forgetful count b L))) (arms_listed (forgetful_arms count arms old L)) (flawless_forget old (before b L) (forgetful count b L) (block_flawless b L both.0)) (arms_flawless arms old L both.1)
+      arms_flawless : (arms : ArmList) (old F L : Names) → AllNone (map (statement_flaw known) (arms_listed arms)) → AllNone (map (statement_flaw known') (arms_listed (forgetful_arms count arms old F L)))
+      arms_flawless no_arm old F L all = tt
+      arms_flawless (arm p b arms) old F L all =
+          let parts = split_map (statement_flaw known) (listed b) (arms_listed arms) all in
+          join_map (statement_flaw known') (listed (forget count old (before b L) (forgetful count b F L))) (arms_listed (forgetful_arms count arms old F L)) (flawless_forget old (before b L) (forgetful count b F L) (block_flawless b F L parts.0)) (arms_flawless arms old F L parts.1)
 
 -- ---- a program
 few_names : (t : Bool) (x y : Option ProgramRefusal) → (x ≡ None → y ≡ None) → (if t then Some too_many_names else x) ≡ None → (if t then Some too_many_names else y) ≡ None
@@ -375,13 +412,13 @@ few_names false x y f e = f e
 
 module _ (p : SourceProgram) where
   more_sets : (x : ℕ) → sets p.body x ≡ true → sets (forgetful_of p).body x ≡ true
-  more_sets x h = block_stays x (length p.names) p.body (λ x. reads x p.result) h
+  more_sets x h = block_stays x (length p.names) p.body no_names (λ x. reads x p.result) h
 
   stays_accepted : IsAccepted p → IsAccepted (forgetful_of p)
   stays_accepted h = few_names (nat_lt MOST_NAMES (length p.names)) (first_refusal 0 (flaws_of p)) (first_refusal 0 (flaws_of (forgetful_of p)))
       (λ e. let all = split (map (statement_flaw (sets p.body)) (listed p.body)) (expression_flaw (sets p.body) Number p.result ∷ []) (unrefused 0 (flaws_of p) e) in
       never_refused 0 (flaws_of (forgetful_of p)) (join (map (statement_flaw (sets (forgetful_of p).body)) (listed (forgetful_of p).body)) (expression_flaw (sets (forgetful_of p).body) Number p.result ∷ [])
-      (block_flawless (sets p.body) (sets (forgetful_of p).body) more_sets (length p.names) p.body (λ x. reads x p.result) all.0)
+      (block_flawless (sets p.body) (sets (forgetful_of p).body) more_sets (length p.names) p.body no_names (λ x. reads x p.result) all.0)
       (still_flawless (sets p.body) (sets (forgetful_of p).body) more_sets Number p.result all.1.0, tt))) h
 
   abbrev with_body : Statements → SourceProgram
@@ -389,13 +426,13 @@ module _ (p : SourceProgram) where
 
   stays_low : in_lowest p ≡ p → in_lowest (forgetful_of p) ≡ forgetful_of p
   stays_low h =
-      ap (λ b. with_body b) (block_low (length p.names) p.body (λ x. reads x p.result) ∙ ap (λ q. forgetful (length p.names) q.body (λ x. reads x p.result)) h)
+      ap (λ b. with_body b) (block_low (length p.names) p.body no_names (λ x. reads x p.result) ∙ ap (λ q. forgetful (length p.names) q.body no_names (λ x. reads x p.result)) h)
 
   pub stays_checked : IsChecked p → IsChecked (forgetful_of p)
   stays_checked h = record {
     accepted = stays_accepted h.accepted;
     lowest = stays_low h.lowest;
-    variables = record { body = block_below (length p.names) p.body (λ x. reads x p.result) h.variables.body; result = h.variables.result };
-    numbers = record { body = block_fits (length p.names) p.body (λ x. reads x p.result) h.numbers.body; result = h.numbers.result };
-    arms = block_weighs (length p.names) (λ w. Unit {0}) HaveArmCount p.body (λ x. reads x p.result) h.arms;
+    variables = record { body = block_below (length p.names) p.body no_names (λ x. reads x p.result) h.variables.body; result = h.variables.result };
+    numbers = record { body = block_fits (length p.names) p.body no_names (λ x. reads x p.result) h.numbers.body; result = h.numbers.result };
+    arms = block_weighs (length p.names) (λ w. Unit {0}) HaveArmCount p.body no_names (λ x. reads x p.result) h.arms;
   }

@@ -6,3 +6,4 @@ pub mod Kept
 pub mod Making
 pub mod Naming
 pub mod Costs
+pub mod FilledPlaces

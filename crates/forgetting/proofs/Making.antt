@@ -18,9 +18,12 @@ use Rattle.gcl_core.specs.meaning.Views.{statement_of, list_of, statements_of, a
 use Rattle.std.specs.Prelude.{nat_lt, Option, Some, None}
 use Rattle.std.proofs.lemmas.Bool.Decides.{nat_tests}
 use Rattle.gcl_core.specs.text.Names.{Name}
-use Rattle.forgetting.specs.Liveness.{Names, reads, before_statement, before}
+use Rattle.forgetting.specs.Liveness.{Names, no_names, both, reads, before_statement, before}
+use Rattle.forgetting.specs.Filling.{behind_statement}
+use Rattle.forgetting.specs.inner.Fronts.{filled_at}
 use Rattle.forgetting.specs.Forgetful.{forget, ends_with, forgetful_statement, forgetful, forgetful_arms, forgetful_of}
 use Rattle.forgetting.specs.Marks.{marked}
+use Rattle.forgetting.proofs.FilledPlaces.{filled_next}
 use Rattle.forgetting.proofs.Marking.{next_of, next_arm_of, or_false}
 
 -- one more at the end is one more at the front in reverse
@@ -51,25 +54,31 @@ pub next_before : (ss : List Stmt) (i k : ℕ) (st : Stmt) (L set new : Names) �
 next_before ss i k st L set new lt up at e is =
     is ∙ ap (before_statement (statement_of st)) (after_next (λ k. set ≡ before (list_of (drop k ss)) L) i k up e) ∙ ap (λ b. before b L) (sym (next_is ss i st lt at))
 
-pub next_made : (count : ℕ) (ss : List Stmt) (i k : ℕ) (st : Stmt) (L set ended : Names) (made forgotten : Statements) (s : Statement) → i < length ss → suc i ≡ k → st ≡ get_or ss i st →
-    set ≡ before (list_of (drop k ss)) L → made ≡ forgetful count (list_of (drop k ss)) L → ended ≡ ends_with (statement_of st) set → forgotten ≡ forget count ended set made →
-    s ≡ forgetful_statement count (statement_of st) set → (s ▸ forgotten) ≡ forgetful count (list_of (drop i ss)) L
-next_made count ss i k st L set ended made forgotten s lt up at e m w f is =
+pub next_made : (count : ℕ) (ss : List Stmt) (i k : ℕ) (st : Stmt) (F L set ended front : Names) (made forgotten : Statements) (s : Statement) → i < length ss → suc i ≡ k → st ≡ get_or ss i st →
+    set ≡ before (list_of (drop k ss)) L → made ≡ forgetful count (list_of (drop k ss)) (filled_at k ss F) L → ended ≡ both (ends_with (statement_of st) set) (filled_at k ss F) →
+    forgotten ≡ forget count ended set made → front ≡ filled_at i ss F → s ≡ forgetful_statement count (statement_of st) front set →
+    (s ▸ forgotten) ≡ forgetful count (list_of (drop i ss)) (filled_at i ss F) L
+next_made count ss i k st F L set ended front made forgotten s lt up at e m w f fr is =
     let e' = after_next (λ k. set ≡ before (list_of (drop k ss)) L) i k up e in
-    let m' = after_next (λ k. made ≡ forgetful count (list_of (drop k ss)) L) i k up m in
-    ap (λ s. s ▸ forgotten) is
-    ∙ ap (λ b. forgetful_statement count (statement_of st) set ▸ b) (f ∙ ap (λ o. forget count o set made) w ∙ ap (forget count (ends_with (statement_of st) set) set) m')
-    ∙ ap (λ K. forgetful_statement count (statement_of st) K ▸ forget count (ends_with (statement_of st) K) K (forgetful count (list_of (drop (suc i) ss)) L)) e'
-    ∙ ap (λ b. forgetful count b L) (sym (next_is ss i st lt at))
+    let m' = after_next (λ k. made ≡ forgetful count (list_of (drop k ss)) (filled_at k ss F) L) i k up m in
+    let w' = after_next (λ k. ended ≡ both (ends_with (statement_of st) set) (filled_at k ss F)) i k up w in
+    let next = filled_next ss F i (suc i) st lt (omega arith) at in
+    let A = filled_at i ss F in
+    let rest = list_of (drop (suc i) ss) in
+    ap (λ s. s ▸ forgotten) (is ∙ ap (λ A. forgetful_statement count (statement_of st) A set) fr)
+    ∙ ap (λ b. forgetful_statement count (statement_of st) A set ▸ b) (f ∙ ap (λ o. forget count o set made) w' ∙ ap (forget count (both (ends_with (statement_of st) set) (filled_at (suc i) ss F)) set) m')
+    ∙ ap (λ G. forgetful_statement count (statement_of st) A set ▸ forget count (both (ends_with (statement_of st) set) G) set (forgetful count rest G L)) next
+    ∙ ap (λ K. forgetful_statement count (statement_of st) A K ▸ forget count (both (ends_with (statement_of st) K) (behind_statement (statement_of st) A)) K (forgetful count rest (behind_statement (statement_of st) A) L)) e'
+    ∙ ap (λ b. forgetful count b A L) (sym (next_is ss i st lt at))
 
-pub next_arm_made : (count : ℕ) (arms : List (ℕ × Block)) (i : ℕ) (d : ℕ × Block) (old L : Names) (made : ArmList) (p : ℕ) (b : Statements) → i < length arms →
-    made ≡ forgetful_arms count (arm_list_of (drop (suc i) arms)) old L → p ≡ (get_or arms i d).0 →
-    b ≡ forget count old (before (statements_of (get_or arms i d).1) L) (forgetful count (statements_of (get_or arms i d).1) L) →
-    arm p b made ≡ forgetful_arms count (arm_list_of (drop i arms)) old L
-next_arm_made count arms i d old L made p b lt m e is =
+pub next_arm_made : (count : ℕ) (arms : List (ℕ × Block)) (i : ℕ) (d : ℕ × Block) (old F L : Names) (made : ArmList) (p : ℕ) (b : Statements) → i < length arms →
+    made ≡ forgetful_arms count (arm_list_of (drop (suc i) arms)) old F L → p ≡ (get_or arms i d).0 →
+    b ≡ forget count old (before (statements_of (get_or arms i d).1) L) (forgetful count (statements_of (get_or arms i d).1) F L) →
+    arm p b made ≡ forgetful_arms count (arm_list_of (drop i arms)) old F L
+next_arm_made count arms i d old F L made p b lt m e is =
     ap (λ p. arm p b made) e ∙ ap (λ b. arm (get_or arms i d).0 b made) is
-    ∙ ap (arm (get_or arms i d).0 (forget count old (before (statements_of (get_or arms i d).1) L) (forgetful count (statements_of (get_or arms i d).1) L))) m
-    ∙ ap (λ a. forgetful_arms count a old L) (sym (next_arm_of arms i d lt))
+    ∙ ap (arm (get_or arms i d).0 (forget count old (before (statements_of (get_or arms i d).1) L) (forgetful count (statements_of (get_or arms i d).1) F L))) m
+    ∙ ap (λ a. forgetful_arms count a old F L) (sym (next_arm_of arms i d lt))
 
 -- ---- variables below a count are below a greater one
 module _ (m n : ℕ) (le : m ≤ n) where
@@ -118,13 +127,17 @@ module _ (p : SourceProgram) (checked : IsChecked p) where
 abbrev pub program : List Name → Statements → Expression → SourceProgram
 program n b r = record { names = n; body = b; result = r }
 
-pub program_is : (p : SourceProgram) (names : List Name) (body : Statements) (result : Expression) (count : ℕ) (old none after : List Bool) →
-    names ≡ p.names → count ≡ length p.names → ((y : ℕ) → marked old y ≡ false) → ((y : ℕ) → marked none y ≡ false) → ((y : ℕ) → marked after y ≡ (reads y p.result || marked none y)) →
-    body ≡ forget count (marked old) (before p.body (marked after)) (forgetful count p.body (marked after)) → result ≡ p.result →
+pub program_is : (p : SourceProgram) (names : List Name) (body : Statements) (result : Expression) (count : ℕ) (old filled none after : List Bool) →
+    names ≡ p.names → count ≡ length p.names → ((y : ℕ) → marked old y ≡ false) → ((y : ℕ) → marked filled y ≡ false) → ((y : ℕ) → marked none y ≡ false) →
+    ((y : ℕ) → marked after y ≡ (reads y p.result || marked none y)) →
+    body ≡ forget count (marked old) (before p.body (marked after)) (forgetful count p.body (marked filled) (marked after)) → result ≡ p.result →
     program names body result ≡ forgetful_of p
-program_is p names body result count old none after n c o z a b r =
+program_is p names body result count old filled none after n c o f z a b r =
     let after_is : marked after ≡ (λ x. reads x p.result) = fun_ext (λ y. a y ∙ ap (λ t. reads y p.result || t) (z y) ∙ or_false (reads y p.result)) in
-    let body_is : body ≡ forgetful (length p.names) p.body (λ x. reads x p.result) =
-    b ∙ forget_none count (marked old) (before p.body (marked after)) (forgetful count p.body (marked after)) o
-    ∙ ap (λ c. forgetful c p.body (marked after)) c ∙ ap (forgetful (length p.names) p.body) after_is in
-    ap (λ (n : List Name). program n body result) n ∙ ap (λ (b : Statements). program p.names b result) body_is ∙ ap (λ (r : Expression). program p.names (forgetful (length p.names) p.body (λ x. reads x p.result)) r) r
+    let filled_is : marked filled ≡ no_names = fun_ext f in
+    let body_is : body ≡ forgetful (length p.names) p.body no_names (λ x. reads x p.result) =
+    b ∙ forget_none count (marked old) (before p.body (marked after)) (forgetful count p.body (marked filled) (marked after)) o
+    ∙ ap (λ c. forgetful c p.body (marked filled) (marked after)) c ∙ ap (λ F. forgetful (length p.names) p.body F (marked after)) filled_is
+    ∙ ap (forgetful (length p.names) p.body no_names) after_is in
+    ap (λ (n : List Name). program n body result) n ∙ ap (λ (b : Statements). program p.names b result) body_is
+    ∙ ap (λ (r : Expression). program p.names (forgetful (length p.names) p.body no_names (λ x. reads x p.result)) r) r

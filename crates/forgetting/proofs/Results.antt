@@ -19,7 +19,7 @@ use Rattle.gcl_core.specs.weighing.WeightedEnds.{Weighted, sure, scaled, taken_o
 use Rattle.gcl_core.specs.weighing.Mass.{sum_of, ends_in, is_failed, round_mass, failed_mass, mass_of_those}
 use Rattle.gcl_core.proofs.Plays.{Play, ended, drawing, with_end, block_play, on_bits, block_bits}
 use Rattle.weighing_law.proofs.WeighedPlays.{weighed, weighed_block}
-use Rattle.forgetting.specs.Liveness.{reads}
+use Rattle.forgetting.specs.Liveness.{no_names, reads}
 use Rattle.forgetting.specs.Forgetful.{forgetful_of}
 use Rattle.forgetting.specs.SameMeaning.{SameMeaning}
 use Rattle.forgetting.proofs.Agreeing.{value_agrees}
@@ -149,7 +149,7 @@ module _ (p : SourceProgram) where
   forgetful_play n = block_play n (forgetful_of p).body start
 
   plays_alike : (n : ℕ) → Alike (λ x. reads x p.result) (play n) (forgetful_play n)
-  plays_alike n = block_alike n (length p.names) p.body (λ x. reads x p.result) start start (record { lengths = refl; values = λ x h. refl })
+  plays_alike n = block_alike n (length p.names) p.body no_names (λ x. reads x p.result) start start (record { lengths = refl; values = λ x h. refl })
 
   pub results_same : (n : ℕ) → with_result p.result (play n) ≡ with_result p.result (forgetful_play n)
   results_same n = (plays_alike n).same _ _ (λ s t a. ap (λ v. ended (value_end v)) (value_agrees (λ x. reads x p.result) p.result s t (λ x k. k) a))

@@ -11,6 +11,9 @@ Names = ℕ → Bool
 abbrev pub no_names : Names
 no_names x = false
 
+abbrev pub both : Names → Names → Names
+both some others x = some x && others x
+
 module _ (x : ℕ) where
   -- whether an expression reads the variable
   abbrev pub reads : Expression → Bool

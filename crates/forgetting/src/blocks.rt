@@ -9,7 +9,8 @@ ghost use Rattle.forgetting.specs.Liveness.{before};
 ghost use Rattle.forgetting.specs.Forgetful.{forget, forgetful_statement, forgetful, forgetful_arms};
 ghost use Rattle.forgetting.specs.Marks.{marked};
 
-use crate::ends::{names_before, names_ended};
+use crate::along::fronts;
+use crate::ends::{names_at, names_before, names_behind, names_ended};
 use crate::mattering::before_statement;
 use crate::name_set::NameSet;
 use gcl_core::{Arms, Block, Expr, Stmt};
@@ -52,28 +53,33 @@ fn forget_names(
     Ok(reversed)
 }
 
-// The forgetful form of a block, where variables matter at the fork that leads to it, and after it.
+// The forgetful form of a block, where variables may be forgotten at the fork that leads to it, may differ from 0 there, and matter
+// after it.
 #[cycle(forgetting)]
 pub fn forgetful_branch(
     alloc: Global,
     block: &Block,
     count: u32,
     old: NameSet,
+    filled: NameSet,
     after: NameSet,
 ) -> Result<Block, AllocError>
     requires below { BlockBelow MOST_NAMES (statements_of block.now) }
     requires few { count ≤ MOST_NAMES }
     ensures { IfOk result (λ b. statements_of b ≡ forget count (marked old.marks)
-        (before (statements_of block.now) (marked after.marks)) (forgetful count (statements_of block.now) (marked after.marks))) }
+        (before (statements_of block.now) (marked after.marks)) (forgetful count (statements_of block.now) (marked filled.marks) (marked after.marks))) }
 {
+    let fronts = fronts(alloc, block, filled)?;
     let mut reversed = Vec::new(alloc);
     let mut set = after;
     let mut i = block.stmts.len();
     while i > 0 {
+        let behind = fronts[i];
         i -= 1;
+        let front = fronts[i];
         let statement = &block.stmts[i];
-        reversed = forget_names(reversed, count, names_ended(statement, set), set)?;
-        reversed.push(forgetful_statement(alloc, statement, count, set)?)?;
+        reversed = forget_names(reversed, count, names_ended(statement, behind, set), set)?;
+        reversed.push(forgetful_statement(alloc, statement, count, front, set)?)?;
         set = before_statement(statement, set);
     }
     let mut stmts = forget_names(reversed, count, old, set)?;
@@ -87,17 +93,19 @@ fn forgetful_arms(
     arms: &Arms,
     count: u32,
     old: NameSet,
+    filled: NameSet,
     after: NameSet,
 ) -> Result<Arms, AllocError>
     requires below { ArmsBelow MOST_NAMES (list_of_arms arms.now) }
     requires few { count ≤ MOST_NAMES }
-    ensures { IfOk result (λ a. list_of_arms a ≡ forgetful_arms count (list_of_arms arms.now) (marked old.marks) (marked after.marks)) }
+    ensures { IfOk result (λ a. list_of_arms a
+        ≡ forgetful_arms count (list_of_arms arms.now) (marked old.marks) (marked filled.marks) (marked after.marks)) }
 {
     let mut reversed = Vec::new(alloc);
     let mut i = arms.arms.len();
     while i > 0 {
         i -= 1;
-        let block = forgetful_branch(alloc, &arms.arms[i].1, count, old, after)?;
+        let block = forgetful_branch(alloc, &arms.arms[i].1, count, old, filled, after)?;
         reversed.push((arms.arms[i].0, block))?;
     }
     reversed.reverse();
@@ -110,13 +118,15 @@ fn forgetful_statement(
     alloc: Global,
     statement: &Stmt,
     count: u32,
+    filled: NameSet,
     after: NameSet,
 ) -> Result<Stmt, AllocError>
     requires below { StatementBelow MOST_NAMES (statement_of statement.now) }
     requires few { count ≤ MOST_NAMES }
-    ensures { IfOk result (λ s. statement_of s ≡ forgetful_statement count (statement_of statement.now) (marked after.marks)) }
+    ensures { IfOk result (λ s. statement_of s
+        ≡ forgetful_statement count (statement_of statement.now) (marked filled.marks) (marked after.marks)) }
 {
-    let old = names_before(statement, after);
+    let old = names_at(statement, filled, after);
     match statement {
         Stmt::Skip => Ok(Stmt::Skip),
         Stmt::Set(x, e) => Ok(Stmt::Set(*x, e.copy(alloc)?)),
@@ -124,20 +134,24 @@ fn forgetful_statement(
         Stmt::Observe(e) => Ok(Stmt::Observe(e.copy(alloc)?)),
         Stmt::If(e, first, second) => {
             let guard = e.copy(alloc)?;
-            let first = forgetful_branch(alloc, first, count, old, after)?;
-            let second = forgetful_branch(alloc, second, count, old, after)?;
+            let first = forgetful_branch(alloc, first, count, old, filled, after)?;
+            let second = forgetful_branch(alloc, second, count, old, filled, after)?;
             Ok(Stmt::If(guard, first, second))
         }
         Stmt::While(e, body) => {
             let guard = e.copy(alloc)?;
-            let body = forgetful_branch(alloc, body, count, old, old)?;
+            let head = names_before(statement, after);
+            let filled = names_behind(statement, filled);
+            let body = forgetful_branch(alloc, body, count, head.and(filled), filled, head)?;
             Ok(Stmt::While(guard, body))
         }
         Stmt::Choice(weight, first, second) => {
-            let first = forgetful_branch(alloc, first, count, old, after)?;
-            let second = forgetful_branch(alloc, second, count, old, after)?;
+            let first = forgetful_branch(alloc, first, count, old, filled, after)?;
+            let second = forgetful_branch(alloc, second, count, old, filled, after)?;
             Ok(Stmt::Choice(*weight, first, second))
         }
-        Stmt::Choose(arms) => Ok(Stmt::Choose(forgetful_arms(alloc, arms, count, old, after)?)),
+        Stmt::Choose(arms) => Ok(Stmt::Choose(forgetful_arms(
+            alloc, arms, count, old, filled, after,
+        )?)),
     }
 }

@@ -5,15 +5,17 @@
 //! included, under all limits; its rounds, and all rounds together, give each outcome the same mass, as the same fraction
 //! (`forgetting_changes_no_meaning`); and its runs read as many bits on average (`forgetting_costs_nothing`). The forgetful
 //! program of a checked program is one (`forgetting_keeps_programs_checked`). `forgetful` gives exactly the forgetful program,
-//! which is that of `specs/Forgetful`, by the liveness of `specs/Liveness`.
+//! which is that of `specs/Forgetful`, by what matters (`specs/Liveness`) and what may differ from 0 (`specs/Filling`).
 //!
-//! No clause says that each variable whose value does not matter is 0 then, nor that states become fewer: a program gets no order
-//! of its statements by it, and where a variable is read late it is kept till then. Callers have to know that it is a program with
-//! further statements: its turns, draws and rounds are those of the program, but its text is longer.
+//! No clause says that each variable whose value does not matter is 0 then, nor that states become fewer: the order of statements
+//! stays, and a variable that is read late is kept till then. Callers have to know that the forgetful program has further
+//! statements: turns, draws and rounds are those of the program, but its text is longer.
 #![tactic(auto)]
 
+mod along;
 mod blocks;
 mod ends;
+mod filled;
 mod laws;
 mod mattering;
 mod name_set;

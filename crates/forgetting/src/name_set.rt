@@ -2,6 +2,7 @@
 
 ghost use Rattle.std.specs.Prelude.{◌≡◌, ℕ, ◌<◌, ◌==◌, ◌&&◌, ◌||◌, false, not};
 ghost use Rattle.gcl_core.specs.declared.rules.TheConstants.{MOST_NAMES};
+ghost use Rattle.forgetting.specs.Liveness.{both};
 ghost use Rattle.forgetting.specs.Marks.{marked};
 
 use gcl_core::MOST_NAMES;
@@ -65,6 +66,17 @@ impl NameSet {
         let mut set = self;
         for i in 0..MOST_NAMES {
             set.marks[i] = self.marks[i] || other.marks[i];
+        }
+        set
+    }
+
+    // All that are in both of two.
+    pub fn and(self, other: NameSet) -> NameSet
+        ensures { marked result.marks ≡ both (marked self.marks) (marked other.marks) }
+    {
+        let mut set = self;
+        for i in 0..MOST_NAMES {
+            set.marks[i] = self.marks[i] && other.marks[i];
         }
         set
     }

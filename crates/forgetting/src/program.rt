@@ -36,7 +36,14 @@ pub fn forgetful(alloc: Global, p: &Checked) -> Result<Checked, AllocError>
     let program = p.program();
     let count = program.names.count();
     let after = with_read(&program.result, NameSet::none());
-    let body = forgetful_branch(alloc, &program.body, count, NameSet::none(), after)?;
+    let body = forgetful_branch(
+        alloc,
+        &program.body,
+        count,
+        NameSet::none(),
+        NameSet::none(),
+        after,
+    )?;
     let names = copied(alloc, &program.names)?;
     let result = program.result.copy(alloc)?;
     Ok(Checked::of(Program {

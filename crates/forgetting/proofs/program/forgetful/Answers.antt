@@ -20,14 +20,14 @@ forgetful_branch-requires-clause-below c =
 pub of-requires : goal.of-requires
 of-requires c =
     subst IsChecked
-    (sym (program_is (source_of c.program-program.result.now) c.in_ok-names.names (statements_of c.in_ok-body.body) (expression_of c.in_ok-result.result) c.count-count.result c.none-2.result.marks c.none.result.marks c.with_read-after.result.marks
-    c.in_ok-names.ensures c.count-count.ensures c.none-2.ensures c.none.ensures c.with_read-after.ensures c.in_ok-body.ensures c.in_ok-result.ensures.same
+    (sym (program_is (source_of c.program-program.result.now) c.in_ok-names.names (statements_of c.in_ok-body.body) (expression_of c.in_ok-result.result) c.count-count.result c.none-2.result.marks c.none-3.result.marks c.none.result.marks c.with_read-after.result.marks
+    c.in_ok-names.ensures c.count-count.ensures c.none-2.ensures c.none-3.ensures c.none.ensures c.with_read-after.ensures c.in_ok-body.ensures c.in_ok-result.ensures.same
     ∙ ap (λ (q : Program). forgetful_of (source_of q)) c.program-program.ensures.same))
     (c.forgetting_keeps_programs_checked.ensures (source_of c.args.p.now) c.is_kept.ensures.kept)
 
 pub returns : goal.returns
 returns c =
     ap source_of c.of.ensures
-    ∙ program_is (source_of c.program-program.result.now) c.in_ok-names.names (statements_of c.in_ok-body.body) (expression_of c.in_ok-result.result) c.count-count.result c.none-2.result.marks c.none.result.marks c.with_read-after.result.marks
-    c.in_ok-names.ensures c.count-count.ensures c.none-2.ensures c.none.ensures c.with_read-after.ensures c.in_ok-body.ensures c.in_ok-result.ensures.same
+    ∙ program_is (source_of c.program-program.result.now) c.in_ok-names.names (statements_of c.in_ok-body.body) (expression_of c.in_ok-result.result) c.count-count.result c.none-2.result.marks c.none-3.result.marks c.none.result.marks c.with_read-after.result.marks
+    c.in_ok-names.ensures c.count-count.ensures c.none-2.ensures c.none-3.ensures c.none.ensures c.with_read-after.ensures c.in_ok-body.ensures c.in_ok-result.ensures.same
     ∙ ap (λ (q : Program). forgetful_of (source_of q)) c.program-program.ensures.same
