@@ -11,8 +11,7 @@ use Rattle.gcl_core.specs.text.Acceptance.{Flaw, kind_mismatch, unknown_name, Pr
 use Rattle.gcl_core.specs.text.ReadingOrder.{statement_listed, listed, arms_listed}
 use Rattle.gcl_core.specs.text.Targets.{statement_sets, sets, arms_set}
 use Rattle.gcl_core.specs.meaning.Arms.{parts_of}
-use Rattle.gcl_core.specs.meaning.Parts.{HaveArmCount}
-use Rattle.gcl_core.specs.meaning.Bounds.{StatementBelow, BlockBelow, ArmsBelow, StatementFits, BlockFits, ArmsFit, StatementWeights, BlockWeights, ArmsWeights}
+use Rattle.gcl_core.specs.meaning.Bounds.{HaveArmCount, StatementBelow, BlockBelow, ArmsBelow, StatementFits, BlockFits, ArmsFit, StatementWeights, BlockWeights, ArmsWeights}
 use Rattle.gcl_core.specs.meaning.Checked.{IsChecked}
 use Rattle.gcl_core.specs.meaning.Lowest.{lowest_terms, lowest_arms, divided, statement_in_lowest, block_in_lowest, arms_in_lowest, in_lowest}
 use Rattle.gcl_core.specs.meaning.Divisor.{common_divisor}

@@ -4,6 +4,5 @@ pub mod Results
 pub mod Marking
 pub mod Kept
 pub mod Making
-pub mod Naming
 pub mod Costs
 pub mod FilledPlaces

@@ -9,8 +9,7 @@ use Rattle.gcl_core.specs.declared.syntax.Stmt.{Stmt}
 use Rattle.gcl_core.specs.declared.syntax.Stmt.TheVariants as stmt
 use Rattle.gcl_core.specs.declared.syntax.Expr.TheVariants as expr
 use Rattle.gcl_core.proofs.ViewLemmas.{set_view}
-use Rattle.gcl_core.specs.meaning.Value.{ExpressionBelow}
-use Rattle.gcl_core.specs.meaning.Bounds.{StatementBelow, BlockBelow, ArmsBelow}
+use Rattle.gcl_core.specs.meaning.Bounds.{ExpressionBelow, StatementBelow, BlockBelow, ArmsBelow}
 use Rattle.gcl_core.specs.meaning.Checked.{IsChecked}
 use Rattle.gcl_core.specs.meaning.Syntax.{Expression, Num, Truth, Var, Neg, Not, Bin, Statement, Skip, Set, If, While, Choice, Choose, Uniform, Observe, Statements, done, ◌▸◌, ArmList, no_arm, arm, SourceProgram}
 use Rattle.gcl_core.specs.text.Acceptance.{ProgramRefusal, too_many_names, first_refusal, flaws_of}

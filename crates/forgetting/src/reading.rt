@@ -2,7 +2,7 @@
 
 ghost use Rattle.std.specs.Prelude.{◌≡◌, ℕ, ◌||◌};
 ghost use Rattle.gcl_core.specs.declared.rules.TheConstants.{MOST_NAMES};
-ghost use Rattle.gcl_core.specs.meaning.Value.{ExpressionBelow};
+ghost use Rattle.gcl_core.specs.meaning.Bounds.{ExpressionBelow};
 ghost use Rattle.gcl_core.specs.meaning.Views.{expression_of};
 ghost use Rattle.forgetting.specs.Liveness.{reads};
 ghost use Rattle.forgetting.specs.Marks.{marked};

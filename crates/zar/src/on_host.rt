@@ -1,6 +1,7 @@
 //! A call over the files and the writers of the host.
 ghost use Rattle.std.specs.Prelude.{[], map, string_bytes};
 ghost use Rattle.zar_cli.specs.Answer.{IsAnswer};
+ghost use Rattle.zar_cli.specs.Reading.{IsRead};
 
 use std::alloc::Global;
 use std::io::{Eprint, Write};
@@ -32,6 +33,8 @@ pub fn on_host<
     WipingSink<'p, HostSink<O>, R>,
     KeepingSink<WipingSink<'p, HostSink<E>, R>>,
 )
+    requires { IsRead call.now }
+
     // By what the host answered: for every set of files that agrees with the record, the output is what is said of the words
     // over these files; there are such files where no name is sought twice; and the writers took the text of the output, or a
     // part of its front.

@@ -1,9 +1,7 @@
 // A call of the program.
 
-ghost use Rattle.std.specs.Prelude.{◌≡◌, ◌^◌, ◌<◌, length, map, string_bytes, IfOk};
-ghost use Rattle.zar_cli.specs.Range.{HasRange};
-ghost use Rattle.zar_cli.specs.Spelling.{IsSpelled};
-ghost use Rattle.zar_cli.specs.Words.{command_of};
+ghost use Rattle.std.specs.Prelude.{◌≡◌, ◌^◌, ◌<◌, length};
+ghost use Rattle.zar_cli.specs.Reading.{IsRead};
 
 use crate::command::{Command, Work};
 use crate::words::{WordsError, read_words};
@@ -14,15 +12,14 @@ use std::alloc::Global;
 pub struct Call<'a> {
     pub(crate) words: &'a [String],
     pub(crate) command: Result<Command, WordsError>,
-    ghost spelled: { IsSpelled (command_of (map string_bytes words.now)) command },
-    ghost range: { IfOk command HasRange },
 }
 
 impl<'a> Call<'a> {
     /// The call of these words.
     pub fn of(alloc: Global, words: &'a [String]) -> Call<'a>
         requires { length words.now < 2 ^ 32 }
-        ensures { result.words ≡ words }
+        ensures words { result.words ≡ words.entry }
+        ensures read { IsRead result }
     {
         Call {
             words,

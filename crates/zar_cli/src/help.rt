@@ -1,6 +1,6 @@
 // What `help` and `--version` print. A number in brackets stands where the option is not given.
 
-ghost use Rattle.std.specs.Prelude.{◌≡◌, ◌++◌, [], map, flat_map, unwrap_or, slice_get};
+ghost use Rattle.std.specs.Prelude.{◌≡◌, ◌<◌, ◌++◌, [], map, flat_map, unwrap_or, slice_get};
 ghost use Rattle.zar_cli.specs.Help.{piece_text, refusal_page, topic_text};
 ghost use Rattle.zar_cli.specs.Words.{code_behind, code_named, is_one_of, topic_named};
 ghost use Rattle.zar_cli.specs.declared.settings.TheConstants.{HELP};

@@ -59,9 +59,19 @@ fn bars(other: &str, name: &str) -> bool
     other == name || excludes(other, name) || excludes(name, other)
 }
 
+// How many words an option has.
+fn words_of(value: Option<&str>) -> u32
+    ensures { result ≡ words_of (option_map (λ w. w.now) value.entry) }
+{
+    match value {
+        None => 1,
+        Some(_) => 2,
+    }
+}
+
 // How many words from the name on the wrong one stands, by the form of the value.
 fn wrong_behind(form: Option<Form>, value: Option<&str>) -> Option<u32>
-    ensures behind { result ≡ wrong_behind form (option_map (λ w. w.now) value) }
+    ensures behind { result ≡ wrong_behind form (option_map (λ w. w.now) value.entry) }
     ensures few { IfSome result (λ k. k ≤ 1) }
 {
     match (form, value) {
@@ -107,7 +117,7 @@ impl<'a> Options<'a> {
 
     // One of the first options, so many, rules this one out.
     fn is_barred(self, mut count: usize, name: &str) -> bool
-        ensures { result ≡ is_barred name.now (take count.entry (options_of self.entry)) }
+        ensures { result ≡ is_barred name.now (take count (options_of self.entry)) }
     {
         let mut options = self;
         while count > 0 {
@@ -143,10 +153,10 @@ impl<'a> Options<'a> {
         let mut count = 0;
         let mut options = self;
         while let Some((name, value, rest)) = options.first() {
-            if let Some(behind) = wrong_behind(self.form_behind(count, name), value) {
-                return Some(at + behind);
+            match wrong_behind(self.form_behind(count, name), value) {
+                Some(behind) => return Some(at + behind),
+                None => at += words_of(value),
             }
-            at += if value.is_some() { 2 } else { 1 };
             count += 1;
             options = rest;
         }
