@@ -32,40 +32,106 @@ fn place_of(text: &[u8], offset: usize) -> LinePlace {
     }
 }
 
-/// How a byte is shown: what is no character of ASCII that prints is a question mark.
-pub fn shown(byte: u8) -> char {
-    match byte {
-        b' '..=b'~' => char::from(byte),
-        b'\t' => ' ',
-        _ => '?',
+/// How a character is shown: one that does not print, or that changes how others stand, is a question mark.
+pub fn shown(letter: char) -> char {
+    match letter {
+        '\t' => ' ',
+        '\0'..='\u{1f}'
+        | '\u{7f}'..='\u{9f}'
+        | '\u{ad}'
+        | '\u{61c}'
+        | '\u{180e}'
+        | '\u{200b}'..='\u{200f}'
+        | '\u{2028}'..='\u{202e}'
+        | '\u{2060}'..='\u{206f}'
+        | '\u{feff}'
+        | '\u{fff9}'..='\u{fffb}'
+        | '\u{e0000}'..='\u{e007f}' => '?',
+        _ => letter,
     }
 }
 
-// The line of the text around the bytes from `from` on, and below it a mark of this length.
-fn marked(
+// How a byte of a line that is not UTF-8 is shown.
+fn shown_byte(byte: u8) -> char {
+    if byte < 0x80 {
+        shown(char::from(byte))
+    } else {
+        '?'
+    }
+}
+
+// The bytes of the line that begins at a place, without its end.
+fn line_from(text: &[u8], start: usize) -> &[u8] {
+    let rest = text.get(start..).unwrap_or(b"");
+    let end = rest
+        .iter()
+        .position(|byte| *byte == b'\n')
+        .unwrap_or(rest.len());
+    let line = rest.get(..end).unwrap_or(rest);
+    line.strip_suffix(b"\r").unwrap_or(line)
+}
+
+// A line around a place in it, and below it a mark of this length.
+#[derive(Drop)]
+struct MarkedLine {
+    line: String,
+    mark: String,
+    at: usize,
+    length: usize,
+}
+
+impl MarkedLine {
+    // The character at this place of the line is shown, if it is near the mark.
+    fn show(&mut self, place: usize, letter: char) -> Result<(), AllocError> {
+        let first = self.at.saturating_sub(BEFORE);
+        if place < first || place >= first.saturating_add(WIDTH) {
+            return Ok(());
+        }
+        self.line.push(letter)?;
+        if place < self.at {
+            self.mark.push(' ')
+        } else if place < self.at.saturating_add(self.length) {
+            self.mark.push('^')
+        } else {
+            Ok(())
+        }
+    }
+}
+
+/// The line around the byte at this place in it, behind an indentation, and below it a mark of this length, or of one character
+/// behind the line. An error comes only where memory runs out.
+pub fn marked(
     alloc: Global,
-    text: &[u8],
-    place: LinePlace,
-    from: usize,
+    indentation: &str,
+    line: &[u8],
+    at: usize,
     length: usize,
 ) -> Result<String, AllocError> {
-    let first = place.start.max(from.saturating_sub(BEFORE));
-    let mut said = String::from_str(alloc, "    ")?;
-    for (i, byte) in text.iter().enumerate().skip(first) {
-        if *byte == b'\n' || i >= first.saturating_add(WIDTH) {
-            break;
+    let mut around = MarkedLine {
+        line: String::from_str(alloc, indentation)?,
+        mark: String::from_str(alloc, indentation)?,
+        at,
+        length,
+    };
+    match str::from_utf8(line) {
+        Ok(letters) => {
+            for (place, letter) in letters.char_indices() {
+                around.show(place, shown(letter))?;
+            }
         }
-        said.push(shown(*byte))?;
+        Err(_) => {
+            for (place, byte) in line.iter().enumerate() {
+                around.show(place, shown_byte(*byte))?;
+            }
+        }
     }
-    said.push_str("\n    ")?;
-    for _ in first..from {
-        said.push(' ')?;
+    for _ in line.len()..at {
+        around.mark.push(' ')?;
     }
-    for _ in 0..length.max(1).min(WIDTH - BEFORE) {
-        said.push('^')?;
+    if !around.mark.as_str().ends_with('^') {
+        around.mark.push('^')?;
     }
-    said.push('\n')?;
-    Ok(said)
+    format!(in alloc; "{}\n{}\n", around.line, around.mark)
 }
 
 /// The file, the line and the column of a place in it, and the line with a mark of this length under the place. An error comes
@@ -78,7 +144,14 @@ pub fn excerpt(
     length: usize,
 ) -> Result<String, AllocError> {
     let place = place_of(text, from);
-    let marked = marked(alloc, text, place, from, length)?;
+    let line = line_from(text, place.start);
+    let marked = marked(
+        alloc,
+        "    ",
+        line,
+        from.saturating_sub(place.start),
+        length,
+    )?;
     format!(in alloc;
         "  {file}, line {}, column {}\n{marked}",
         place.line, place.column

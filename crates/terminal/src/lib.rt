@@ -9,11 +9,18 @@
 //! Want of memory leaves out what would be shown.
 #![tactic(auto)]
 
+mod bytes;
+mod confusions;
 pub mod excerpt;
+mod foreign;
 mod keeping;
+mod kinds;
+mod missing;
 mod nearest;
 mod progress;
 mod repairs;
+mod tokens;
+mod unexpected;
 mod wiping;
 
 pub use keeping::KeepingSink;

@@ -3,7 +3,8 @@
 use std::alloc::{AllocError, Global};
 use strsim::damerau_levenshtein;
 
-/// The nearest of the words that are offered: the first with the fewest letters wrong, which may be a third of those of the word.
+/// The nearest of the words that are offered: the first with the fewest letters wrong, which may be a third of those of the
+/// word; none is wrong where a capital stands for a small letter.
 #[derive(Clone, Copy)]
 pub struct Nearest<'w> {
     word: &'w str,
@@ -24,7 +25,11 @@ impl<'w> Nearest<'w> {
 
     /// The nearest of those before and this one. An error comes only where memory runs out.
     pub fn offer(self, alloc: Global, other: &'w str) -> Result<Nearest<'w>, AllocError> {
-        let wrong = damerau_levenshtein(alloc, self.word, other)?;
+        let wrong = if self.word.eq_ignore_ascii_case(other) {
+            0
+        } else {
+            damerau_levenshtein(alloc, self.word, other)?
+        };
         if wrong < self.below {
             Ok(Nearest {
                 word: self.word,
