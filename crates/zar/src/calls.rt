@@ -1,8 +1,10 @@
 //! What is wrong with the words of a call, and what would be right.
 
+use crate::quoting::quoted;
 use std::alloc::{AllocError, Global};
 use terminal::Nearest;
-use terminal::excerpt::shown;
+use terminal::excerpt::marked;
+use weighted_roll::{GREATEST_SUM, MOST_LISTED};
 use zar_cli::{Form, HELP, Options, Row, Setting, VERBS, VERSION_WORD, Verb};
 
 /// The row of the command that the first word is.
@@ -68,26 +70,21 @@ fn is_given(takes: &[Setting], words: &[String], at: usize, option: &str) -> boo
     false
 }
 
-/// The call, with a mark under the word of this number, or behind the last.
+/// The call around the word of this number, with a mark under it, or behind the last.
 pub fn call_marked(alloc: Global, words: &[String], at: usize) -> Result<String, AllocError> {
-    let mut call = String::from_str(alloc, "  zar ")?;
-    let mut mark = String::from_str(alloc, "      ")?;
+    let mut call = String::from_str(alloc, "zar ")?;
+    let (mut from, mut length) = (call.len(), 1);
     for (i, word) in words.iter().enumerate() {
-        for byte in word.as_bytes() {
-            call.push(shown(*byte))?;
-            if i <= at {
-                mark.push(if i == at { '^' } else { ' ' })?;
-            }
+        if i == at {
+            (from, length) = (call.len(), word.len());
         }
+        call.push_str(word.as_str())?;
         call.push(' ')?;
-        if i < at {
-            mark.push(' ')?;
-        }
     }
     if words.len() <= at {
-        mark.push('^')?;
+        from = call.len();
     }
-    format!(in alloc; "{}\n{mark}\n", call.trim_end())
+    marked(alloc, "  ", call.trim_end().as_bytes(), from, length)
 }
 
 // What a word of this form is.
@@ -120,7 +117,10 @@ fn of_command(alloc: Global, words: &[String]) -> Result<String, AllocError> {
         nearest = nearest.offer(alloc, name)?;
     }
     let question = nearest.offer(alloc, VERSION_WORD)?.question(alloc)?;
-    format!(in alloc; "there is no command '{word}'{question}")
+    format!(in alloc;
+        "there is no command {}{question}",
+        quoted(alloc, word.as_str())?
+    )
 }
 
 // Behind `help` stands another word than that of a command.
@@ -137,17 +137,63 @@ fn of_topic(alloc: Global, words: &[String], at: usize) -> Result<String, AllocE
         nearest = nearest.offer(alloc, name)?;
     }
     let question = nearest.question(alloc)?;
-    format!(in alloc; "'{word}' is no command, and no code from E1 to E17{question}")
+    format!(in alloc;
+        "{} is no command, and no code from E1 to E17{question}",
+        quoted(alloc, word.as_str())?
+    )
+}
+
+// The word lists numbers.
+fn lists_numbers(word: &str) -> bool {
+    !word.is_empty()
+        && word
+            .bytes()
+            .all(|byte| byte.is_ascii_digit() || byte == b',')
+}
+
+// What is said of a word that is no list of weights which a roll may have.
+fn of_weights(alloc: Global, word: Option<&String>) -> Result<String, AllocError> {
+    if word.is_some_and(|word| lists_numbers(word.as_str())) {
+        format!(in alloc;
+            "a roll takes 2 to {MOST_LISTED} weights, two of them above 0, and a sum of at most {GREATEST_SUM}"
+        )
+    } else {
+        String::from_str(
+            alloc,
+            "weights are wanted here, with a comma between two, as 3,2,1",
+        )
+    }
 }
 
 // The word behind a command is missing, or of another form.
-fn of_first(alloc: Global, form: Form) -> Result<String, AllocError> {
+fn of_first(alloc: Global, form: Form, word: Option<&String>) -> Result<String, AllocError> {
     match form {
+        Form::Weights => of_weights(alloc, word),
         Form::Name => String::from_str(
             alloc,
             "the file of the program is missing; standard input is /dev/stdin",
         ),
         _ => format!(in alloc; "{} is wanted here", form_said(alloc, form)?),
+    }
+}
+
+// What is said of a word at this place that is misplaced, whatever option the command takes.
+fn misplaced(takes: &[Setting], words: &[String], at: usize, word: &str) -> Option<&'static str> {
+    if word.starts_with('-') && HELP.iter().any(|help| *help == word) {
+        return Some("help stands right behind the command");
+    }
+    if words.get(1).is_some_and(|first| first.starts_with("--")) {
+        return Some("the file comes first, before all options");
+    }
+    if word.starts_with('-') {
+        return None;
+    }
+    match (words.get(at.saturating_sub(1)), row_of(words)) {
+        (Some(before), _) if stands_alone(takes, before.as_str()) => {
+            Some("the option before this takes no value")
+        }
+        (_, Some((_, Form::Name, _, _))) => Some("one file at a time: an option begins with --"),
+        _ => Some("an option begins with --"),
     }
 }
 
@@ -159,6 +205,9 @@ fn of_option(
     at: usize,
     word: &str,
 ) -> Result<String, AllocError> {
+    if let Some(said) = misplaced(takes, words, at, word) {
+        return String::from_str(alloc, said);
+    }
     if is_given(takes, words, at, word) {
         return format!(in alloc; "{word} was given before");
     }
@@ -167,13 +216,6 @@ fn of_option(
             alloc,
             "bits of a file and bits of a stream exclude each other",
         );
-    }
-    let before = match at.checked_sub(2) {
-        Some(before) => words.get(before),
-        None => None,
-    };
-    if before.is_some_and(|option| option.as_str() == "--want") {
-        return String::from_str(alloc, "what --want takes is one word, as 'limit turns'");
     }
     if let Some((name, value)) = word.split_once('=') {
         if setting_of(takes, name).is_some() {
@@ -185,15 +227,50 @@ fn of_option(
         nearest = nearest.offer(alloc, setting.0)?;
     }
     let question = nearest.question(alloc)?;
-    format!(in alloc; "this command has no option '{word}'{question}")
+    format!(in alloc;
+        "this command has no option {}{question}",
+        quoted(alloc, word)?
+    )
+}
+
+// The value that the word at this place and the next one are together, where the option takes a way to end.
+fn split_value(
+    alloc: Global,
+    form: Form,
+    words: &[String],
+    at: usize,
+) -> Result<Option<String>, AllocError> {
+    let (Form::Wanted, Some(first), Some(second)) = (
+        form,
+        words.get(at),
+        words.get(at.saturating_add(1)),
+    ) else {
+        return Ok(None);
+    };
+    let both = format!(in alloc; "{first} {second}")?;
+    if form.number(both.as_str()).is_some() {
+        Ok(Some(both))
+    } else {
+        Ok(None)
+    }
 }
 
 // The value of an option is missing, or of another form.
-fn of_value(alloc: Global, row: &Row, option: &str, is_there: bool) -> Result<String, AllocError> {
+fn of_value(
+    alloc: Global,
+    row: &Row,
+    words: &[String],
+    at: usize,
+    option: &str,
+) -> Result<String, AllocError> {
+    let is_there = at < words.len();
     let Some(setting) = setting_of(row.2, option) else {
         return String::from_str(alloc, "a value is missing here");
     };
     let form = form_said(alloc, setting.1)?;
+    if let Some(both) = split_value(alloc, setting.1, words, at)? {
+        return format!(in alloc; "one word is wanted: quote both, as '{both}'");
+    }
     if is_there {
         format!(in alloc; "{option} takes {form}")
     } else {
@@ -228,11 +305,11 @@ fn of_end(alloc: Global, row: &Row, words: &[String]) -> Result<String, AllocErr
 // What is wrong with the word of this number behind the command of a row.
 fn of_row(alloc: Global, row: &Row, words: &[String], at: usize) -> Result<String, AllocError> {
     if at < 2 {
-        return of_first(alloc, row.1);
+        return of_first(alloc, row.1, words.get(at));
     }
     match option_at(row.2, words, at) {
         Some((name, false)) => of_option(alloc, row.2, words, at, name),
-        Some((name, true)) => of_value(alloc, row, name, at < words.len()),
+        Some((name, true)) => of_value(alloc, row, words, at, name),
         None => of_end(alloc, row, words),
     }
 }

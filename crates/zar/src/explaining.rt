@@ -1,6 +1,7 @@
 //! What is shown behind the line of a refusal where a person reads it: the place, what is wrong, and what may help.
 
 use crate::calls::{call_marked, row_of, wrong_word};
+use crate::quoting::quoted;
 use gcl_core::refusals::BAD_WORDS;
 use std::alloc::{AllocError, Global};
 use std::fs::OpenFile;
@@ -124,16 +125,37 @@ fn of_words(alloc: Global, words: &[String], at: usize) -> Result<String, AllocE
     }
 }
 
+// The word of this number names a file.
+fn is_name(words: &[String], i: usize) -> bool {
+    match (i, words.get(i.saturating_sub(1))) {
+        (1, _) => matches!(row_of(words), Some((_, Form::Name, _, _))),
+        (_, Some(option)) => i > 1 && option.as_str() == "--bits",
+        _ => false,
+    }
+}
+
 // The first file that the words name and whose opening fails so.
 fn unopened<'w, R: rt::Files>(rt: &R, words: &'w [String], why: OpenError) -> Option<&'w str> {
-    let names_program = matches!(row_of(words), Some((_, Form::Name, _, _)));
     let mut files = HostFiles::new(rt);
-    for (i, word) in words.iter().enumerate().skip(1) {
-        let is_name = match i {
-            1 => names_program,
-            _ => words.get(i.saturating_sub(1))?.as_str() == "--bits",
-        };
-        if is_name && files.open(word.as_str()) == Err(why) {
+    for (i, word) in words.iter().enumerate() {
+        if is_name(words, i) && files.open(word.as_str()) == Err(why) {
+            return Some(word.as_str());
+        }
+    }
+    None
+}
+
+fn is_folder<R: rt::Files + AllocGlobal>(rt: &R, name: &str) -> bool {
+    match fs::open(rt, name) {
+        Ok(file) => file.metadata().is_ok_and(|told| told.is_dir()),
+        Err(_) => false,
+    }
+}
+
+// The first folder that the words name as a file.
+fn folder<'w, R: rt::Files + AllocGlobal>(rt: &R, words: &'w [String]) -> Option<&'w str> {
+    for (i, word) in words.iter().enumerate() {
+        if is_name(words, i) && is_folder(rt, word.as_str()) {
             return Some(word.as_str());
         }
     }
@@ -142,38 +164,28 @@ fn unopened<'w, R: rt::Files>(rt: &R, words: &'w [String], why: OpenError) -> Op
 
 // Which file is missing.
 fn of_missing<R: rt::Files + AllocGlobal>(rt: &R, words: &[String]) -> Result<String, AllocError> {
-    match unopened(rt, words, OpenError::Missing) {
-        Some("-") => String::from_str(
-            rt.alloc(),
-            "  there is no file '-'; standard input is /dev/stdin\n",
-        ),
-        Some(name) if name.starts_with("--") => format!(in rt.alloc();
-            "  there is no file '{name}' here; options stand behind the file\n"
-        ),
-        Some(name) => format!(in rt.alloc(); "  there is no file '{name}' here\n"),
-        None => Ok(String::new(rt.alloc())),
-    }
+    let Some(name) = unopened(rt, words, OpenError::Missing) else {
+        return Ok(String::new(rt.alloc()));
+    };
+    let why = match name {
+        "-" => "; standard input is /dev/stdin",
+        _ if name.starts_with("--") => " here; options stand behind the file",
+        _ => " here",
+    };
+    format!(in rt.alloc(); "  there is no file {}{why}\n", quoted(rt.alloc(), name)?)
 }
 
 // Which file the system does not open, and why.
 fn of_unopened<R: rt::Files + AllocGlobal>(rt: &R, words: &[String]) -> Result<String, AllocError> {
     if let Some(name) = unopened(rt, words, OpenError::Failed) {
         if let Err(error) = fs::open(rt, name) {
-            return format!(in rt.alloc(); "  '{name}' does not open: {error}\n");
+            let quoted = quoted(rt.alloc(), name)?;
+            return format!(in rt.alloc(); "  {quoted} does not open: {error}\n");
         }
     }
-    for word in words.iter().skip(1) {
-        if is_folder(rt, word.as_str()) {
-            return format!(in rt.alloc(); "  '{word}' is a folder\n");
-        }
-    }
-    Ok(String::new(rt.alloc()))
-}
-
-fn is_folder<R: rt::Files + AllocGlobal>(rt: &R, name: &str) -> bool {
-    match fs::open(rt, name) {
-        Ok(file) => file.metadata().is_ok_and(|found| found.is_dir()),
-        Err(_) => false,
+    match folder(rt, words) {
+        Some(name) => format!(in rt.alloc(); "  {} is a folder\n", quoted(rt.alloc(), name)?),
+        None => Ok(String::new(rt.alloc())),
     }
 }
 
@@ -192,11 +204,11 @@ fn explanation<R: rt::Files + AllocGlobal>(
     }
 }
 
-// The same with a question mark for each byte that is no character of ASCII that prints.
+// The same with a question mark for each character that does not print.
 fn printable(alloc: Global, said: &str) -> Result<String, AllocError> {
     let mut printed = String::new(alloc);
-    for byte in said.as_bytes() {
-        printed.push(if *byte == b'\n' { '\n' } else { shown(*byte) })?;
+    for (_, letter) in said.char_indices() {
+        printed.push(if letter == '\n' { '\n' } else { shown(letter) })?;
     }
     Ok(printed)
 }

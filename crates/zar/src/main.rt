@@ -13,6 +13,7 @@
 mod calls;
 mod explaining;
 mod on_host;
+mod quoting;
 
 use crate::explaining::explain;
 use crate::on_host::on_host;
@@ -21,8 +22,8 @@ use std::process::ExitCode;
 use std::rt::Env;
 use std::{env, io};
 use terminal::Progress;
-use zar_cli::{Call, EXPLAIN};
 use zar_cli::statuses::{NO_WORDS, OUT_OF_MEMORY};
+use zar_cli::{Call, EXPLAIN};
 
 // The words after the program's name, or the status that says why there are none.
 fn words<R: Env + AllocGlobal>(rt: &R) -> Result<Vec<String>, u8> {
