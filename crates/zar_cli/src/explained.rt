@@ -143,7 +143,7 @@ right: choice 1/",
             (
                 " bits
 
-mend: zar enclose is never too wide; or allow fewer turns, attempts, rounds and flips where given; zar exact may fit; zar tally counts runs
+mend: zar enclose is never too wide; zar exact may fit; or allow fewer turns, attempts, rounds and flips where given; zar tally counts runs
 ",
                 None,
             ),
@@ -156,7 +156,7 @@ mend: zar enclose is never too wide; or allow fewer turns, attempts, rounds and 
             (
                 " different states
 
-mend: allow fewer turns, beyond which zar posterior still holds; or set what is read no more to 0; zar tally counts runs
+mend: zar enclose bounds what zar exact would print of a loop that counts; or allow fewer turns, beyond which its --all-turns and zar posterior still hold; or set what is read no more to 0; zar tally counts runs
 ",
                 None,
             ),
