@@ -1,6 +1,6 @@
 -- Which commands keep words.
-use Rattle.std.proofs.Common.{◌≡◌, ℕ, true, List, Option, Some, None, Result, Ok, Err, refl, arith}
-use Rattle.std.specs.Prelude.{Bool, ◌||◌, is_some, if◌then◌else◌}
+use Rattle.std.proofs.Common.{◌≡◌, ℕ, true, false, List, Option, Some, None, Result, Ok, Err, refl, sym, subst, arith}
+use Rattle.std.specs.Prelude.{Bool, ◌||◌, is_some, MatchResult, if◌then◌else◌}
 use Rattle.report_text.specs.declared.refusals.Refusal.TheVariants.{Memory}
 use Rattle.zar_io.specs.declared.trace.Event.{Event}
 use Rattle.zar_cli.specs.Answer.{IsSaid}
@@ -32,3 +32,19 @@ takes_for_name (Help topic) h = absurd (omega (arith, h))
 pub memory_said : (c : Result Command ℕ) (now : List Event) → AreKept c → IsSaid c now now (Err Memory)
 memory_said (Ok c) now h = said_memory c now now (takes_for_name c h) refl (asks_none (names_in c) now)
 memory_said (Err at) now h = absurd h
+
+-- an answer that is a refusal
+pub refused_with : {A E : Type 0} (Good : A → Type 0) (Bad : E → Type 0) (r : Result A E) (e : E) → r ≡ Err e → Bad e → MatchResult r Good Bad
+refused_with Good Bad r e is bad = subst (λ (r : Result _ _). MatchResult r Good Bad) (sym is) bad
+
+-- where the word behind `--bits` is given the bits are those of a file
+pub names_bits : (h : Bool) (v : Option CallWord) (stream : Source) → h ≡ true → is_some v ≡ true → NamesBits (if h then Some (source_from v stream) else None)
+names_bits true (Some bits) stream e s = tt
+names_bits true None stream e s = absurd (cc)
+names_bits false v stream e s = absurd (cc)
+
+-- and a roll on them keeps that word
+pub keeps_bits : (labels flips : ℕ) (source : Option Source) → NamesBits source → KeepsWords (Fast labels flips source)
+keeps_bits labels flips (Some (File bits)) h = omega arith
+keeps_bits labels flips (Some (Stream seed stream budget)) h = absurd h
+keeps_bits labels flips None h = absurd h
