@@ -38,16 +38,19 @@ fn options<'a>(takes: &'a [Setting], words: &'a [String]) -> Options<'a> {
 // The option whose name stands at this place, or whose value does or is missing there: its name, and whether it is the value.
 fn option_at<'a>(takes: &'a [Setting], words: &'a [String], at: usize) -> Option<(&'a str, bool)> {
     let mut options = options(takes, words);
-    let mut place = 2;
-    while let Some((name, value, rest)) = options.first() {
-        if at == place {
-            return Some((name, false));
+    let mut begin = 2;
+    for place in 2..words.len() {
+        if place == begin {
+            let (name, value, rest) = options.first()?;
+            if at == place {
+                return Some((name, false));
+            }
+            if at == place.saturating_add(1) && !stands_alone(takes, name) {
+                return Some((name, true));
+            }
+            begin = place.saturating_add(if value.is_some() { 2 } else { 1 });
+            options = rest;
         }
-        if at == place + 1 && !stands_alone(takes, name) {
-            return Some((name, true));
-        }
-        place += if value.is_some() { 2 } else { 1 };
-        options = rest;
     }
     None
 }
@@ -59,13 +62,17 @@ fn stands_alone(takes: &[Setting], name: &str) -> bool {
 // The option is one of those that begin before this place.
 fn is_given(takes: &[Setting], words: &[String], at: usize, option: &str) -> bool {
     let mut options = options(takes, words);
-    let mut place = 2;
-    while let Some((name, value, rest)) = options.first() {
-        if place < at && name == option {
-            return true;
+    let mut begin = 2;
+    for place in 2..words.len() {
+        if place == begin && place < at {
+            if let Some((name, value, rest)) = options.first() {
+                if name == option {
+                    return true;
+                }
+                begin = place.saturating_add(if value.is_some() { 2 } else { 1 });
+                options = rest;
+            }
         }
-        place += if value.is_some() { 2 } else { 1 };
-        options = rest;
     }
     false
 }
