@@ -1,6 +1,5 @@
 -- What the parts of a draw weigh.
 use Rattle.std.proofs.Common.{◌≡◌, ℕ, zero, suc, ◌+◌, ◌*◌, ◌^◌, ◌<◌, Option, Some, None, refl, ap, arith}
-use Rattle.std.proofs.lemmas.Nat.{pow-add}
 use Rattle.std.proofs.Math.Nat.{pow-suc, pow-zero}
 use Rattle.gcl_core.specs.meaning.Draw.{bits_for, rejected_numbers, strings_to_a_number}
 use Rattle.gcl_core.specs.weighing.Fractions.{Fraction, times}

@@ -13,5 +13,6 @@ pub mod Paths
 pub mod AtWidth
 pub mod Masses
 pub mod NoneReached
+pub mod FittingTables
 pub mod ArmEnds
 pub mod EqualFractions

@@ -175,7 +175,7 @@ module _ (p : SourceProgram) (ok : IsChecked p) (n : ℕ) where
   pub have_little : (r R : Option ℕ) → MayEnd p n r R → (all_turns : Bool) → HaveLittle p n r R all_turns (upper_of_others p n r R all_turns)
   have_little r R passes all_turns m within =
       few_others p ok n r (lost_each r) (loses r) (lost_units_at_most p n r m)
-      (mul-le-mul_left (lost_each r) (round_few down rounds_down p n r m (checked_weights p ok) within)) R passes all_turns
+      (mul-le-mul_left (lost_each r) (round_few down rounds_down p n r m (checked_weights p ok) ok.numbers.body within)) R passes all_turns
 
   -- where no unit passes, all that does not fail was lost by roundings
   pub nearly_fails : (r : Option ℕ) → NothingPasses p n r → NearlyFails p n r
@@ -183,7 +183,7 @@ module _ (p : SourceProgram) (ok : IsChecked p) (n : ℕ) where
       let f = failed_mass p n r in
       let k = lost_each r in
       let x = (block_loses down rounds_down k ALL r (loses r) n p.body (checked_weights p ok) ((zeros (length p.names), ALL) ∷ []) (omega arith)).1 in
-      let y = mul-le-mul_left k (round_few down rounds_down p n r m (checked_weights p ok) within) in
+      let y = mul-le-mul_left k (round_few down rounds_down p n r m (checked_weights p ok) ok.numbers.body within) in
       by f.0 f.1 (fails_in p n r) (all_units (round_units down p n r)) (k * round_roundings down p n r) (lost_units_at_most p n r m) (given p n r None false (λ x. true)) (all_given p n r) none (omega arith) y (fails_below p ok n r)
     where
       by : (f0 f1 fl all lost c g : ℕ) → g + fl ≡ all → g ≡ 0 → ALL ≤ all + lost → lost ≤ c → fl * f1 ≤ f0 * ALL → 1 * (f1 * ALL) ≤ (f0 * ALL + c * f1) * 1

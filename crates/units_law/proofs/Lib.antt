@@ -1,5 +1,6 @@
 pub mod States
 pub mod Merging
+pub mod FittingUnits
 pub mod Held
 pub mod Parts
 pub mod Drawn
@@ -23,5 +24,6 @@ pub mod InARound
 pub mod RoundsApart
 pub mod RoundsLose
 pub mod Points
+pub mod Widest
 pub mod FewOthers
 pub mod Ordered

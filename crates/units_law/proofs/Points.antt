@@ -1,13 +1,15 @@
 -- How many products a round rounds: at most so many for each table on the way.
-use Rattle.std.proofs.Common.{◌≡◌, ℕ, zero, suc, ◌+◌, ◌-◌, ◌*◌, ◌≤◌, ◌<◌, pos, negsuc, Ok, Err, List, [], ◌∷◌, ◌++◌, length, length-append, Option, ap, arith}
+use Rattle.std.proofs.Common.{◌≡◌, ℕ, zero, suc, ◌+◌, ◌-◌, ◌*◌, ◌≤◌, ◌<◌, pos, negsuc, true, Ok, Err, List, [], ◌∷◌, ◌++◌, length, length-append, Option, ap, arith}
 use Rattle.std.proofs.Math.Nat.{mul-le-mul_left, mul-le-mul_right}
 use Rattle.std.proofs.lemmas.List.Elements.{All-nil, All-cons, All-head, All-tail}
 use Rattle.std.specs.List.{sum}
+use Rattle.gcl_core.proofs.FittingValues.{zeros_fit}
 use Rattle.std.specs.Prelude.{All}
 use Rattle.numbers.specs.declared.units.TheConstants.{ALL}
 use Rattle.gcl_core.specs.declared.answers.Limit.TheVariants.{Attempts}
 use Rattle.gcl_core.specs.meaning.Arms.{parts_of}
-use Rattle.gcl_core.specs.meaning.Bounds.{StatementIsWeighed, BlockIsWeighed, ArmsAreWeighed}
+use Rattle.gcl_core.specs.meaning.Bounds.{StatementIsWeighed, BlockIsWeighed, ArmsAreWeighed, StatementFits, BlockFits, ArmsFit}
+use Rattle.gcl_core.specs.meaning.Fitting.{state_fits}
 use Rattle.gcl_core.specs.meaning.Blocks.{by_value, by_bound, limit}
 use Rattle.gcl_core.specs.meaning.Outcomes.{zeros}
 use Rattle.gcl_core.specs.meaning.Syntax.{Statement, Skip, Set, If, While, Choice, Choose, Uniform, Observe, Statements, done, ◌▸◌, ArmList, no_arm, arm, SourceProgram}
@@ -19,15 +21,17 @@ use Rattle.table_flow.specs.Tables.{Table, holds, fails, only, faults, all_end, 
 use Rattle.table_flow.specs.Width.{round_width}
 use Rattle.table_flow.proofs.Amounts.{both_first, both_second, all_first, all_second, tables_first, tables_second, ends_first, ends_second}
 use Rattle.table_flow.proofs.AtWidth.{at_width}
+use Rattle.table_flow.proofs.FittingTables.{fit_only, statement_fit, block_fit}
 use Rattle.table_flow.proofs.Kept.{head_whole, choose_inside, first_arm, other_arms}
 use Rattle.units_law.specs.Below.{IsBelow}
 use Rattle.units_law.specs.Flows.{statement_units, block_units}
 use Rattle.units_law.specs.Merged.{merged}
-use Rattle.units_law.specs.Rounding.{Rounding, RoundsDown, class_units}
+use Rattle.units_law.specs.Rounding.{Rounding, RoundsDown, class_units, units_kind}
 use Rattle.units_law.specs.Roundings.{bound_roundings, loop_roundings, statement_roundings, block_roundings, arms_roundings, round_roundings}
-use Rattle.units_law.specs.Units.{Units, only_units}
+use Rattle.units_law.specs.Units.{Units, counted_units, only_units}
 use Rattle.units_law.proofs.Blocks.{merged_below, class_below, statement_below, block_below}
 use Rattle.units_law.proofs.FewStates.{states_few}
+use Rattle.units_law.proofs.FittingUnits.{UnitsFit, fit_merged, fit_class, units_keep_states}
 use Rattle.units_law.proofs.Parts.{only_below}
 use Rattle.units_law.proofs.Rounds.{begins_below}
 use Rattle.units_law.specs.FewOthers.{numbers_at, DrawsWithin, BlockWithin}
@@ -49,11 +53,11 @@ module _ (M : ℕ) where
   one_bound (Ok (negsuc m)) h = omega arith
   one_bound (Err f) h = omega arith
 
-  bounds_few : (v : State → Value) → ((s : State) → numbers_at v s ≤ M) → (J : Units State) → bound_roundings v J ≤ length J * (M + 1)
-  bounds_few v h [] = omega arith
-  bounds_few v h (e ∷ J) =
-      let x = one_bound (v e.0) (h e.0) in
-      let y = bounds_few v h J in
+  bounds_few : (v : State → Value) → ((s : State) → state_fits s ≡ true → numbers_at v s ≤ M) → (J : Units State) → UnitsFit J → bound_roundings v J ≤ length J * (M + 1)
+  bounds_few v h [] f = omega arith
+  bounds_few v h (e ∷ J) f =
+      let x = one_bound (v e.0) (h e.0 f.0) in
+      let y = bounds_few v h J f.1 in
       omega arith
 
 module _ (cut : Rounding) (c : RoundsDown cut) (N L n : ℕ) (some : 0 < N) (r : Option ℕ) (M : ℕ) where
@@ -65,7 +69,7 @@ module _ (cut : Rounding) (c : RoundsDown cut) (N L n : ℕ) (some : 0 < N) (r :
 
   -- beside one more rounding of each of its states
   abbrev BlockFew : Statements → Type 0
-  BlockFew b = (J : Units State) (I : Table) → Within N L (block_flow n r b I) → IsBelow N J I → block_roundings cut n r b J + L ≤ U * length (block_flow n r b I).tables
+  BlockFew b = (J : Units State) (I : Table) → UnitsFit J → Within N L (block_flow n r b I) → IsBelow N J I → block_roundings cut n r b J + L ≤ U * length (block_flow n r b I).tables
 
   two : (Js Ks : List Table) (a b : ℕ) → a ≤ U * length Js → b ≤ U * length Ks → a + b ≤ U * length (Js ++ Ks)
   two Js Ks a b h k = let e = ap (λ x. U * x) (length-append Js Ks) in omega arith
@@ -76,10 +80,10 @@ module _ (cut : Rounding) (c : RoundsDown cut) (N L n : ℕ) (some : 0 < N) (r :
   less : (a l u : ℕ) → a + l ≤ u → a ≤ u
   less a l u h = omega arith
 
-  loop_few : (v : State → Value) (b : Statements) → BlockIsWeighed b → BlockFew b → (k : ℕ) (J : Units State) (I : Table) → Within N L (loop_flow v (block_flow n r b) k I) → IsBelow N J I →
+  loop_few : (v : State → Value) (b : Statements) → BlockIsWeighed b → BlockFits b → BlockFew b → (k : ℕ) (J : Units State) (I : Table) → UnitsFit J → Within N L (loop_flow v (block_flow n r b) k I) → IsBelow N J I →
       loop_roundings v (block_roundings cut n r b) (block_units cut n r b) k J ≤ U * length (loop_flow v (block_flow n r b) k I).tables
-  loop_few v b p m zero J I w h = omega arith
-  loop_few v b p m (suc k) J I w h =
+  loop_few v b p q m zero J I t w h = omega arith
+  loop_few v b p q m (suc k) J I t w h =
       let A = only_units (holds v) J in
       let B = only (holds v) I in
       let f = block_units cut n r b A in
@@ -88,9 +92,10 @@ module _ (cut : Rounding) (c : RoundsDown cut) (N L n : ℕ) (some : 0 < N) (r :
       let wf : Within N L f' = record { tables = tables_first N L f'.tables g'.tables w.tables.2; ended = ends_first N f'.ended g'.ended (ends_second N (faults v I) (f'.ended ++ g'.ended) w.ended); draws = all_first N f'.draws g'.draws w.draws } in
       let wg : Within N L g' = record { tables = tables_second N L f'.tables g'.tables w.tables.2; ended = ends_second N f'.ended g'.ended (ends_second N (faults v I) (f'.ended ++ g'.ended) w.ended); draws = all_second N f'.draws g'.draws w.draws } in
       let hh = only_below N J I h (holds v) in
-      let x = m A B wf hh in
+      let u = fit_only counted_units (holds v) J t in
+      let x = m A B u wf hh in
       let below = block_below cut c N L n some r b p A B wf hh in
-      let y = loop_few v b p m k f.next f'.next wg below.next in
+      let y = loop_few v b p q m k f.next f'.next (block_fit (units_kind cut) (units_keep_states cut) n r b q A u) wg below.next in
       let a = block_roundings cut n r b A in
       let z = two f'.tables g'.tables a (loop_roundings v (block_roundings cut n r b) (block_units cut n r b) k f.next) (less a L (U * length f'.tables) x) y in
       past I (f'.tables ++ g'.tables) (a + loop_roundings v (block_roundings cut n r b) (block_units cut n r b) k f.next) z
@@ -99,16 +104,16 @@ module _ (cut : Rounding) (c : RoundsDown cut) (N L n : ℕ) (some : 0 < N) (r :
   charged a l u k h g = omega arith
 
   mutual
-    statement_few : (st : Statement) → StatementIsWeighed st → All (DrawsWithin M) (statement_listed st) → (J : Units State) (I : Table) → length J ≤ L → Wholes N I → Within N L (statement_flow n r st I) → IsBelow N J I →
+    statement_few : (st : Statement) → StatementIsWeighed st → StatementFits st → All (DrawsWithin M) (statement_listed st) → (J : Units State) (I : Table) → UnitsFit J → length J ≤ L → Wholes N I → Within N L (statement_flow n r st I) → IsBelow N J I →
         statement_roundings cut n r st J ≤ U + U * length (statement_flow n r st I).tables
-    statement_few Skip p d J I l w s h = omega arith
-    statement_few (Set x e) p d J I l w s h = omega arith
-    statement_few (Observe e) p d J I l w s h = omega arith
-    statement_few (Uniform x e) p d J I l w s h =
-        let y = bounds_few M (value_of e) (All-head (DrawsWithin M) (Uniform x e) [] d) J in
+    statement_few Skip p g d J I f l w s h = omega arith
+    statement_few (Set x e) p g d J I f l w s h = omega arith
+    statement_few (Observe e) p g d J I f l w s h = omega arith
+    statement_few (Uniform x e) p g d J I f l w s h =
+        let y = bounds_few M (value_of e) (All-head (DrawsWithin M) (Uniform x e) [] d) J f in
         let z = mul-le-mul_right (M + 1) l in
         omega arith
-    statement_few (If e a b) p d J I l w s h =
+    statement_few (If e a b) p g d J I t l w s h =
         let v = value_of e in
         let q = All-tail (DrawsWithin M) (If e a b) (listed a ++ listed b) d in
         let A = only_units (holds v) J in
@@ -117,11 +122,11 @@ module _ (cut : Rounding) (c : RoundsDown cut) (N L n : ℕ) (some : 0 < N) (r :
         let B' = only (fails v) I in
         let f' = block_flow n r a A' in
         let g' = block_flow n r b B' in
-        let x = block_few a p.0 (all_left (DrawsWithin M) (listed a) (listed b) q) A A' (both_first N L (faults v I) f' g' s) (only_below N J I h (holds v)) in
-        let y = block_few b p.1 (all_right (DrawsWithin M) (listed a) (listed b) q) B B' (both_second N L (faults v I) f' g' s) (only_below N J I h (fails v)) in
+        let x = block_few a p.0 g.1 (all_left (DrawsWithin M) (listed a) (listed b) q) A A' (fit_only counted_units (holds v) J t) (both_first N L (faults v I) f' g' s) (only_below N J I h (holds v)) in
+        let y = block_few b p.1 g.2 (all_right (DrawsWithin M) (listed a) (listed b) q) B B' (fit_only counted_units (fails v) J t) (both_second N L (faults v I) f' g' s) (only_below N J I h (fails v)) in
         let z = two f'.tables g'.tables (block_roundings cut n r a A) (block_roundings cut n r b B) (less _ _ _ x) (less _ _ _ y) in
         omega arith
-    statement_few (Choice q a b) p d J I l w s h =
+    statement_few (Choice q a b) p g d J I fit l w s h =
         let within = All-tail (DrawsWithin M) (Choice q a b) (listed a ++ listed b) d in
         let A = class_units cut q.den r q.num J in
         let B = class_units cut q.den r (q.den - q.num) J in
@@ -134,23 +139,25 @@ module _ (cut : Rounding) (c : RoundsDown cut) (N L n : ℕ) (some : 0 < N) (r :
         let wf = both_first N L ze f' g' sw in
         let wg = both_second N L ze f' g' sw in
         let t : 0 < q.den = let z = p.0.positive in omega arith in
-        let x = block_few a p.1 (all_left (DrawsWithin M) (listed a) (listed b) within) A A' wf (class_below cut c N L n some r q.den q.num t J I w (head_whole n r N L a A' wf.tables) h) in
-        let y = block_few b p.2 (all_right (DrawsWithin M) (listed a) (listed b) within) B B' wg (class_below cut c N L n some r q.den (q.den - q.num) t J I w (head_whole n r N L b B' wg.tables) h) in
+        let x = block_few a p.1 g.0 (all_left (DrawsWithin M) (listed a) (listed b) within) A A' (fit_class cut q.den r q.num J fit) wf (class_below cut c N L n some r q.den q.num t J I w (head_whole n r N L a A' wf.tables) h) in
+        let y = block_few b p.2 g.1 (all_right (DrawsWithin M) (listed a) (listed b) within) B B' (fit_class cut q.den r (q.den - q.num) J fit) wg (class_below cut c N L n some r q.den (q.den - q.num) t J I w (head_whole n r N L b B' wg.tables) h) in
         let k = length J in
         let z = two f'.tables g'.tables (k + block_roundings cut n r a A) (k + block_roundings cut n r b B) (charged _ _ _ k l x) (charged _ _ _ k l y) in
         let u = least in
         omega arith
-    statement_few (Choose arms) p d J I l w s h =
+    statement_few (Choose arms) p g d J I fit l w s h =
         let b = sum (parts_of arms) in
         let t : 0 < b = let z = p.0.positive in omega arith in
-        let y = arms_few b t arms p.1 (All-tail (DrawsWithin M) (Choose arms) (arms_listed arms) d) J I l w (choose_inside n r N L arms I s) h in
+        let y = arms_few b t arms p.1 g (All-tail (DrawsWithin M) (Choose arms) (arms_listed arms) d) J I fit l w (choose_inside n r N L arms I s) h in
         let u = least in
         omega arith
-    statement_few (While e a) p d J I l w s h = let y = loop_few (value_of e) a p (block_few a p (All-tail (DrawsWithin M) (While e a) (listed a) d)) n J I s h in omega arith
+    statement_few (While e a) p g d J I fit l w s h =
+        let y = loop_few (value_of e) a p g.1 (block_few a p g.1 (All-tail (DrawsWithin M) (While e a) (listed a) d)) n J I fit s h in
+        omega arith
 
-    block_few : (b : Statements) → BlockIsWeighed b → BlockWithin M b → BlockFew b
-    block_few done p d J I s h = let u = least in omega arith
-    block_few (st ▸ b) p d J I s h =
+    block_few : (b : Statements) → BlockIsWeighed b → BlockFits b → BlockWithin M b → BlockFew b
+    block_few done p q d J I t s h = let u = least in omega arith
+    block_few (st ▸ b) p q d J I t s h =
         let f = statement_units cut n r st (merged J) in
         let f' = statement_flow n r st I in
         let g' = block_flow n r b f'.next in
@@ -158,33 +165,34 @@ module _ (cut : Rounding) (c : RoundsDown cut) (N L n : ℕ) (some : 0 < N) (r :
         let sg : Within N L g' = record { tables = tables_second N L f'.tables g'.tables s.tables.2; ended = ends_second N f'.ended g'.ended s.ended; draws = all_second N f'.draws g'.draws s.draws } in
         let m = merged_below cut c N L n some r J I h in
         let below = statement_below cut c N L n some r st p.0 (merged J) I s.tables.0 (head_whole n r N L b f'.next sg.tables) sf m in
-        let x = statement_few st p.0 (all_left (DrawsWithin M) (statement_listed st) (listed b) d) (merged J) I (states_few N L some J I h s.tables.1) s.tables.0 sf m in
-        let y = block_few b p.1 (all_right (DrawsWithin M) (statement_listed st) (listed b) d) f.next f'.next sg below.next in
+        let v = fit_merged J t in
+        let x = statement_few st p.0 q.0 (all_left (DrawsWithin M) (statement_listed st) (listed b) d) (merged J) I v (states_few N L some J I h s.tables.1) s.tables.0 sf m in
+        let y = block_few b p.1 q.1 (all_right (DrawsWithin M) (statement_listed st) (listed b) d) f.next f'.next (statement_fit (units_kind cut) (units_keep_states cut) n r st q.0 (merged J) v) sg below.next in
         joined (statement_roundings cut n r st (merged J)) (block_roundings cut n r b f.next) L U (length (f'.tables ++ g'.tables)) (length f'.tables) (length g'.tables) (length-append f'.tables g'.tables) x y
       where
         joined : (a b l u len i j : ℕ) → len ≡ i + j → a ≤ u + u * i → b + l ≤ u * j → a + b + l ≤ u * suc len
         joined a b l u len i j e h k = let z = ap (λ x. u * x) e in omega arith
 
-    arms_few : (b : ℕ) → 0 < b → (arms : ArmList) → ArmsAreWeighed arms → All (DrawsWithin M) (arms_listed arms) → (J : Units State) (I : Table) → length J ≤ L → Wholes N I → Within N L (arms_flow n r b arms I) → IsBelow N J I →
+    arms_few : (b : ℕ) → 0 < b → (arms : ArmList) → ArmsAreWeighed arms → ArmsFit arms → All (DrawsWithin M) (arms_listed arms) → (J : Units State) (I : Table) → UnitsFit J → length J ≤ L → Wholes N I → Within N L (arms_flow n r b arms I) → IsBelow N J I →
         arms_roundings cut n r b arms J ≤ U * length (arms_flow n r b arms I).tables
-    arms_few b t no_arm p d J I l w s h = omega arith
-    arms_few b t (arm q a arms) p d J I l w s h =
+    arms_few b t no_arm p g d J I fit l w s h = omega arith
+    arms_few b t (arm q a arms) p g d J I fit l w s h =
         let A = class_units cut b r q J in
         let A' = scaled (class_weight b r q) I in
         let wf = first_arm n r N L b q a arms I s in
-        let x = block_few a p.0 (all_left (DrawsWithin M) (listed a) (arms_listed arms) d) A A' wf (class_below cut c N L n some r b q t J I w (head_whole n r N L a A' wf.tables) h) in
-        let y = arms_few b t arms p.1 (all_right (DrawsWithin M) (listed a) (arms_listed arms) d) J I l w (other_arms n r N L b q a arms I s) h in
+        let x = block_few a p.0 g.0 (all_left (DrawsWithin M) (listed a) (arms_listed arms) d) A A' (fit_class cut b r q J fit) wf (class_below cut c N L n some r b q t J I w (head_whole n r N L a A' wf.tables) h) in
+        let y = arms_few b t arms p.1 g.1 (all_right (DrawsWithin M) (listed a) (arms_listed arms) d) J I fit l w (other_arms n r N L b q a arms I s) h in
         let k = length J in
         two (block_flow n r a A').tables (arms_flow n r b arms I).tables (k + block_roundings cut n r a A) (arms_roundings cut n r b arms J) (charged _ _ _ k l x) y
 
-pub round_few : (cut : Rounding) → RoundsDown cut → (p : SourceProgram) (n : ℕ) (r : Option ℕ) (M : ℕ) → BlockIsWeighed p.body → BlockWithin M p.body →
+pub round_few : (cut : Rounding) → RoundsDown cut → (p : SourceProgram) (n : ℕ) (r : Option ℕ) (M : ℕ) → BlockIsWeighed p.body → BlockFits p.body → BlockWithin M p.body →
     round_roundings cut p n r ≤ peak_of p n r * (M + 1) * length (tables_of p n r).tables
-round_few cut c p n r M w d =
+round_few cut c p n r M w q d =
     let a = at_width p n r w in
     let N = round_width p n r in
     let L = peak_of p n r in
     let s = zeros (length p.names) in
-    less _ _ _ (block_few cut c N L n a.positive r M p.body w d ((s, ALL) ∷ []) (sure s) a.within (begins_below N s))
+    less _ _ _ (block_few cut c N L n a.positive r M p.body w q d ((s, ALL) ∷ []) (sure s) (zeros_fit (length p.names), tt) a.within (begins_below N s))
   where
     less : (a l u : ℕ) → a + l ≤ u → a ≤ u
     less a l u h = omega arith

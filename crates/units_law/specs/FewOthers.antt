@@ -1,9 +1,10 @@
 -- How little outcomes without a row have together. This project's own rule.
-use Rattle.std.specs.Prelude.{ℕ, ◌+◌, ◌*◌, ◌≤◌, Bool, All, Option, Some, None, length, if◌then◌else◌}
+use Rattle.std.specs.Prelude.{ℕ, ◌+◌, ◌*◌, ◌≤◌, Bool, IsTrue, All, Option, Some, None, length, if◌then◌else◌}
 use Rattle.numbers.specs.declared.units.TheConstants.{ALL}
 use Rattle.gcl_core.specs.declared.answers.Limit.TheVariants.{Turns}
 use Rattle.gcl_core.specs.declared.answers.Outcome.TheVariants as outcome
 use Rattle.gcl_core.specs.meaning.Blocks.{by_value, by_bound}
+use Rattle.gcl_core.specs.meaning.Fitting.{state_fits}
 use Rattle.gcl_core.specs.meaning.Outcomes.{same_outcome}
 use Rattle.gcl_core.specs.meaning.Syntax.{Statement, Uniform, Statements, SourceProgram}
 use Rattle.gcl_core.specs.meaning.Value.{State, Value, value_of}
@@ -33,9 +34,9 @@ most_of_others p n r R all_turns c = in_all_rounds R (lost_at_most p n r all_tur
 abbrev pub numbers_at : (State → Value) → State → ℕ
 numbers_at bound s = by_value (bound s) (λ f. 0) (λ z. by_bound z 0 (λ m. m))
 
--- no uniform draw has more than m numbers, whatever the state
+-- no uniform draw has more than m numbers, whatever the state of numbers of 64 bits; where m is 2^63 - 1 this always holds
 abbrev pub DrawsWithin : ℕ → Statement → Type 0
-DrawsWithin m (Uniform x e) = (s : State) → numbers_at (value_of e) s ≤ m
+DrawsWithin m (Uniform x e) = (s : State) → IsTrue (state_fits s) → numbers_at (value_of e) s ≤ m
 DrawsWithin m _ = Unit {0}
 
 abbrev pub BlockWithin : ℕ → Statements → Type 0

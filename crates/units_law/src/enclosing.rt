@@ -1,6 +1,6 @@
 // Bounds between which masses lie, from one round in units.
 
-ghost use Rattle.std.specs.Prelude.{◌≡◌, ◌*◌, ◌≤◌, ◌<◌, ℕ, Bool, true, false, Option, None};
+ghost use Rattle.std.specs.Prelude.{◌≡◌, ◌-◌, ◌*◌, ◌^◌, ◌≤◌, ◌<◌, ℕ, Bool, true, false, Option, None};
 ghost use Rattle.numbers.specs.declared.units.TheConstants.{ALL};
 ghost use Rattle.gcl_core.specs.declared.answers.Outcome.{Outcome};
 ghost use Rattle.gcl_core.specs.meaning.Checked.{IsChecked};
@@ -15,7 +15,7 @@ ghost use Rattle.units_law.specs.Rounds.{StandsBelow};
 ghost use Rattle.units_law.specs.SomeRounds.{InRounds, in_rounds};
 ghost use Rattle.units_law.specs.Enclosures.{fails_in, lost_units, upper_of_others, NothingPasses, SomePasses, AreEnclosures};
 ghost use Rattle.units_law.specs.Events.{IsBetween};
-ghost use Rattle.units_law.specs.FewOthers.{most_of_others, HaveLittle, NearlyFails};
+ghost use Rattle.units_law.specs.FewOthers.{most_of_others, BlockWithin, HaveLittle, NearlyFails};
 ghost use Rattle.units_law.specs.Holding.{IsFor, MayEnd, AreOrdered, Enclose, most_apart, AreClose};
 
 /// It does nothing: its clauses say that the units of R rounds, worked out by the binary digits of R, are at most the exact weights:
@@ -57,13 +57,14 @@ pub fn bounds_are_as_wide_as_what_is_lost()
 
 /// It does nothing: its clauses say what the bound of the others is at most: the units that the roundings of a round lose, and for all
 /// turns what ran out of turns, in all rounds, and one unit more, with a limit of rounds two for each. Of roundings there are no more
-/// than the tables of a round, its peak of states and its widest uniform draw allow. Where no unit passes, a round fails with all
-/// weight but for so many units.
+/// than the tables of a round, its peak of states and its widest uniform draw in a state of numbers of 64 bits allow, which is always
+/// below 2^63. Where no unit passes, a round fails with all weight but for so many units.
 pub fn others_have_little()
     ensures by_roundings { (p : SourceProgram) (n k units : ℕ) (r R : Option ℕ) (all_turns : Bool) → IsChecked p → MayEnd p n r R →
         LosesFew k ALL r down → k * round_roundings down p n r ≤ units →
         AtMost (upper_of_others p n r R all_turns) (most_of_others p n r R all_turns units) }
     ensures by_tables { (p : SourceProgram) (n : ℕ) (r R : Option ℕ) (all_turns : Bool) → IsChecked p → MayEnd p n r R →
         HaveLittle p n r R all_turns (upper_of_others p n r R all_turns) }
+    ensures widest { (p : SourceProgram) → IsChecked p → BlockWithin (2 ^ 63 - 1) p.body }
     ensures none { (p : SourceProgram) (n : ℕ) (r : Option ℕ) → IsChecked p → NothingPasses p n r → NearlyFails p n r }
 {}
