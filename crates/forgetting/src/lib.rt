@@ -26,4 +26,4 @@ mod reading;
 pub use laws::{
     forgetting_changes_no_meaning, forgetting_costs_nothing, forgetting_keeps_programs_checked,
 };
-pub use program::forgetful_body;
+pub use program::forgetful;
