@@ -14,6 +14,7 @@ pub mod NonePass
 pub mod Passing
 pub mod Putting
 pub mod RoundOf
+pub mod SameBounds
 pub mod Sizes
 pub mod Spreading
 pub mod Within

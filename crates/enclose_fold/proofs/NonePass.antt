@@ -10,7 +10,7 @@ use Rattle.units_law.specs.FewOthers.{NearlyFails}
 use Rattle.enclose_fold.specs.declared.error.EncloseError.{EncloseError}
 use Rattle.enclose_fold.specs.declared.error.EncloseError.TheVariants.{AllFailed, TooUnlikely}
 use Rattle.enclose_fold.specs.NonePass.{NonePass}
-use Rattle.enclose_fold.specs.Refused.{EncloseRefused}
+use Rattle.enclose_fold.specs.inner.AsWritten.{RefusedAsWritten}
 
 module _ (p : SourceProgram) (n : ℕ) (r : Option ℕ) where
   -- where so many units fail, of which all are told by one cause and fewer by the other
@@ -24,11 +24,11 @@ module _ (p : SourceProgram) (n : ℕ) (r : Option ℕ) where
             let is : failing ≡ ALL = omega (arith, most, more) in
             subst (λ e. NonePass e p n r) (sym (all is)) (subst (λ f. f ≡ ALL) same is)
 
-    pub cause_told : (fails_in p n r ≡ ALL → IsOne (failed_mass p n r)) → NearlyFails p n r → (R : Option ℕ) → R ≡ None → EncloseRefused e p n r R
+    pub cause_told : (fails_in p n r ≡ ALL → IsOne (failed_mass p n r)) → NearlyFails p n r → (R : Option ℕ) → R ≡ None → RefusedAsWritten e p n r R
     cause_told one nearly R none = by (cases_lt failing ALL)
       where
-        by : (failing < ALL) ⊎ (ALL ≤ failing) → EncloseRefused e p n r R
-        by (inl less) = subst (λ e. EncloseRefused e p n r R) (sym (some less)) (none, nearly)
+        by : (failing < ALL) ⊎ (ALL ≤ failing) → RefusedAsWritten e p n r R
+        by (inl less) = subst (λ e. RefusedAsWritten e p n r R) (sym (some less)) (none, nearly)
         by (inr more) =
             let is : failing ≡ ALL = omega (arith, most, more) in
-            subst (λ e. EncloseRefused e p n r R) (sym (all is)) (none, one (subst (λ f. f ≡ ALL) same is))
+            subst (λ e. RefusedAsWritten e p n r R) (sym (all is)) (none, one (subst (λ f. f ≡ ALL) same is))

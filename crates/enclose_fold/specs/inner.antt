@@ -5,3 +5,4 @@ pub mod Folding
 pub mod Body
 pub mod Outcomes
 pub mod Rows
+pub mod AsWritten

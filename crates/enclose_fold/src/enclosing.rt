@@ -13,7 +13,7 @@ ghost use Rattle.units_law.specs.FewOthers.{HaveLittle};
 ghost use Rattle.units_law.specs.Holding.{IsFor, MayEnd, AreOrdered, Enclose, AreClose, most_apart};
 ghost use Rattle.enclose_fold.specs.declared.error.EncloseError.TheVariants.{AllFailed, TooUnlikely};
 ghost use Rattle.enclose_fold.specs.NonePass.{NonePass};
-ghost use Rattle.enclose_fold.specs.Refused.{EncloseRefused};
+ghost use Rattle.enclose_fold.specs.inner.AsWritten.{RefusedAsWritten};
 ghost use Rattle.enclose_fold.specs.inner.Outcomes.{RoundGives};
 ghost use Rattle.enclose_fold.specs.inner.Refusals.{Refuses};
 
@@ -80,22 +80,8 @@ fn none_passes(failed: u128) -> EncloseError
     }
 }
 
-/// Two bounds of the mass of each outcome, and one for all outcomes without a row together, from one round whose products are
-/// rounded down to units of 2^-120. Each bound is a multiple of 2^-120.
-///
-/// `turns` is the limit of turns for each entry of a loop, at most 10^9. `attempts` is that of attempts for each draw, and `rounds`
-/// that of rounds, each from 1 to 10^9; where there is none, a draw or a run takes as many as it needs. With `all_turns` the bounds
-/// hold for every greater limit of turns too: what ran out of turns has no row, and counts as lost.
-///
-/// What is lost in a round is at most a unit for each product, and at most six with a limit of attempts. Without a limit of rounds
-/// it is divided by what does not fail, so the bounds of a program that nearly always fails are wide. Two bounds are no further apart
-/// than what outcomes without a row have, but for some units; and these have no more than all rounds may lose (`few`).
-///
-/// `TooManyStates` comes only where some point of the program is reached with more than 65,536 states. Where rounds have no limit and no
-/// unit of a round passes, there are no bounds: `AllFailed` comes only where all units of a round fail, and so the whole round does, and
-/// `TooUnlikely` only where some unit was lost, so that a round may pass with a probability that is not seen. `OutOfMemory` comes where
-/// memory runs out.
-pub fn enclose(
+// The bounds of a program itself, before anything is forgotten.
+pub fn enclose_as_written(
     alloc: Global,
     p: &Checked,
     turns: u64,
@@ -115,7 +101,7 @@ pub fn enclose(
         (λ b. (n : ℕ) → IsFor all_turns turns n → MayEnd (source_of p.now) n attempts rounds → Enclose (source_of p.now) n attempts rounds b.rows b.other) }
     ensures close { IfOk result (λ b. AreClose (most_apart rounds) b.rows b.other) }
     ensures few { IfOk result (λ b. HaveLittle (source_of p.now) turns attempts rounds all_turns b.other) }
-    ensures refused { IfErr result (λ e. EncloseRefused e (source_of p.now) turns attempts rounds) }
+    ensures refused { IfErr result (λ e. RefusedAsWritten e (source_of p.now) turns attempts rounds) }
     ensures units { IfErr result (λ e. NonePass e (source_of p.now) turns attempts) }
 {
     p.is_kept();

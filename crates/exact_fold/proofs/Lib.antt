@@ -13,3 +13,4 @@ pub mod Arms
 pub mod MassLimits
 pub mod InTheLimit
 pub mod StringLimits
+pub mod SameLimits

@@ -2,3 +2,4 @@
 pub mod Settled
 pub mod Turning
 pub mod Rounds
+pub mod AsWritten

@@ -70,9 +70,9 @@ impl From<SettleError> for ExactError {
     ghost use Rattle.gcl_core.specs.meaning.Syntax.{SourceProgram};
     ghost use Rattle.std.specs.Prelude.{◌≡◌, true};
     ghost use Rattle.exact_fold.specs.Loops.{any_loops};
-    ghost use Rattle.exact_fold.specs.Refused.{WhyRefused};
+    ghost use Rattle.exact_fold.specs.inner.AsWritten.{RefusedAsWritten};
 
-    ghost from_gives = { λ _ e. (p : SourceProgram) → any_loops p.body ≡ true → WhyRefused p e };
+    ghost from_gives = { λ _ e. (p : SourceProgram) → any_loops p.body ≡ true → RefusedAsWritten p e };
 
     fn from(error: SettleError) -> Self {
         match error {
@@ -88,9 +88,10 @@ impl From<MassError> for ExactError {
     ghost use Rattle.gcl_core.specs.meaning.Checked.{IsChecked};
     ghost use Rattle.gcl_core.specs.meaning.Syntax.{SourceProgram};
     ghost use Rattle.mass_fold.specs.Refused.{MassRefused};
-    ghost use Rattle.exact_fold.specs.Refused.{HasNoLoop, WhyRefused};
+    ghost use Rattle.exact_fold.specs.Refused.{HasNoLoop};
+    ghost use Rattle.exact_fold.specs.inner.AsWritten.{RefusedAsWritten};
 
-    ghost from_gives = { λ f e. (p : SourceProgram) → IsChecked p → HasNoLoop p → MassRefused f p 1 None None → WhyRefused p e };
+    ghost from_gives = { λ f e. (p : SourceProgram) → IsChecked p → HasNoLoop p → MassRefused f p 1 None None → RefusedAsWritten p e };
 
     fn from(error: MassError) -> Self {
         match error {

@@ -2,8 +2,8 @@
 //! turn of the loop checks what was found.
 //!
 //! Proved: each row of `exact` is what the mass of its outcome rises to as turns grow, in lowest terms, outcomes ascending, and what
-//! runs for ever is what the mass of the limit of turns tends to (`limits`). These are the masses of what the program settles to,
-//! and what they leave of 1 (`masses`). Laws: no other rows are such limits, and they exclude that every round fails in the limit
+//! runs for ever is what the mass of the limit of turns tends to (`limits`). They are worked out of the forgetful program: the masses
+//! of what it settles to, and what they leave of 1 (`masses`). Laws: no other rows are such limits, and they exclude that every round fails in the limit
 //! (`exact_masses_are_told_by_their_limits`); at n turns each mass is at most its row and short of it by at most an n-th of a rate
 //! (`exact_masses_are_limits`); each row lies within the bounds of every limit of turns (`exact_masses_lie_within_bounds`); and the
 //! strings of bits on which runs end come to weigh what the rows say, as limits grow (`strings_tend_to_exact_masses`).
@@ -17,6 +17,7 @@ mod error;
 mod finding;
 mod laws;
 mod loops;
+mod masses;
 mod primes;
 mod program;
 mod residues;
@@ -30,4 +31,5 @@ pub use laws::{
     exact_masses_are_limits, exact_masses_are_told_by_their_limits, exact_masses_lie_within_bounds,
     strings_tend_to_exact_masses,
 };
-pub use program::{ExactMasses, exact};
+pub use masses::exact;
+pub use program::ExactMasses;

@@ -8,7 +8,8 @@ ghost use Rattle.gcl_core.specs.meaning.Views.{source_of};
 ghost use Rattle.exact_fold.specs.Exact.{IsExact};
 ghost use Rattle.exact_fold.specs.InTheLimit.{IsExactInTheLimit};
 ghost use Rattle.exact_fold.specs.Loops.{any_loops};
-ghost use Rattle.exact_fold.specs.Refused.{HasNoLoop, WhyRefused};
+ghost use Rattle.exact_fold.specs.Refused.{HasNoLoop};
+ghost use Rattle.exact_fold.specs.inner.AsWritten.{RefusedAsWritten};
 ghost use Rattle.exact_fold.specs.inner.Settled.{ProgramSettlesTo};
 ghost use Rattle.exact_fold.specs.inner.Rounds.{SumsTo, RoundOf, DividesTo};
 
@@ -126,7 +127,7 @@ fn settled(alloc: Global, p: &Checked) -> Result<ExactMasses, ExactError>
     requires { any_loops (source_of p.now).body ≡ true }
     ensures masses { IfOk result (λ e. IsExact (source_of p.now) e.rows e.endless) }
     ensures limits { IfOk result (λ e. IsExactInTheLimit (source_of p.now) e.rows e.endless) }
-    ensures refused { IfErr result (WhyRefused (source_of p.now)) }
+    ensures refused { IfErr result (RefusedAsWritten (source_of p.now)) }
 {
     p.is_kept();
     let round = limit_round(alloc, p)?;
@@ -142,7 +143,7 @@ fn at_once(alloc: Global, p: &Checked) -> Result<ExactMasses, ExactError>
     requires { HasNoLoop (source_of p.now) }
     ensures masses { IfOk result (λ e. IsExact (source_of p.now) e.rows e.endless) }
     ensures limits { IfOk result (λ e. IsExactInTheLimit (source_of p.now) e.rows e.endless) }
-    ensures refused { IfErr result (WhyRefused (source_of p.now)) }
+    ensures refused { IfErr result (RefusedAsWritten (source_of p.now)) }
 {
     p.is_kept();
     let rows = mass(alloc, p, 1, None, None)?;
@@ -152,16 +153,11 @@ fn at_once(alloc: Global, p: &Checked) -> Result<ExactMasses, ExactError>
     })
 }
 
-/// The mass of each outcome of a program in the limit of turns, and that with which it runs for ever.
-///
-/// A program without a loop is refused as `mass` refuses it at a limit of one turn: as too wide only where its common denominator
-/// is 2^128 or more, and for its states only where some point is reached with more than [`mass_fold::MOST_STATES`]. Of a program
-/// with a loop no clause says that it answers: a call that always refused such a program as too wide would keep this contract.
-/// What is tried is a table of programs, in the tests. `AllFailed` comes only where in the limit every round fails.
-pub fn exact(alloc: Global, p: &Checked) -> Result<ExactMasses, ExactError>
+/// The masses of a program itself, before anything is forgotten.
+pub fn exact_as_written(alloc: Global, p: &Checked) -> Result<ExactMasses, ExactError>
     ensures masses { IfOk result (λ e. IsExact (source_of p.now) e.rows e.endless) }
     ensures limits { IfOk result (λ e. IsExactInTheLimit (source_of p.now) e.rows e.endless) }
-    ensures refused { IfErr result (WhyRefused (source_of p.now)) }
+    ensures refused { IfErr result (RefusedAsWritten (source_of p.now)) }
 {
     if block_loops(&p.program().body) {
         settled(alloc, p)

@@ -1,12 +1,14 @@
 -- The chance of an outcome, from its row.
-use Rattle.std.proofs.Common.{◌≡◌, ℕ, zero, suc, ◌<◌, true, Option, Some, None, IfSome, IfNone, refl, arith}
+use Rattle.std.proofs.Common.{◌≡◌, ℕ, zero, suc, ◌<◌, true, Option, Some, None, IfSome, IfNone, refl, subst, arith}
 use Rattle.std.specs.List.{Contains}
 use Rattle.numbers.specs.Fraction.{Fraction}
 use Rattle.gcl_core.specs.declared.answers.Outcome.{Outcome}
 use Rattle.gcl_core.specs.meaning.Syntax.{SourceProgram}
 use Rattle.exact_fold.specs.Limits.{AreLimits}
 use Rattle.mass_fold.specs.Rows.{Rows, AreMasses}
-use Rattle.gcl_core.specs.meaning.Outcomes.{is_settled}
+use Rattle.gcl_core.specs.meaning.Outcomes.{is_settled, same_outcome}
+use Rattle.unlimited_law.specs.SettledMasses.{IsNear}
+use Rattle.forgetting.specs.SameMeaning.{SameMeaning}
 use Rattle.library_user.specs.Chance.{IsChance}
 use Rattle.library_user.specs.LimitChance.{IsLimitChance}
 
@@ -25,3 +27,8 @@ pub limit_found : (p : SourceProgram) (x : Outcome) (rows : Rows) (endless rate 
     → IfSome answer (λ f. Contains rows (x, f)) → IfNone answer ((f : Fraction) → Contains rows (x, f) → ⊥) → IsLimitChance p x answer
 limit_found p x rows endless rate (Some f) settled are found none = (rate, are.row x f found)
 limit_found p x rows endless rate None settled are found none = are.others x settled none
+
+-- programs that mean the same have the same chances
+pub same_chance : (p q : SourceProgram) → SameMeaning p q → (x : Outcome) (answer : Option Fraction) → IsLimitChance q x answer → IsLimitChance p x answer
+same_chance p q same x (Some f) h = (h.0, λ n some. subst (λ (m : Fraction). IsNear n h.0 m f) (same.masses n None None (same_outcome x)) (h.1 n some))
+same_chance p q same x None h = λ n some. subst (λ (m : Fraction). m.0 ≡ 0) (same.masses n None None (same_outcome x)) (h n some)

@@ -13,6 +13,7 @@ ghost use Rattle.library_user.specs.Chance.{IsChance};
 ghost use Rattle.library_user.specs.LimitChance.{IsLimitChance};
 
 use exact_fold::{ExactError, exact, exact_masses_are_limits};
+use forgetting::{forgetting_changes_no_meaning, forgetting_keeps_programs_checked};
 use gcl_core::{Checked, Limits, Outcome};
 use mass_fold::{FracRows, MassError, mass};
 use numbers::Frac;
@@ -56,6 +57,8 @@ pub fn limit_chance(alloc: Global, p: &Checked, x: Outcome) -> Result<Option<Fra
     ensures refused { IfErr result (WhyRefused (source_of p.now)) }
 {
     exact_masses_are_limits();
+    forgetting_changes_no_meaning();
+    forgetting_keeps_programs_checked();
     p.is_kept();
     let masses = exact(alloc, p)?;
     Ok(find(&masses.rows, x))
