@@ -31,4 +31,3 @@ pub fn exact(alloc: Global, p: &Checked) -> Result<ExactMasses, ExactError>
     let q = forgetful(alloc, p)?;
     exact_as_written(alloc, &q)
 }
-```

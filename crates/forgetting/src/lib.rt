@@ -4,11 +4,10 @@
 //! Proved, for every program, checked or not: the forgetful program reads the same bits to the same answer, faults and limits
 //! included, under all limits; its rounds, and all rounds together, give each outcome the same mass, as the same fraction
 //! (`forgetting_changes_no_meaning`); and its runs read as many bits on average (`forgetting_costs_nothing`). The forgetful
-//! program of a checked program is one (`forgetting_keeps_programs_checked`). `forgetful_body` gives exactly its body; names and
-//! result are those of the program. What is set to 0 is said by what matters (`specs/Liveness`) and what may differ from 0
-//! (`specs/Filling`).
+//! program of a checked program is one (`forgetting_keeps_programs_checked`), and `forgetful` gives exactly it. What is set to 0
+//! is said by what matters (`specs/Liveness`) and what may differ from 0 (`specs/Filling`).
 //!
-//! No command goes by way of it yet. No clause says that each variable whose value does not matter is 0 then, nor that states
+//! `enclose` and `exact` go by way of it. No clause says that each variable whose value does not matter is 0 then, nor that states
 //! become fewer: the order of statements stays, and a variable that is read late is kept till then. Callers have to know that the
 //! forgetful program has further statements: turns, draws and rounds are those of the program, but its text is longer.
 #![tactic(auto)]

@@ -156,7 +156,7 @@ mend: zar enclose is never too wide; zar exact may fit; or allow fewer turns, at
             (
                 " different states
 
-mend: zar enclose bounds what zar exact would print of a loop that counts; or allow fewer turns, beyond which its --all-turns and zar posterior still hold; or set what is read no more to 0; zar tally counts runs
+mend: zar enclose bounds what zar exact would print of a loop that counts; or allow fewer turns, beyond which its --all-turns and zar posterior still hold; or for zar mass set what is read no more to 0; zar tally counts runs
 ",
                 None,
             ),
