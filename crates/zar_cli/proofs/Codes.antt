@@ -13,7 +13,7 @@ use Rattle.zar_cli.specs.declared.command.Command.{Command}
 use Rattle.zar_cli.specs.declared.command.Command.TheVariants.{Checked, Show, Gen, Fast, Roll, Help}
 use Rattle.zar_cli.specs.declared.command.Source.TheVariants.{File, Stream}
 use Rattle.zar_cli.specs.declared.command.Work.{Work}
-use Rattle.zar_cli.specs.declared.command.Work.TheVariants.{Sample, Mass, Cost, Posterior, Exact, Enclose, Audit, Tally, Runs, Hunt, Check, Code}
+use Rattle.zar_cli.specs.declared.command.Work.TheVariants.{Sample, Mass, Cost, Posterior, Exact, Enclose, Audit, Tally, Runs, Hunt, Check, Code, Forgetful}
 use Rattle.zar_cli.specs.declared.said.Said.{Said}
 use Rattle.zar_cli.specs.declared.said.Said.TheVariants.{Answered, Rolled}
 use Rattle.zar_cli.specs.Costs as costs
@@ -149,6 +149,7 @@ module _ (e : Refusal) where
   work_codes file p (Hunt range limits want) is = let same = is.2 in absurd (cc)
   work_codes file p Check is = of_said _ is
   work_codes file p Code is = of_said _ is
+  work_codes file p Forgetful is = of_said _ is
 
   pub output_codes : (file : CallWord → Option (List ℕ)) (c : Command) → IsOutput file c (Err e) → IsRefusal e
   output_codes file (Checked program work) is = of_spelled (file program) (λ p. IsWorkedOut file p work) is (λ p there. work_codes file p work there)

@@ -12,7 +12,7 @@ use Rattle.zar_cli.specs.declared.command.Command.TheVariants.{Checked, Show, Ge
 use Rattle.zar_cli.specs.declared.command.Source.{Source}
 use Rattle.zar_cli.specs.declared.command.Source.TheVariants.{File, Stream}
 use Rattle.zar_cli.specs.declared.command.Work.{Work}
-use Rattle.zar_cli.specs.declared.command.Work.TheVariants.{Sample, Mass, Cost, Posterior, Exact, Enclose, Audit, Tally, Runs, Hunt, Check, Code}
+use Rattle.zar_cli.specs.declared.command.Work.TheVariants.{Sample, Mass, Cost, Posterior, Exact, Enclose, Audit, Tally, Runs, Hunt, Check, Code, Forgetful}
 use Rattle.zar_io.specs.declared.stream_bits.TheConstants.{MOST_BUDGET}
 use Rattle.audit_walk.specs.declared.auditing.TheConstants.{MOST_DEPTH}
 
@@ -34,6 +34,7 @@ WorkHasRange (Runs range limits) = InRange limits × IsRange range × IsWorkers 
 WorkHasRange (Hunt range limits want) = InRange limits × IsRange range × IsWorkers range.workers
 WorkHasRange Check = Unit {0}
 WorkHasRange Code = Unit {0}
+WorkHasRange Forgetful = Unit {0}
 
 abbrev pub HasRange : Command → Type 0
 HasRange (Checked program work) = WorkHasRange work

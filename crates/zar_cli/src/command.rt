@@ -111,6 +111,8 @@ pub enum Work {
     Check,
     /// The code that samples it.
     Code,
+    /// The canonical text of its forgetful program.
+    Forgetful,
 }
 
 /// A command, with the files that it reads and its numbers.

@@ -78,6 +78,11 @@ const ALL_TURNS: Piece = (
     None,
 );
 
+const FORGETFUL: Piece = (
+    "--forgetful   with x := 0; where x is read no more, as exact and enclose take the program\n",
+    None,
+);
+
 // Every command takes it.
 const EXPLAIN: Part = &[(
     "--explain     what a refusal means, behind its line; also by ZAR_EXPLAIN=1\n",
@@ -303,7 +308,7 @@ pub const SHOW: Page = (
     print the canonical text of the program
 
 ",
-    &[EXPLAIN],
+    &[&[FORGETFUL], EXPLAIN],
 );
 
 pub const CODE: Page = (

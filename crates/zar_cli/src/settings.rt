@@ -83,6 +83,9 @@ pub const WANT: Setting = ("--want", Form::Wanted);
 
 pub const ALL_TURNS: Setting = ("--all-turns", Form::Alone);
 
+/// The forgetful program is shown.
+pub const FORGETFUL: Setting = ("--forgetful", Form::Alone);
+
 /// What a refusal means is written behind its line.
 pub const EXPLAIN: Setting = ("--explain", Form::Alone);
 
@@ -96,6 +99,8 @@ const ONE_LIMIT: &[Setting] = &[TURNS, EXPLAIN];
 const NO_OTHER: &[Setting] = &[EXPLAIN];
 
 const ENCLOSE: &[Setting] = &[TURNS, ATTEMPTS, ROUNDS, ALL_TURNS, EXPLAIN];
+
+const SHOW: &[Setting] = &[FORGETFUL, EXPLAIN];
 
 const AUDIT: &[Setting] = &[DEPTH, TURNS, ATTEMPTS, ROUNDS, EXPLAIN];
 
@@ -133,7 +138,7 @@ pub const VERBS: [(&str, Row); 16] = [
         (Verb::Hunt, Form::Name, HUNT, &[SEED, FROM, TO, WANT]),
     ),
     ("check", (Verb::Check, Form::Name, NO_OTHER, &[])),
-    ("show", (Verb::Show, Form::Name, NO_OTHER, &[])),
+    ("show", (Verb::Show, Form::Name, SHOW, &[])),
     ("code", (Verb::Code, Form::Name, NO_OTHER, &[])),
     ("gen", (Verb::Gen, GENERATED, NO_OTHER, &[])),
     ("fast", (Verb::Fast, LABELS, ROLL, &[])),

@@ -4,7 +4,7 @@ ghost use Rattle.std.specs.Prelude.{◌-◌, ◌^◌, ◌<◌, Ok};
 ghost use Rattle.gcl_core.specs.meaning.LimitRange.{InRange};
 ghost use Rattle.gcl_core.specs.meaning.Views.{source_of};
 ghost use Rattle.gcl_core.specs.text.StatementCounts.{count_all};
-ghost use Rattle.zar_cli.specs.declared.command.Work.TheVariants.{Runs, Check, Code};
+ghost use Rattle.zar_cli.specs.declared.command.Work.TheVariants.{Runs, Check, Code, Forgetful};
 ghost use Rattle.stream_runs.specs.Ranges.{IsRange, IsWorkers};
 ghost use Rattle.zar_cli.specs.Range.{WorkHasRange};
 ghost use Rattle.zar_cli.specs.inner.Works.{Works, WorksAlone};
@@ -19,8 +19,9 @@ use crate::posterior::bounds_of;
 use crate::said::Said;
 use crate::sampling::run_of;
 use crate::weighing::{bits_of, masses_of};
+use forgetting::forgetful;
 use gcl_core::{Checked, Limits, count_statements};
-use gcl_print::Text;
+use gcl_print::{Text, print};
 use report_text::Refusal;
 use sampler_code::list;
 use sampler_run::compile;
@@ -45,6 +46,15 @@ fn code_of(alloc: Global, program: &Checked) -> Result<Said, Refusal>
 {
     let sampler = compile(alloc, program)?;
     let text = list(alloc, sampler.code(), &program.program().names)?;
+    Ok(Said::Shown(Text::of(text)))
+}
+
+// The canonical text of the forgetful program of a program.
+fn forgetful_text_of(alloc: Global, program: &Checked) -> Result<Said, Refusal>
+    ensures { WorksAlone Forgetful (source_of program.now) result }
+{
+    let forgetful = forgetful(alloc, program)?;
+    let text = print(alloc, forgetful.program())?;
     Ok(Said::Shown(Text::of(text)))
 }
 
@@ -91,5 +101,6 @@ pub fn work_on<R: Threads + Sync, F: Files, G: Gate>(
         }
         Work::Check => Ok(size_of(&program)),
         Work::Code => code_of(alloc, &program),
+        Work::Forgetful => forgetful_text_of(alloc, &program),
     }
 }

@@ -37,3 +37,6 @@ returns-in-Check g c = search (rules, works_alone)
 
 pub returns-in-Code : goal.returns-in-Code
 returns-in-Code g c = search (rules, works_alone)
+
+pub returns-in-Forgetful : goal.returns-in-Forgetful
+returns-in-Forgetful g c = search (rules, works_alone)
