@@ -1,0 +1,3 @@
+mod GivenBytes
+mod Alike
+pub mod OneByOne
