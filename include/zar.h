@@ -2,7 +2,7 @@
  *
  * A call takes a program's text or weights, and keeps nothing between calls: there is no handle and nothing to free. Threads may call at a
  * time, each on arrays of its own. No call ends the process, starts a thread, or opens a file. Its memory is that of malloc, all of
- * which it gives back. The command `enclose` of the program has no function here.
+ * which it gives back.
  *
  * What a caller must keep, since no call can test it:
  *   - no pointer is null, not even one to an array of length 0, which may be any other; an empty vector or view of C++ may have a null one;
@@ -45,7 +45,8 @@ typedef struct {
 static inline const char *zar_reason(uint8_t code) {
     static const char *const words[] = {
         "", "text too long", "bad byte", "number too wide", "name too long", "unexpected", "too deep", "kind mismatch", "unknown name",
-        "too many names", "zero denominator", "weight above one", "weight too fine", "fraction too wide", "too many states", "every round fails"};
+        "too many names", "zero denominator", "weight above one", "weight too fine", "fraction too wide", "too many states", "every round fails",
+        "", "too unlikely to enclose"};
     return code < sizeof words / sizeof words[0] ? words[code] : "";
 }
 
@@ -64,6 +65,10 @@ zar_said zar_show(const uint8_t *text, size_t text_length, uint8_t *lines, size_
 
 /* The lines of `zar code`: the listing of the code that samples the program. */
 zar_said zar_code(const uint8_t *text, size_t text_length, uint8_t *lines, size_t capacity);
+
+/* What is found wrong with a text that a call refused with this code at this place: a line, as the program shows it on a terminal, or
+ * none where there is nothing to say beyond the words of the code. Its place in the text, which may be another, is told beside it. */
+zar_said zar_explain(const uint8_t *text, size_t text_length, uint8_t code, uint32_t place, uint8_t *lines, size_t capacity);
 
 /* The limits of runs, and how many bits of a stream a run may read. */
 typedef struct {
@@ -102,6 +107,28 @@ static inline const char *zar_ending(uint8_t end) {
 zar_said zar_draws(const uint8_t *text, size_t text_length, uint64_t seed, uint64_t first, const zar_limits *limits,
                    int64_t *values, size_t values_length, uint8_t *ends, size_t ends_length);
 
+/* How a run ended: its value, or 0 where it has none; how many bits it read; and which end it is. */
+typedef struct {
+    int64_t value;
+    uint64_t read;
+    uint8_t end;
+} zar_ran;
+
+/* A run on bits of the caller: it writes how the run on the bits of the bytes ends, each byte's most significant bit first, which is
+ * what
+ *     zar sample TEXT --bits FILE --turns .. --attempts .. --rounds ..
+ * prints for a file of these bytes. Where the end is ZAR_MORE_BITS it needs more than there are: with the same bytes before others it
+ * goes on as it began. The limits have the ranges of `zar_limits`. */
+zar_said zar_run(const uint8_t *text, size_t text_length, const uint8_t *bits, size_t bits_length, uint64_t turns, uint64_t attempts,
+                 uint64_t rounds, zar_ran *ran);
+
+/* Draws in a row: at place k of both arrays it writes how the run ends on what the k runs before it left of the first `budget` bits of
+ * the stream, all told in `ends` and `values` as by zar_draws, and in `read` how many bits all of them read. So the draws at two places
+ * are independent on fair bits, and they cost less than those on streams of their own. The budget is that of all runs together; a run
+ * that needs more leaves nothing, and ZAR_MORE_BITS stands from there on. The arrays have one length. */
+zar_said zar_draws_in_a_row(const uint8_t *text, size_t text_length, uint64_t seed, uint64_t stream, const zar_limits *limits,
+                            int64_t *values, size_t values_length, uint8_t *ends, size_t ends_length, uint64_t *read);
+
 /* How many bits of a stream there are for a roll, and how many of them it may read. */
 typedef struct {
     uint64_t budget; /* 0 to 1,000,000,000 */
@@ -124,6 +151,11 @@ zar_said zar_mass(const uint8_t *text, size_t text_length, uint64_t turns, uint6
 
 /* The lines of `zar posterior`: bounds of the masses at every greater limit of turns. `turns` and codes are those of zar_mass. */
 zar_said zar_posterior(const uint8_t *text, size_t text_length, uint64_t turns, uint8_t *lines, size_t capacity);
+
+/* The lines of `zar enclose`: two fractions between which the mass of each outcome lies, however wide that is; with `all_turns` they
+ * hold at every greater limit of turns, too. The limits are those of zar_mass; the codes of ZAR_MASS_REFUSED are 14, 15 and 17. */
+zar_said zar_enclose(const uint8_t *text, size_t text_length, uint64_t turns, uint64_t attempts, uint64_t rounds, bool all_turns,
+                     uint8_t *lines, size_t capacity);
 
 /* The lines of `zar exact`: each outcome and its exact mass where nothing is limited, and what never ends. The codes of
  * ZAR_MASS_REFUSED are those of zar_mass. */

@@ -1,6 +1,6 @@
 /* calls FILE SEED COUNT: all calls of the library on the text of a file, by C and by C++. It prints the line of the version, the
- * lines of show, code, mass, exact, posterior and cost, or status and code, and the outcomes of the first streams of the seed in the words of the program;
- * and those of rolls by the weights 3, 2 and 1 on these streams. With no words it prints the version of the header, and the words of
+ * lines of show, code, mass, exact, posterior, enclose and cost, or status and code, and the outcomes of the first streams of the seed in the words of the program;
+ * those of draws in a row on the stream 0, and how many bits they read; and those of rolls by the weights 3, 2 and 1 on these streams. With no words it prints the version of the header, and the words of
  * each code. */
 #include "zar.h"
 #include <inttypes.h>
@@ -18,17 +18,25 @@ static void tell(zar_said said) {
         fwrite(lines, 1, (size_t)said.length, stdout);
 }
 
-static void draw(uint64_t seed, size_t count) {
+/* Draws on streams of their own, or in a row on one. */
+static void draw(uint64_t seed, size_t count, bool in_a_row) {
     const zar_limits limits = {65536, 1000, 1000, 1000};
     int64_t *values = (int64_t *)malloc(count * sizeof *values);
     uint8_t *ends = (uint8_t *)malloc(count);
-    if (!values || !ends || zar_draws(text, text_length, seed, 0, &limits, values, count, ends, count).status != ZAR_DONE)
+    uint64_t read = 0;
+    if (!values || !ends)
+        exit(2);
+    zar_said said = in_a_row ? zar_draws_in_a_row(text, text_length, seed, 0, &limits, values, count, ends, count, &read)
+                             : zar_draws(text, text_length, seed, 0, &limits, values, count, ends, count);
+    if (said.status != ZAR_DONE)
         exit(2);
     for (size_t k = 0; k < count; k++)
         if (ends[k] == ZAR_VALUE)
             printf("value %" PRId64 "\n", values[k]);
         else
             printf("%s\n", zar_ending(ends[k]));
+    if (in_a_row)
+        printf("bits %" PRIu64 "\n", read);
     free(values);
     free(ends);
 }
@@ -73,8 +81,10 @@ int main(int count, char **words) {
     tell(zar_mass(text, text_length, 9, 3, 2, lines, sizeof lines));
     tell(zar_exact(text, text_length, lines, sizeof lines));
     tell(zar_posterior(text, text_length, 9, lines, sizeof lines));
+    tell(zar_enclose(text, text_length, 9, 3, 2, true, lines, sizeof lines));
     tell(zar_cost(text, text_length, 9, 3, 2, lines, sizeof lines));
-    draw(strtoull(words[2], NULL, 10), (size_t)strtoull(words[3], NULL, 10));
+    draw(strtoull(words[2], NULL, 10), (size_t)strtoull(words[3], NULL, 10), false);
+    draw(strtoull(words[2], NULL, 10), (size_t)strtoull(words[3], NULL, 10), true);
     roll(strtoull(words[2], NULL, 10), (size_t)strtoull(words[3], NULL, 10));
     return 0;
 }

@@ -1,7 +1,10 @@
 """Calls of the library beside the commands of the program."""
+import contextlib
 import ctypes
 import importlib.machinery
 import importlib.util
+import io
+import pathlib
 import random
 import re
 import sys
@@ -94,6 +97,7 @@ def line_calls(library, text, rng):
     """Calls about a text that write lines, each with the words of the command that it stands for."""
     turns, attempts, rounds = rng.choice([0, 1, 3, 10, 30]), rng.choice([0, 1, 2, 5]), rng.choice([0, 1, 2, 3])
     limits = [word for name, n in (("attempts", attempts), ("rounds", rounds)) if n for word in (f"--{name}", str(n))]
+    all_turns = rng.random() < 0.5
     all_limits = ["--turns", str(turns), "--attempts", str(attempts or 1), "--rounds", str(rounds or 1)]
     given = (text, len(text))
     return [
@@ -102,6 +106,7 @@ def line_calls(library, text, rng):
         (library.zar_exact, given, ["exact", "p.gcl"]),
         (library.zar_mass, (*given, turns, attempts, rounds), ["mass", "p.gcl", "--turns", str(turns), *limits]),
         (library.zar_posterior, (*given, turns), ["posterior", "p.gcl", "--turns", str(turns)]),
+        (library.zar_enclose, (*given, turns, attempts, rounds, all_turns), ["enclose", "p.gcl", "--turns", str(turns), *limits, *["--all-turns"] * all_turns]),
         (library.zar_cost, (*given, turns, attempts or 1, rounds or 1), ["cost", "p.gcl", *all_limits]),
     ]
 
@@ -142,6 +147,72 @@ def rolls_are_told_alike(zar, library, rng):
     return []
 
 
+def stream_words():
+    """The function of the documents that gives the words of a block of a stream."""
+    names = {}
+    with contextlib.redirect_stdout(io.StringIO()):
+        exec(re.search(r"```python\n(.*?)```", (source.ROOT / "docs" / "formats.md").read_text(encoding="utf-8"), re.DOTALL)[1], names)
+    return names["words"]
+
+
+WORDS = stream_words()
+
+
+def sampled(zar, folder, path, bits, limits):
+    """How a run on bits ends, as `sample` says it of a file of them, and how many it reads. Of a last byte that they do not fill 0 is
+    the rest, and what reads on in that needs more bits than there are."""
+    padded = bits + "0" * (-len(bits) % 8)
+    pathlib.Path(folder, "b.bin").write_bytes(bytes(int(padded[k : k + 8], 2) for k in range(0, len(padded), 8)))
+    said = calling.call(zar, folder, ["sample", path, "--bits", "b.bin", *limits]).out.decode()
+    outcome, read = re.fullmatch(r"(more bits|.*?)(?: bits)? (\d+)\n", said).groups()
+    return ("more bits", len(bits)) if int(read) > len(bits) or outcome == "more bits" else (outcome, int(read))
+
+
+def row_of(zar, path, seed, stream, budget, count, limits=()):
+    """How runs in a row on the first bits of a stream end, each on what `sample` of those before it left; and how many bits all read."""
+    left, outcomes = "".join(f"{word:032b}" for block in range(budget // 512 + 1) for word in WORDS(seed, stream, block))[:budget], []
+    with calling.folder_of({}) as folder:
+        for _ in range(count):
+            # Few of many bits suffice, and are tried first.
+            outcome, used = sampled(zar, folder, path, left[:800], limits)
+            if outcome == "more bits":
+                outcome, used = sampled(zar, folder, path, left, limits)
+            outcomes.append(outcome)
+            left = left[used:]
+    return outcomes, budget - len(left)
+
+
+def ran(library, said, ran):
+    """What a run of the library was told to end with, in the words of the program."""
+    return (f"value {ran.value}" if ran.end == 0 else ENDS[ran.end], ran.read) if said.status == 0 and (ran.end == 0 or ran.value == 0) else None
+
+
+def bits_are_told_alike(zar, library, folder, text, rng, checked):
+    """What differs between runs on bits at random, and in a row on a stream, and what the program says of these bits."""
+    turns, attempts, rounds = rng.randrange(9), rng.randrange(1, 5), rng.randrange(1, 5)
+    limits = ["--turns", str(turns), "--attempts", str(attempts), "--rounds", str(rounds)]
+    bits = rng.randbytes(rng.choice([0, 1, 2, 9, 17, 200]))
+    one = library.Ran(GUARD, GUARD, GUARD)
+    said = library.zar_run(text, len(text), bits, len(bits), turns, attempts, rounds, one)
+    if told(said) != checked or not silent(said):
+        yield f"zar_run {told(said)}, check {checked}"
+    seed, stream, row, read = rng.randrange(2**64), rng.choice([0, 17, 2**64 - 1]), Draws(9), ctypes.c_uint64(GUARD)
+    budget = rng.choice([0, 5, 33, 700])
+    row_said = library.zar_draws_in_a_row(text, len(text), seed, stream, library.Limits(budget, turns, attempts, rounds), *row.places(), ctypes.addressof(read))
+    if told(row_said) != checked or not silent(row_said):
+        yield f"zar_draws_in_a_row {told(row_said)}, check {checked}"
+    if said.status:
+        if (one.value, one.read, one.end, read.value) != (GUARD,) * 4 or not row.untouched():
+            yield "zar_run or zar_draws_in_a_row wrote beside a refusal"
+        return
+    wanted = sampled(zar, folder, "p.gcl", "".join(f"{byte:08b}" for byte in bits), limits)
+    if ran(library, said, one) != wanted:
+        yield f"zar_run on {bits.hex()} {limits}: {one.value} {one.end} {one.read}, not {wanted}"
+    wanted = row_of(zar, str(pathlib.Path(folder, "p.gcl")), seed, stream, budget, row.count, limits)
+    if (row.outcomes(), read.value) != wanted:
+        yield f"zar_draws_in_a_row of {seed}, {stream}, {budget}, {limits}: {row.outcomes()} by {read.value} bits, not {wanted}"
+
+
 def text_is_told_alike(zar, library, text, rng):
     """What differs between the library and the program about one text."""
     wrong = []
@@ -164,6 +235,7 @@ def text_is_told_alike(zar, library, text, rng):
             wrong.append("zar_draws wrote beside a refusal")
         if not said.status and draws.outcomes() != outcomes_of(zar, folder, seed, first, count, limits):
             wrong.append(f"zar_draws from {first} of {seed}: {draws.outcomes()}")
+        wrong += bits_are_told_alike(zar, library, folder, text, rng, checked)
     return [f"{it}, of {text[:400]!r}" for it in wrong]
 
 

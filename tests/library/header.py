@@ -9,10 +9,15 @@ EXPORTS = source.ROOT / "crates" / "zar_c" / "src"
 ENDS = [source.ROOT / "crates" / crate / "src" / "ends.rt" for crate in ("stream_runs", "stream_rolls")]
 
 # The types of fields and of numbers, in the sources and in C.
-NUMBERS = {"u8": "uint8_t", "u32": "uint32_t", "u64": "uint64_t", "bool": "bool"}
+NUMBERS = {"u8": "uint8_t", "u32": "uint32_t", "u64": "uint64_t", "i64": "int64_t", "bool": "bool"}
 # The types of parameters in the sources, and those in C that stand for them. An array of lines is as long as its capacity.
 PARAMETERS = {
+    "u8": ["uint8_t {}"],
+    "u32": ["uint32_t {}"],
     "u64": ["uint64_t {}"],
+    "bool": ["bool {}"],
+    "&mut u64": ["uint64_t *{}"],
+    "&mut ZarRan": ["zar_ran *{}"],
     "&ZarLimits": ["const zar_limits *{}"],
     "&ZarRollLimits": ["const zar_roll_limits *{}"],
     "&[u64]": ["const uint64_t *{}", "size_t {}_length"],
@@ -21,7 +26,7 @@ PARAMETERS = {
     "&mut [u8]": ["uint8_t *{}", "size_t {}_length"],
     "&mut [i64]": ["int64_t *{}", "size_t {}_length"],
 }
-STRUCTURES = {"ZarSaid": "zar_said", "ZarLimits": "zar_limits", "ZarRollLimits": "zar_roll_limits"}
+STRUCTURES = {"ZarSaid": "zar_said", "ZarLimits": "zar_limits", "ZarRan": "zar_ran", "ZarRollLimits": "zar_roll_limits"}
 
 
 def parts(text):
@@ -69,16 +74,16 @@ class Library:
 
     def __init__(self, path):
         functions, structures, self.constants = of_header()
-        numbers = {"uint8_t": ctypes.c_uint8, "uint32_t": ctypes.c_uint32, "uint64_t": ctypes.c_uint64, "bool": ctypes.c_bool}
+        numbers = {f"{kind}_t": getattr(ctypes, f"c_{kind}") for kind in ("uint8", "uint32", "uint64", "int64")} | {"bool": ctypes.c_bool}
         made = {
             name: type(name, (ctypes.Structure,), {"_fields_": [(field.split()[1], numbers[field.split()[0]]) for field in fields]})
             for name, fields in structures.items()
         }
-        self.Said, self.Limits, self.RollLimits = (made[name] for name in STRUCTURES.values())
+        self.Said, self.Limits, self.Ran, self.RollLimits = (made[name] for name in STRUCTURES.values())
         kinds = {
-            "uint64_t ": ctypes.c_uint64, "size_t ": ctypes.c_size_t, "const uint8_t *": ctypes.c_char_p, "uint8_t *": ctypes.c_void_p,
+            "uint8_t ": ctypes.c_uint8, "uint32_t ": ctypes.c_uint32, "uint64_t ": ctypes.c_uint64, "bool ": ctypes.c_bool, "size_t ": ctypes.c_size_t, "const uint8_t *": ctypes.c_char_p, "uint8_t *": ctypes.c_void_p,
             "int64_t *": ctypes.c_void_p, "const uint64_t *": ctypes.c_void_p, "uint64_t *": ctypes.c_void_p,
-            "const zar_limits *": ctypes.POINTER(self.Limits), "const zar_roll_limits *": ctypes.POINTER(self.RollLimits),
+            "zar_ran *": ctypes.POINTER(self.Ran), "const zar_limits *": ctypes.POINTER(self.Limits), "const zar_roll_limits *": ctypes.POINTER(self.RollLimits),
         }
         library = ctypes.CDLL(str(path))
         for name, parameters in functions.items():

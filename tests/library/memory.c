@@ -34,12 +34,15 @@ void free(void *block) {
 
 static const char TEXT[] = "n := 0; go := 1; while go = 1 { choice 1/3 { n := (n + 1) % 3; } or { go := 0; } } "
                            "choose { 1: { x ~ uniform(6); } | 2: { x := 1; } } if x < 2 { observe n < 2; } return n + x;";
-static const char *const NAMES[] = {"zar_check", "zar_show", "zar_code", "zar_mass", "zar_posterior", "zar_cost", "zar_exact", "zar_draws", "zar_roll"};
+static const char *const NAMES[] = {"zar_check", "zar_show",  "zar_code", "zar_mass",           "zar_posterior", "zar_cost",   "zar_exact",
+                                    "zar_draws", "zar_run", "zar_draws_in_a_row", "zar_enclose",   "zar_explain", "zar_roll"};
 enum { CALLS = sizeof NAMES / sizeof NAMES[0], PLACES = 50 };
 static struct {
     int64_t values[PLACES];
     uint64_t labels[PLACES];
     uint8_t ends[PLACES], lines[4096];
+    zar_ran ran;
+    uint64_t read;
 } arrays, before;
 
 static zar_said call(int which) {
@@ -60,6 +63,10 @@ static zar_said call(int which) {
     case 5: said = zar_cost(text, length, 4, 3, 2, arrays.lines, sizeof arrays.lines); break;
     case 6: said = zar_exact(text, length, arrays.lines, sizeof arrays.lines); break;
     case 7: said = zar_draws(text, length, 1, 0, &limits, arrays.values, PLACES, arrays.ends, PLACES); break;
+    case 8: said = zar_run(text, length, (const uint8_t *)"\x1b\xad", 2, 4, 3, 3, &arrays.ran); break;
+    case 9: said = zar_draws_in_a_row(text, length, 1, 0, &limits, arrays.values, PLACES, arrays.ends, PLACES, &arrays.read); break;
+    case 10: said = zar_enclose(text, length, 4, 3, 2, false, arrays.lines, sizeof arrays.lines); break;
+    case 11: said = zar_explain((const uint8_t *)"face := 1; return fase;", 23, 8, 11, arrays.lines, sizeof arrays.lines); break;
     default: said = zar_roll(weights, 3, 1, 0, &roll_limits, arrays.labels, PLACES, arrays.ends, PLACES);
     }
     counting = 0;

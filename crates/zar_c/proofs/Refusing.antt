@@ -3,6 +3,9 @@ use Rattle.std.proofs.Common.{◌≡◌, ℕ, List, Option, inl, inr, refl, sym,
 use Rattle.cost_fold.specs.Refused.{CostRefused}
 use Rattle.cost_fold.specs.declared.error.CostError.{CostError}
 use Rattle.cost_fold.specs.declared.error.CostError.TheVariants as cost
+use Rattle.enclose_fold.specs.Refused.{EncloseRefused}
+use Rattle.enclose_fold.specs.declared.error.EncloseError.{EncloseError}
+use Rattle.enclose_fold.specs.declared.error.EncloseError.TheVariants as enclose
 use Rattle.exact_fold.specs.Refused.{WhyRefused}
 use Rattle.exact_fold.specs.declared.error.ExactError.{ExactError}
 use Rattle.exact_fold.specs.declared.error.ExactError.TheVariants as exact
@@ -16,7 +19,7 @@ use Rattle.gcl_text.specs.declared.refusing.TextRefusal.TheVariants.{Coded, OutO
 use Rattle.mass_fold.specs.Refused.{MassRefused}
 use Rattle.mass_fold.specs.declared.error.MassError.{MassError}
 use Rattle.mass_fold.specs.declared.error.MassError.TheVariants as mass
-use Rattle.zar_c.specs.Masses.{IsMassRefused, IsCostRefused, IsExactRefused, mass_code, cost_code, exact_code}
+use Rattle.zar_c.specs.Masses.{IsMassRefused, IsCostRefused, IsEncloseRefused, IsExactRefused, mass_code, cost_code, enclose_code, exact_code}
 use Rattle.zar_c.specs.Said.{place_of, bare, mass_refused}
 use Rattle.zar_c.specs.declared.said.ZarSaid.{ZarSaid}
 use Rattle.zar_c.specs.declared.statuses.TheConstants.{OUT_OF_MEMORY, MASS_REFUSED}
@@ -102,6 +105,28 @@ module _ (text : List ℕ) (one : HasOneReading text) (q : SourceProgram) (spell
         reason = cost.TooManyStates;
         coded = refl;
         refused = subst (λ r. CostRefused cost.TooManyStates r l) (one.one_program q p spelled spells) why;
+      })
+
+  pub by_enclose : (turns : ℕ) (attempts rounds : Option ℕ) (e : EncloseError) → IsReason (enclose_code e) s → EncloseRefused e q turns attempts rounds
+      → IsRefusal (Spells text) (SpellsNone text) (λ p. IsEncloseRefused p turns attempts rounds) s
+  by_enclose turns attempts rounds enclose.OutOfMemory is why = by_memory _ _ _ s is
+  by_enclose turns attempts rounds enclose.TooManyStates is why =
+      by_reason _ _ _ s q spelled _ is (λ p spells. record {
+        reason = enclose.TooManyStates;
+        coded = refl;
+        refused = subst (λ r. EncloseRefused enclose.TooManyStates r turns attempts rounds) (one.one_program q p spelled spells) why;
+      })
+  by_enclose turns attempts rounds enclose.AllFailed is why =
+      by_reason _ _ _ s q spelled _ is (λ p spells. record {
+        reason = enclose.AllFailed;
+        coded = refl;
+        refused = subst (λ r. EncloseRefused enclose.AllFailed r turns attempts rounds) (one.one_program q p spelled spells) why;
+      })
+  by_enclose turns attempts rounds enclose.TooUnlikely is why =
+      by_reason _ _ _ s q spelled _ is (λ p spells. record {
+        reason = enclose.TooUnlikely;
+        coded = refl;
+        refused = subst (λ r. EncloseRefused enclose.TooUnlikely r turns attempts rounds) (one.one_program q p spelled spells) why;
       })
 
   pub by_exact : (e : ExactError) → IsReason (exact_code e) s → WhyRefused q e → IsRefusal (Spells text) (SpellsNone text) IsExactRefused s

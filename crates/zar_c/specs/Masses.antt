@@ -1,13 +1,16 @@
--- What a call for masses, limited or not, for bounds or for expected bits is asked, and why it is refused.
+-- What a call for masses, limited or not, for bounds, for what encloses masses or for expected bits is asked, and why it is refused.
 use Rattle.std.specs.Prelude.{◌≡◌, ℕ, ◌==◌, ◌≤◌, Option, Some, None, if◌then◌else◌}
 use Rattle.cost_fold.specs.Refused.{CostRefused}
 use Rattle.cost_fold.specs.declared.error.CostError.{CostError}
 use Rattle.cost_fold.specs.declared.error.CostError.TheVariants as cost
+use Rattle.enclose_fold.specs.Refused.{EncloseRefused}
+use Rattle.enclose_fold.specs.declared.error.EncloseError.{EncloseError}
+use Rattle.enclose_fold.specs.declared.error.EncloseError.TheVariants as enclose
 use Rattle.exact_fold.specs.Refused.{WhyRefused}
 use Rattle.exact_fold.specs.declared.error.ExactError.{ExactError}
 use Rattle.exact_fold.specs.declared.error.ExactError.TheVariants as exact
 use Rattle.gcl_core.specs.declared.answers.Limits.{Limits}
-use Rattle.gcl_core.specs.declared.refusals.TheConstants.{TOO_WIDE, TOO_MANY_STATES, ALL_FAILED}
+use Rattle.gcl_core.specs.declared.refusals.TheConstants.{TOO_WIDE, TOO_MANY_STATES, ALL_FAILED, TOO_UNLIKELY}
 use Rattle.gcl_core.specs.declared.rules.TheConstants.{MOST_LIMIT}
 use Rattle.gcl_core.specs.meaning.Syntax.{SourceProgram}
 use Rattle.mass_fold.specs.Refused.{MassRefused}
@@ -40,6 +43,12 @@ cost_code cost.TooWide = Some TOO_WIDE
 cost_code cost.TooManyStates = Some TOO_MANY_STATES
 cost_code cost.OutOfMemory = None
 
+abbrev pub enclose_code : EncloseError → Option ℕ
+enclose_code enclose.TooManyStates = Some TOO_MANY_STATES
+enclose_code enclose.AllFailed = Some ALL_FAILED
+enclose_code enclose.TooUnlikely = Some TOO_UNLIKELY
+enclose_code enclose.OutOfMemory = None
+
 abbrev pub exact_code : ExactError → Option ℕ
 exact_code exact.TooWide = Some TOO_WIDE
 exact_code exact.TooManyStates = Some TOO_MANY_STATES
@@ -56,6 +65,11 @@ pub record IsCostRefused (p : SourceProgram) (l : Limits) (code : ℕ) : Type 0 
   pub reason : CostError
   pub coded : cost_code reason ≡ Some code
   pub refused : CostRefused reason p l
+
+pub record IsEncloseRefused (p : SourceProgram) (turns : ℕ) (attempts rounds : Option ℕ) (code : ℕ) : Type 0 where
+  pub reason : EncloseError
+  pub coded : enclose_code reason ≡ Some code
+  pub refused : EncloseRefused reason p turns attempts rounds
 
 pub record IsExactRefused (p : SourceProgram) (code : ℕ) : Type 0 where
   pub reason : ExactError

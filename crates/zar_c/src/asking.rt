@@ -2,7 +2,7 @@
 
 ghost use Rattle.std.specs.Prelude.{◌≡◌, ◌↔◌, IsTrue};
 ghost use Rattle.gcl_core.specs.meaning.LimitRange.{InRange};
-ghost use Rattle.zar_c.specs.Draws.{CanDraw, limits_of};
+ghost use Rattle.zar_c.specs.Draws.{CanDraw, CanDrawInARow, limits_of};
 ghost use Rattle.zar_c.specs.Places.{CanFill};
 ghost use Rattle.zar_c.specs.Rolls.{CanRoll};
 
@@ -64,6 +64,13 @@ pub(crate) fn can_draw(limits: &ZarLimits, first: u64, values: usize, ends: usiz
     ensures { IsTrue result ↔ CanDraw limits.now first values ends }
 {
     is_in_range(&run_limits(limits)) && can_fill(limits.budget, first, values, ends)
+}
+
+// Whether draws in a row can be made: the limits and the budget are in range, and the arrays are alike.
+pub(crate) fn can_draw_in_a_row(limits: &ZarLimits, values: usize, ends: usize) -> bool
+    ensures { IsTrue result ↔ CanDrawInARow limits.now values ends }
+{
+    is_in_range(&run_limits(limits)) && limits.budget <= MOST_BUDGET && ends == values
 }
 
 // Whether rolls can be made: a roll may have the weights, the flips are in range, and the places can be filled.

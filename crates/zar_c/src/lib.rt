@@ -3,19 +3,23 @@
 //!
 //! Proved: with status 0, `zar_draws` and `zar_roll` have filled the places of both arrays, all of them, with the ends and values
 //! of the runs or rolls on the streams that were asked for (`drawn`, `rolled`), and with any other status the arrays stay as they
-//! were (`untouched`). The calls for lines, as `zar_mass`, tell exactly the lines of their command or why there are none, and
+//! were (`untouched`). So has `zar_draws_in_a_row` with runs in a row on one stream, and `zar_run` tells the run on the bits that it
+//! was given (`ran`). The calls for lines, as `zar_mass`, tell exactly the lines of their command or why there are none, and
 //! write them where they fit (`ensures`). The status is 1 only where the text spells no program, and 6 only where the cause of
 //! the code holds, but for the codes 13 and 14 of `zar_exact`, which tell none.
 //!
-//! No clause says that memory or the stack suffices, or how long a call takes. What no function can test is asked of its caller,
-//! in `zar.h`: that no pointer is null, that each array has the length that is told, that the arrays of a call do not overlap,
-//! and that no other thread writes them. That `zar.h` says what the exports take is tested, not proved.
+//! No clause says that memory or the stack suffices, how long a call takes, or what `zar_explain` finds. What no function can test
+//! is asked of its caller, in `zar.h`: that no pointer is null, that each array has the length that is told, that the arrays of a
+//! call do not overlap, and that no other thread writes them. That `zar.h` says what the exports take is tested, not proved.
 #![tactic(auto)]
 
 mod asking;
 mod drawing;
+mod explaining;
 mod masses;
 mod rolling;
+mod rows;
+mod running;
 mod said;
 mod shown;
 mod statuses;
@@ -26,8 +30,11 @@ mod weighing;
 
 pub use asking::{ZarLimits, ZarRollLimits};
 pub use drawing::zar_draws;
-pub use masses::{zar_cost, zar_exact, zar_mass, zar_posterior};
+pub use explaining::zar_explain;
+pub use masses::{zar_cost, zar_enclose, zar_exact, zar_mass, zar_posterior};
 pub use rolling::zar_roll;
+pub use rows::zar_draws_in_a_row;
+pub use running::{ZarRan, zar_run};
 pub use said::ZarSaid;
 pub use statuses::{DONE, MASS_REFUSED, NUMBERS_REFUSED, OUT_OF_MEMORY, TEXT_REFUSED};
 pub use texts::{zar_check, zar_code, zar_show, zar_version};

@@ -1,4 +1,4 @@
-// The lines of masses, of bounds and of expected bits of the program of a text.
+// The lines of masses, of bounds, of what encloses masses and of expected bits of the program of a text.
 
 ghost use Rattle.std.specs.Prelude.{◌≤◌, None};
 ghost use Rattle.gcl_core.specs.declared.answers.Limits.{Limits};
@@ -7,15 +7,16 @@ ghost use Rattle.gcl_core.specs.meaning.LimitRange.{InRange};
 ghost use Rattle.gcl_core.specs.text.Texts.{Spells, SpellsNone};
 ghost use Rattle.mass_lines.specs.BitLines.{IsBitLine};
 ghost use Rattle.mass_lines.specs.BoundLines.{AreBoundLines};
+ghost use Rattle.mass_lines.specs.EnclosedLines.{AreEnclosedLines};
 ghost use Rattle.mass_lines.specs.ExactLines.{AreExactLines};
 ghost use Rattle.mass_lines.specs.MassLines.{AreMassLines};
 ghost use Rattle.zar_c.specs.Answered.{IsAnswer, NoNumbers};
-ghost use Rattle.zar_c.specs.Masses.{CanWeigh, IsCostRefused, IsExactRefused, IsMassRefused, limits_by, limit_of};
+ghost use Rattle.zar_c.specs.Masses.{CanWeigh, IsCostRefused, IsEncloseRefused, IsExactRefused, IsMassRefused, limits_by, limit_of};
 
 use crate::asking::is_in_range;
 use crate::said::{ZarSaid, said, written};
 use crate::statuses::NUMBERS_REFUSED;
-use crate::weighing::{bits_of, bounds_of, can_weigh, exact_of, limit, masses_of};
+use crate::weighing::{bits_of, bounds_of, can_weigh, enclosed_of, exact_of, limit, masses_of};
 use gcl_core::Limits;
 use gcl_core::rules::MOST_LIMIT;
 use std::alloc::Global;
@@ -56,6 +57,37 @@ pub extern "C" fn zar_posterior(alloc: Global, text: &[u8], turns: u64, lines: &
         return said(NUMBERS_REFUSED);
     }
     match bounds_of(alloc, text, turns) {
+        Ok(told) => written(told.bytes(), lines),
+        Err(said) => said,
+    }
+}
+
+/// The same of fractions between which the program's masses lie; with `all_turns`, at every greater limit of turns too.
+#[unsafe(no_mangle)]
+pub extern "C" fn zar_enclose(
+    alloc: Global,
+    text: &[u8],
+    turns: u64,
+    attempts: u64,
+    rounds: u64,
+    all_turns: bool,
+    lines: &mut [u8],
+) -> ZarSaid
+    ensures { IsAnswer (Spells text.now) (SpellsNone text.now) (CanWeigh turns attempts rounds)
+        (λ p. AreEnclosedLines p turns (limit_of attempts) (limit_of rounds) all_turns)
+        (λ p. IsEncloseRefused p turns (limit_of attempts) (limit_of rounds)) lines.old lines.new result }
+{
+    if !can_weigh(turns, attempts, rounds) {
+        return said(NUMBERS_REFUSED);
+    }
+    match enclosed_of(
+        alloc,
+        text,
+        turns,
+        limit(attempts),
+        limit(rounds),
+        all_turns,
+    ) {
         Ok(told) => written(told.bytes(), lines),
         Err(said) => said,
     }

@@ -1,8 +1,9 @@
 // Calls of the exports, with answers that the documents have.
 
 use crate::{
-    DONE, NUMBERS_REFUSED, TEXT_REFUSED, ZarLimits, ZarRollLimits, zar_check, zar_code, zar_cost,
-    zar_draws, zar_mass, zar_posterior, zar_roll, zar_show, zar_version,
+    DONE, MASS_REFUSED, NUMBERS_REFUSED, TEXT_REFUSED, ZarLimits, ZarRan, ZarRollLimits, zar_check,
+    zar_code, zar_cost, zar_draws, zar_draws_in_a_row, zar_enclose, zar_explain, zar_mass,
+    zar_posterior, zar_roll, zar_run, zar_show, zar_version,
 };
 use std::test::Fail;
 
@@ -52,6 +53,100 @@ fn rolls(rt: HostRuntime) -> Result<(), Fail> {
     assert_eq!(rt; said.status, DONE);
     assert_eq!(rt; labels, [1]);
     assert_eq!(rt; ends, [0]);
+    Ok(())
+}
+
+// The bits 101 are the number 5.
+#[test]
+fn runs_on_bits(rt: HostRuntime) -> Result<(), Fail> {
+    let mut ran = ZarRan {
+        value: 7,
+        read: 7,
+        end: 0,
+    };
+    let said = zar_run(rt.alloc(), DIE, &[0b1010_0000], 0, 9, 1, &mut ran);
+    assert_eq!(rt; said.status, DONE);
+    assert_eq!(rt; ran.value, 6);
+    assert_eq!(rt; ran.read, 3);
+    let said = zar_run(rt.alloc(), DIE, &[], 0, 9, 1, &mut ran);
+    assert_eq!(rt; said.status, DONE);
+    assert_eq!(rt; ran.end, 7);
+    assert_eq!(rt; ran.read, 0);
+    let said = zar_run(rt.alloc(), DIE, &[0], 0, 0, 1, &mut ran);
+    assert_eq!(rt; said.status, NUMBERS_REFUSED);
+    assert_eq!(rt; ran.end, 7);
+    Ok(())
+}
+
+// The stream 0 of the seed 0 begins with 10101101 (RFC 8439, appendix A.1, test vector 1).
+#[test]
+fn draws_in_a_row(rt: HostRuntime) -> Result<(), Fail> {
+    let coin = b"x ~ uniform(2); return x;";
+    let mut values = [7i64; 8];
+    let mut ends = [7u8; 8];
+    let mut read = 7;
+    let said = zar_draws_in_a_row(
+        rt.alloc(),
+        coin,
+        0,
+        0,
+        &USUAL,
+        &mut values,
+        &mut ends,
+        &mut read,
+    );
+    assert_eq!(rt; said.status, DONE);
+    assert_eq!(rt; values, [1, 0, 1, 0, 1, 1, 0, 1]);
+    assert_eq!(rt; ends, [0; 8]);
+    assert_eq!(rt; read, 8);
+    let few = ZarLimits { budget: 5, ..USUAL };
+    let said = zar_draws_in_a_row(
+        rt.alloc(),
+        coin,
+        0,
+        0,
+        &few,
+        &mut values,
+        &mut ends,
+        &mut read,
+    );
+    assert_eq!(rt; said.status, DONE);
+    assert_eq!(rt; values, [1, 0, 1, 0, 1, 0, 0, 0]);
+    assert_eq!(rt; ends, [0, 0, 0, 0, 0, 7, 7, 7]);
+    assert_eq!(rt; read, 5);
+    Ok(())
+}
+
+#[test]
+fn encloses(rt: HostRuntime) -> Result<(), Fail> {
+    let mut lines = [0u8; 99];
+    let said = zar_enclose(rt.alloc(), b"return 1;", 30, 0, 0, false, &mut lines);
+    assert_eq!(rt; said.status, DONE);
+    assert_eq!(rt; lines[..24], *b"value 1 from 1/1 to 1/1\n".as_slice());
+    let said = zar_enclose(
+        rt.alloc(),
+        b"observe false; return 1;",
+        30,
+        0,
+        0,
+        false,
+        &mut lines,
+    );
+    assert_eq!(rt; said.status, MASS_REFUSED);
+    assert_eq!(rt; said.code, 15);
+    Ok(())
+}
+
+#[test]
+fn explains(rt: HostRuntime) -> Result<(), Fail> {
+    let mut lines = [0u8; 99];
+    let said = zar_explain(rt.alloc(), b"face := 1; return fase;", 8, 11, &mut lines);
+    assert_eq!(rt; said.status, DONE);
+    assert_eq!(rt; said.place, 18);
+    let told = b"'fase' is never set; did you mean 'face'?\n";
+    assert_eq!(rt; lines[..told.len()], *told.as_slice());
+    let said = zar_explain(rt.alloc(), b"", 13, 0, &mut lines);
+    assert_eq!(rt; said.length, 0);
     Ok(())
 }
 

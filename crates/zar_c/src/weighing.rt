@@ -8,14 +8,16 @@ ghost use Rattle.gcl_core.specs.text.Texts.{Spells, SpellsNone};
 ghost use Rattle.mass_fold.specs.Refused.{IsLimit};
 ghost use Rattle.mass_lines.specs.BitLines.{IsBitLine};
 ghost use Rattle.mass_lines.specs.BoundLines.{AreBoundLines};
+ghost use Rattle.mass_lines.specs.EnclosedLines.{AreEnclosedLines};
 ghost use Rattle.mass_lines.specs.ExactLines.{AreExactLines};
 ghost use Rattle.mass_lines.specs.MassLines.{AreMassLines};
-ghost use Rattle.zar_c.specs.Masses.{CanWeigh, IsCostRefused, IsExactRefused, IsMassRefused, cost_code, exact_code, limit_of, mass_code};
+ghost use Rattle.zar_c.specs.Masses.{CanWeigh, IsCostRefused, IsEncloseRefused, IsExactRefused, IsMassRefused, cost_code, enclose_code, exact_code, limit_of, mass_code};
 ghost use Rattle.zar_c.specs.inner.Refusing.{IsReason, IsRefusal};
 
 use crate::said::{ZarSaid, reason, refused, said};
 use crate::statuses::OUT_OF_MEMORY;
 use cost_fold::CostError;
+use enclose_fold::EncloseError;
 use exact_fold::ExactError;
 use gcl_core::rules::MOST_LIMIT;
 use gcl_core::{Limits, refusals};
@@ -23,7 +25,7 @@ use gcl_parse::one_reading;
 use gcl_print::Text;
 use gcl_text::check_text;
 use mass_fold::MassError;
-use mass_lines::{bits_text, bounds_text, exact_text, masses_text};
+use mass_lines::{bits_text, bounds_text, enclosed_text, exact_text, masses_text};
 use std::alloc::Global;
 
 // Whether masses can be worked out under these limits.
@@ -60,6 +62,17 @@ fn cost_refused(error: CostError) -> ZarSaid
         CostError::TooWide => reason(refusals::TOO_WIDE),
         CostError::TooManyStates => reason(refusals::TOO_MANY_STATES),
         CostError::OutOfMemory => said(OUT_OF_MEMORY),
+    }
+}
+
+fn enclose_refused(error: EncloseError) -> ZarSaid
+    ensures { IsReason (enclose_code error) result }
+{
+    match error {
+        EncloseError::TooManyStates => reason(refusals::TOO_MANY_STATES),
+        EncloseError::AllFailed => reason(refusals::ALL_FAILED),
+        EncloseError::TooUnlikely => reason(refusals::TOO_UNLIKELY),
+        EncloseError::OutOfMemory => said(OUT_OF_MEMORY),
     }
 }
 
@@ -116,6 +129,35 @@ pub(crate) fn bounds_of(alloc: Global, text: &[u8], turns: u64) -> Result<Text, 
     match bounds_text(alloc, &program, turns) {
         Ok(lines) => Ok(lines),
         Err(error) => Err(mass_refused(error)),
+    }
+}
+
+// The lines of the fractions between which its masses lie.
+pub(crate) fn enclosed_of(
+    alloc: Global,
+    text: &[u8],
+    turns: u64,
+    attempts: Option<u64>,
+    rounds: Option<u64>,
+    all_turns: bool,
+) -> Result<Text, ZarSaid>
+    requires turns { turns ≤ MOST_LIMIT }
+    requires attempts { IfSome attempts IsLimit }
+    requires rounds { IfSome rounds IsLimit }
+    ensures lines { IfOk result (λ lines. (p : SourceProgram) → Spells text.now p
+        → AreEnclosedLines p turns attempts rounds all_turns lines) }
+    ensures there { IfOk result (λ _. (p : SourceProgram) × Spells text.now p) }
+    ensures refused { IfErr result
+        (IsRefusal (Spells text.now) (SpellsNone text.now) (λ p. IsEncloseRefused p turns attempts rounds)) }
+{
+    one_reading();
+    let program = match check_text(alloc, text) {
+        Ok(program) => program,
+        Err(refusal) => return Err(refused(refusal)),
+    };
+    match enclosed_text(alloc, &program, turns, attempts, rounds, all_turns) {
+        Ok(lines) => Ok(lines),
+        Err(error) => Err(enclose_refused(error)),
     }
 }
 

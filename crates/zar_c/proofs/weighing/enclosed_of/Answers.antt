@@ -1,0 +1,18 @@
+use Rattle.std.proofs.Common.{subst}
+use Rattle.gcl_core.specs.meaning.Syntax.{SourceProgram}
+use Rattle.gcl_core.specs.meaning.Views.{source_of}
+use Rattle.mass_lines.specs.EnclosedLines.{AreEnclosedLines}
+use Rattle.zar_c.proofs.Refusing.{by_enclose}
+use Rattle.zar_c.proofs.weighing.enclosed_of.Goals as goal
+
+pub returns-in-Ok-enclosed_text-clause-lines : goal.returns-in-Ok-enclosed_text-clause-lines
+returns-in-Ok-enclosed_text-clause-lines c = λ p spells.
+    let one = c.one_reading.ensures.checked c.args.text.now in
+    let same = one.one_program (source_of c.in-Ok.program) p c.in-Ok.ensures.spelled spells in
+    subst (λ (r : SourceProgram). AreEnclosedLines r c.args.turns c.args.attempts c.args.rounds c.args.all_turns c.in-Ok-enclosed_text.lines) same c.in-Ok-enclosed_text.ensures.lines
+
+pub returns-clause-refused : goal.returns-clause-refused
+returns-clause-refused c =
+    let text = c.args.text.now in
+    by_enclose text (c.one_reading.ensures.checked text) (source_of c.in-Ok.program) c.in-Ok.ensures.spelled c.enclose_refused.result c.args.turns c.args.attempts c.args.rounds c.in-Err-enclosed_text.error
+    c.enclose_refused.ensures c.in-Err-enclosed_text.ensures.refused
