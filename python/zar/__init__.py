@@ -20,9 +20,10 @@ from .masses import Masses
 from .printed import Bounds, Fault, Limit, Outcome, Rest
 from .programs import Program
 from .refusals import NoValue, Refused
-from .streams import Runs
+from .samples import Sample
+from .streams import Ends, Row, Runs
 
-__all__ = ["Bounds", "Die", "Fault", "Limit", "Masses", "NoValue", "Outcome", "Program", "Refused", "Rest", "Runs", "version"]
+__all__ = ["Bounds", "Die", "Ends", "Fault", "Limit", "Masses", "NoValue", "Outcome", "Program", "Refused", "Rest", "Row", "Runs", "Sample", "version"]
 
 
 def version() -> str:

@@ -29,6 +29,12 @@ class Limits(ctypes.Structure):
     _fields_ = [(name, NUMBER) for name in ("budget", "turns", "attempts", "rounds")]
 
 
+class Ran(ctypes.Structure):
+    """`zar_ran`."""
+
+    _fields_ = [("value", ctypes.c_int64), ("read", NUMBER), ("end", ctypes.c_uint8)]
+
+
 class RollLimits(ctypes.Structure):
     """`zar_roll_limits`."""
 
@@ -56,8 +62,12 @@ CALLS = {
     "zar_mass": (*TEXT, NUMBER, NUMBER, NUMBER, *ARRAY),
     "zar_posterior": (*TEXT, NUMBER, *ARRAY),
     "zar_exact": (*TEXT, *ARRAY),
+    "zar_enclose": (*TEXT, NUMBER, NUMBER, NUMBER, ctypes.c_bool, *ARRAY),
+    "zar_explain": (*TEXT, ctypes.c_uint8, ctypes.c_uint32, *ARRAY),
     "zar_cost": (*TEXT, NUMBER, NUMBER, NUMBER, *ARRAY),
     "zar_draws": (*TEXT, NUMBER, NUMBER, ctypes.POINTER(Limits), *ARRAY, *ARRAY),
+    "zar_run": (*TEXT, *TEXT, NUMBER, NUMBER, NUMBER, ctypes.POINTER(Ran)),
+    "zar_draws_in_a_row": (*TEXT, NUMBER, NUMBER, ctypes.POINTER(Limits), *ARRAY, *ARRAY, ctypes.POINTER(NUMBER)),
     "zar_roll": (*ARRAY, NUMBER, NUMBER, ctypes.POINTER(RollLimits), *ARRAY, *ARRAY),
 }
 
@@ -113,6 +123,13 @@ def check(text: bytes) -> Said:
     return said
 
 
+def explained(text: bytes, code: int, place: int) -> tuple[str, int] | None:
+    """What is found wrong with a text that is refused, and where, if it is found."""
+    room = (ctypes.c_char * 4096)()
+    said = taken(loaded().zar_explain(text, len(text), code, place, room, len(room)))
+    return (room.raw[: said.length].decode().rstrip("\n"), said.place) if said.has_place and said.length <= len(room) else None
+
+
 def lines(call: str, *text: bytes, **numbers: int) -> str:
     """The lines that a call writes, of a text where it takes one."""
     given = [it for one in text for it in (one, len(one))] + [whole(name, it) for name, it in numbers.items()]
@@ -141,15 +158,31 @@ class Places:
 def draws(text: bytes, seed: int, first: int, limits: Limits, places: Places) -> None:
     """Draws into places."""
     said = loaded().zar_draws(text, len(text), seed, first, limits, *places.pairs())
-    taken(said, **numbers(seed, first, places, limits))
+    taken(said, **numbers(limits, seed=seed, first=first, count=places.count))
+
+
+def run(text: bytes, bits: bytes, **limits: int) -> Ran:
+    """How a run on the bits of some bytes ends."""
+    ran = Ran()
+    said = loaded().zar_run(text, len(text), bits, len(bits), *(whole(name, it) for name, it in limits.items()), ran)
+    taken(said, **limits)
+    return ran
+
+
+def draws_in_a_row(text: bytes, seed: int, stream: int, limits: Limits, places: Places) -> int:
+    """Draws in a row into places, and how many bits they read."""
+    read = NUMBER()
+    said = loaded().zar_draws_in_a_row(text, len(text), seed, stream, limits, *places.pairs(), read)
+    taken(said, **numbers(limits, seed=seed, stream=stream, count=places.count))
+    return read.value
 
 
 def rolls(weights: array.array[int], seed: int, first: int, limits: RollLimits, places: Places) -> None:
     """Rolls by weights, of which there is one, into places. A label is below 2^32, so it is the same number with a sign."""
     said = loaded().zar_roll(*weights.buffer_info(), seed, first, limits, *places.pairs())
-    taken(said, **numbers(seed, first, places, limits))
+    taken(said, **numbers(limits, seed=seed, first=first, count=places.count))
 
 
-def numbers(seed: int, first: int, places: Places, limits: Limits | RollLimits) -> dict[str, int]:
+def numbers(limits: Limits | RollLimits, **given: int) -> dict[str, int]:
     """The numbers of a call, each with its name."""
-    return {"seed": seed, "first": first, "count": places.count, **{name: getattr(limits, name) for name, _ in limits._fields_}}
+    return {**given, **{name: getattr(limits, name) for name, _ in limits._fields_}}

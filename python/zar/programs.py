@@ -14,13 +14,16 @@ from . import library, printed, shown
 from .masses import Masses
 from .printed import Bounds, Outcome
 from .refusals import REASONS, Refused
-from .streams import Runs, Streams, streams
+from .samples import Bits, Sample, sample
+from .streams import Row, Runs, Streams, row, streams
 
 Text = typing.Union[str, bytes]
 Path = typing.Union[str, os.PathLike[str]]
 NAME = re.compile(r"[A-Za-z_][A-Za-z0-9_]*", re.ASCII)
 # The limits of a run, where none are given, and the turns of a loop that are weighed.
 BUDGET, TURNS, ATTEMPTS, ROUNDS = 65536, 1000, 1000, 1000
+# The bits of a stream that runs in a row may read together.
+ROW_BUDGET = 10**9
 WEIGHED_TURNS = 30
 
 
@@ -98,6 +101,17 @@ class Program:
         """
         return printed.bounds(library.lines("zar_posterior", self._text, turns=turns))
 
+    def enclose(
+        self, *, turns: int = WEIGHED_TURNS, attempts: int | None = None, rounds: int | None = None, all_turns: bool = False
+    ) -> dict[Outcome, Bounds]:
+        """Two fractions between which the probability of each outcome lies, however wide that is, and of Rest.OTHER, all others.
+
+        The limits: `turns` 30 of each entry of a loop; no limit of `attempts` and `rounds`. With `all_turns` they hold at every greater limit
+        of turns, too. Refused with E14, E15 or E17.
+        """
+        limits = {"attempts": or_none("attempts", attempts), "rounds": or_none("rounds", rounds)}
+        return printed.bounds(library.lines("zar_enclose", self._text, turns=turns, **limits, all_turns=bool(all_turns)))
+
     def cost(self, *, turns: int = WEIGHED_TURNS, attempts: int = 2, rounds: int = 1) -> Fraction:
         """How many bits a run reads on average under these limits.
 
@@ -105,6 +119,33 @@ class Program:
         Refused with E13 or E14 as `mass`.
         """
         return printed.bits(library.lines("zar_cost", self._text, turns=turns, attempts=attempts, rounds=rounds))
+
+    def sample(
+        self, bits: Bits | None = None, *, budget: int = BUDGET, turns: int = TURNS, attempts: int = ATTEMPTS, rounds: int = ROUNDS
+    ) -> Sample:
+        """One run: its outcome, and how many bits it read.
+
+        `bits` are bytes, each with its most significant bit first, or a function that gives as many bytes as it is asked for, as
+        `random.Random(3).randbytes` or `numpy.random.default_rng(3).bytes`. Where none are given they are the system's, by os.urandom.
+        Where bytes do not suffice the outcome is Rest.MORE_BITS.
+
+        The limits: `budget` 65536 bits, more of which no function is asked for, `turns` 1000 of each entry of a loop, `attempts` 1000 of
+        each draw, `rounds` 1000.
+        """
+        return sample(self._text, bits, budget, turns=turns, attempts=attempts, rounds=rounds)
+
+    def in_a_row(
+        self, count: int, *, seed: int | None = None, stream: int = 0,
+        budget: int = ROW_BUDGET, turns: int = TURNS, attempts: int = ATTEMPTS, rounds: int = ROUNDS,
+    ) -> Row:
+        """How runs in a row on a stream of the seed end, each on the bits that those before it left; faster than a stream for each.
+
+        Where no seed is given it is one of the system, which stands in the `seed` of the answer. The limits: `budget` 1000000000 bits of all
+        runs together, `turns` 1000 of each entry of a loop, `attempts` 1000 of each draw, `rounds` 1000.
+        """
+        own, stream = seeded(seed), library.whole("stream", stream)
+        limits = library.limits(budget=budget, turns=turns, attempts=attempts, rounds=rounds)
+        return row(lambda places: library.draws_in_a_row(self._text, own, stream, limits, places), own, stream, count)
 
     def runs(
         self, count: int, *, seed: int, first: int = 0, threads: int = 1,
@@ -138,6 +179,16 @@ class Program:
         """
         return self._streams(count, seed, first, budget, turns, attempts, rounds).tally(threads)
 
+    def hunt(
+        self, outcome: Outcome, count: int, *, seed: int, first: int = 0, threads: int = 1,
+        budget: int = BUDGET, turns: int = TURNS, attempts: int = ATTEMPTS, rounds: int = ROUNDS,
+    ) -> int | None:
+        """The first of these streams whose run ends in the outcome, or None where none does.
+
+        The limits of a run: `budget` 65536 bits, `turns` 1000 of each entry of a loop, `attempts` 1000 of each draw, `rounds` 1000.
+        """
+        return self._streams(count, seed, first, budget, turns, attempts, rounds).hunt(outcome, threads)
+
     def _streams(self, count: int, seed: int, first: int, budget: int, turns: int, attempts: int, rounds: int) -> Streams:
         seed, limits = library.whole("seed", seed), library.limits(budget=budget, turns=turns, attempts=attempts, rounds=rounds)
         return streams(lambda start, places: library.draws(self._text, seed, start, limits, places), first, count)
@@ -163,12 +214,18 @@ def assignment(name: str, value: int) -> str:
 def refusal(code: int, place: int | None, before: bytes, own: bytes) -> ValueError:
     """A refusal with its place in the text without the parameters, or, where that lies in them, of the parameter."""
     if place is None or place >= len(before):
-        why = Refused(code, own, None if place is None else place - len(before))
+        offset = None if place is None else place - len(before)
+        why = Refused(code, own, offset, None if offset is None else library.explained(own, code, offset))
         if own.endswith(b".gcl"):
             why.add_note("this was taken for a text; a file is given as path=")
         return why
     name = before[:place].decode().rpartition("\n")[2] or before[place:].decode().partition(" ")[0]
     return ValueError(f"{name.partition(' ')[0]} is no name of a parameter: {REASONS[code]}")
+
+
+def seeded(seed: int | None) -> int:
+    """The seed, or one of the system."""
+    return int.from_bytes(os.urandom(8), "big") if seed is None else library.whole("seed", seed)
 
 
 def or_none(name: str, limit: int | None) -> int:

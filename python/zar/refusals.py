@@ -24,6 +24,7 @@ REASONS = {
     13: "fraction too wide",
     14: "too many states",
     15: "every round fails",
+    17: "too unlikely to enclose",
 }
 
 
@@ -31,20 +32,23 @@ class Refused(ValueError):
     """A text is no program, or a program has no masses that can be given.
 
     `code` is that of the refusal, as "E5", and `reason` its words. Where it has a place in the text, `offset` is that in bytes from 0
-    on, `line` and `column` are those in characters from 1 on, and `excerpt` is the line around it with a mark under the place; else all are None.
+    on, `line` and `column` are those in characters from 1 on, and `excerpt` is the line around it with a mark under the place. Where the
+    library finds what is wrong, `hint` says it, and the mark stands under the place that it speaks of. What there is not is None.
     """
 
-    def __init__(self, code: int, text: bytes = b"", offset: int | None = None) -> None:
-        self._given = code, text, offset
+    def __init__(self, code: int, text: bytes = b"", offset: int | None = None, found: tuple[str, int] | None = None) -> None:
+        self._given = code, text, offset, found
         self.code, self.reason, self.offset = f"E{code}", REASONS[code], offset
+        self.hint = found[0] if found else None
         self.line: int | None = None
         self.column: int | None = None
         self.excerpt: str | None = None
-        told = f"{self.code} {self.reason}"
+        told = [f"{self.code} {self.reason}"]
         if offset is not None:
-            self.line, self.column, self.excerpt = placed(text, offset)
-            told = f"{told}, line {self.line}, column {self.column}\n{self.excerpt}"
-        super().__init__(told)
+            self.line, self.column, _ = placed(text, offset)
+            self.excerpt = placed(text, found[1] if found else offset)[2]
+            told = [f"{told[0]}, line {self.line}, column {self.column}", self.excerpt]
+        super().__init__("\n".join([*told, *([f"  {self.hint}"] if self.hint else [])]))
 
     def __reduce__(self) -> Reduced:
         return type(self), self._given, self.__dict__

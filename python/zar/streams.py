@@ -28,16 +28,15 @@ NUMBERS = "<i8" if sys.byteorder == "little" else ">i8"
 
 
 @dataclasses.dataclass(frozen=True, repr=False)
-class Runs(collections.abc.Sequence[Outcome]):
-    """How runs ended: the sequence of their outcomes, in the order of their streams.
+class Ends(collections.abc.Sequence[Outcome]):
+    """How runs ended: the sequence of their outcomes.
 
-    `values` is an array of 64-bit numbers, 0 where a run has no value. `ends` has a byte for each run, 0 for a value. `streams` has the
-    numbers of the streams. numpy.asarray takes the values without a copy where each run has one, and else the outcomes, as objects.
+    `values` is an array of 64-bit numbers, 0 where a run has no value. `ends` has a byte for each run, 0 for a value. numpy.asarray
+    takes the values without a copy where each run has one, and else the outcomes, as objects.
     """
 
     values: array.array[int]
     ends: bytearray
-    streams: range
 
     def __len__(self) -> int:
         return len(self.ends)
@@ -46,12 +45,15 @@ class Runs(collections.abc.Sequence[Outcome]):
     def __getitem__(self, place: int) -> Outcome: ...
 
     @typing.overload
-    def __getitem__(self, place: slice) -> Runs: ...
+    def __getitem__(self, place: slice) -> Ends: ...
 
-    def __getitem__(self, place: int | slice) -> Outcome | Runs:
+    def __getitem__(self, place: int | slice) -> Outcome | Ends:
         if isinstance(place, slice):
-            return Runs(self.values[place], self.ends[place], self.streams[place])
+            return self._part(place)
         return ENDS[self.ends[place]] if self.ends[place] else self.values[place]
+
+    def _part(self, place: slice) -> Ends:
+        return Ends(self.values[place], self.ends[place])
 
     def __iter__(self) -> typing.Iterator[Outcome]:
         return (ENDS[end] if end else value for value, end in zip(self.values, self.ends))
@@ -77,6 +79,46 @@ class Runs(collections.abc.Sequence[Outcome]):
     def tally(self) -> collections.Counter[Outcome]:
         """How many runs ended in each outcome."""
         return collections.Counter(self.values if self.all_values else self)
+
+
+@dataclasses.dataclass(frozen=True, repr=False)
+class Runs(Ends):
+    """How runs ended, in the order of their streams, of which `streams` has the numbers; with what Ends have."""
+
+    streams: range
+
+    @typing.overload
+    def __getitem__(self, place: int) -> Outcome: ...
+
+    @typing.overload
+    def __getitem__(self, place: slice) -> Runs: ...
+
+    def __getitem__(self, place: int | slice) -> Outcome | Ends:
+        return super().__getitem__(place)
+
+    def _part(self, place: slice) -> Runs:
+        return Runs(self.values[place], self.ends[place], self.streams[place])
+
+
+@dataclasses.dataclass(frozen=True, repr=False)
+class Row(Ends):
+    """How runs in a row on a stream of a seed ended, each on the bits that those before it left, and how many `bits` all of them read;
+    with what Ends have."""
+
+    seed: int
+    stream: int
+    bits: int
+
+
+def row(draw: typing.Callable[[library.Places], int], seed: int, stream: int, count: int) -> Row:
+    """So many runs in a row, by a call that draws into places and says how many bits it read."""
+    values, ends = array.array("q", [0]) * library.whole("count", count), bytearray(count)
+    bits = 0
+    if count:  # an empty array has no address
+        held = (ctypes.c_ubyte * count).from_buffer(ends)
+        bits = draw(library.Places(values.buffer_info()[0], ctypes.addressof(held), count))
+        del held
+    return Row(values, ends, seed, stream, bits)
 
 
 @dataclasses.dataclass(frozen=True)
@@ -118,12 +160,25 @@ class Streams:
         """How many of the runs end in each outcome, with the memory of a block for each thread."""
 
         def counted(part: range) -> collections.Counter[Outcome]:
-            return dataclasses.replace(self, first=self.first + part.start, count=len(part)).run(1).tally()
+            return self._of(part).run(1).tally()
 
         whole: collections.Counter[Outcome] = collections.Counter()
         for part in side_by_side(counted, self._parts(), threads):
             whole.update(part)
         return whole
+
+    def hunt(self, wanted: Outcome, threads: int) -> int | None:
+        """The first of the streams whose run ends so, if there is one."""
+
+        def sought(part: range) -> int | None:
+            runs = self._of(part).run(1)
+            return next((stream for stream, outcome in zip(runs.streams, runs) if outcome == wanted), None)
+
+        found = side_by_side(sought, self._parts(), threads)
+        return next((stream for stream in found if stream is not None), None)
+
+    def _of(self, part: range) -> Streams:
+        return dataclasses.replace(self, first=self.first + part.start, count=len(part))
 
     def _parts(self) -> typing.Iterator[range]:
         return (range(start, min(start + self.block, self.count)) for start in range(0, self.count, self.block))
