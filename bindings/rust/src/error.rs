@@ -34,7 +34,7 @@ pub struct Refused {
 }
 
 /// The words of the codes, from 1 on.
-const REASONS: [&str; 15] = [
+const REASONS: [&str; 17] = [
     "text too long",
     "bad byte",
     "number too wide",
@@ -50,6 +50,8 @@ const REASONS: [&str; 15] = [
     "fraction too wide",
     "too many states",
     "every round fails",
+    "",
+    "too unlikely to enclose",
 ];
 
 impl Refused {

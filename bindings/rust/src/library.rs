@@ -15,6 +15,14 @@ pub(crate) struct Said {
 #[repr(C)]
 pub(crate) struct Four(pub u64, pub u64, pub u64, pub u64);
 
+/// `zar_ran`.
+#[repr(C)]
+struct Ran {
+    value: i64,
+    read: u64,
+    end: u8,
+}
+
 extern "C" {
     fn zar_version(lines: *mut u8, capacity: usize) -> Said;
     fn zar_check(text: *const u8, length: usize) -> Said;
@@ -22,6 +30,17 @@ extern "C" {
     fn zar_code(text: *const u8, length: usize, lines: *mut u8, capacity: usize) -> Said;
     fn zar_mass(text: *const u8, length: usize, turns: u64, attempts: u64, rounds: u64, lines: *mut u8, capacity: usize) -> Said;
     fn zar_posterior(text: *const u8, length: usize, turns: u64, lines: *mut u8, capacity: usize) -> Said;
+    #[rustfmt::skip]
+    fn zar_enclose(
+        text: *const u8,
+        length: usize,
+        turns: u64,
+        attempts: u64,
+        rounds: u64,
+        all_turns: bool,
+        lines: *mut u8,
+        capacity: usize,
+    ) -> Said;
     fn zar_exact(text: *const u8, length: usize, lines: *mut u8, capacity: usize) -> Said;
     fn zar_cost(text: *const u8, length: usize, turns: u64, attempts: u64, rounds: u64, lines: *mut u8, capacity: usize) -> Said;
     #[rustfmt::skip]
@@ -35,6 +54,30 @@ extern "C" {
         values_length: usize,
         ends: *mut u8,
         ends_length: usize,
+    ) -> Said;
+    #[rustfmt::skip]
+    fn zar_run(
+        text: *const u8,
+        length: usize,
+        bits: *const u8,
+        bits_length: usize,
+        turns: u64,
+        attempts: u64,
+        rounds: u64,
+        ran: *mut Ran,
+    ) -> Said;
+    #[rustfmt::skip]
+    fn zar_draws_in_a_row(
+        text: *const u8,
+        length: usize,
+        seed: u64,
+        stream: u64,
+        limits: *const Four,
+        values: *mut i64,
+        values_length: usize,
+        ends: *mut u8,
+        ends_length: usize,
+        read: *mut u64,
     ) -> Said;
     #[rustfmt::skip]
     fn zar_roll(
@@ -56,6 +99,7 @@ pub(crate) enum Ask {
     Code,
     Mass(u64, u64, u64),
     Posterior(u64),
+    Enclose(u64, u64, u64, bool),
     Exact,
     Cost(u64, u64, u64),
 }
@@ -87,6 +131,7 @@ pub(crate) fn lines(text: &str, ask: &Ask) -> Result<String, Error> {
                 Ask::Code => zar_code(from, length, to, room),
                 Ask::Mass(turns, attempts, rounds) => zar_mass(from, length, turns, attempts, rounds, to, room),
                 Ask::Posterior(turns) => zar_posterior(from, length, turns, to, room),
+                Ask::Enclose(turns, attempts, rounds, all) => zar_enclose(from, length, turns, attempts, rounds, all, to, room),
                 Ask::Exact => zar_exact(from, length, to, room),
                 Ask::Cost(turns, attempts, rounds) => zar_cost(from, length, turns, attempts, rounds, to, room),
             }
@@ -143,4 +188,22 @@ pub(crate) fn ends(source: &Source, seed: u64, first: u64, count: usize, limits:
         }
     };
     taken(said, "").map(|_| (values, ends))
+}
+
+/// How a run on bits ends: the value, the number of the end, and how many bits it read.
+pub(crate) fn run(text: &str, bits: &[u8], limits: &Four) -> Result<(i64, u8, u64), Error> {
+    let mut ran = Ran { value: 0, read: 0, end: 0 };
+    let Four(_, turns, attempts, rounds) = *limits;
+    // SAFETY: the pointers and the lengths are those of what is borrowed, which nothing writes, and of a place of its own.
+    let said = unsafe { zar_run(text.as_ptr(), text.len(), bits.as_ptr(), bits.len(), turns, attempts, rounds, &mut ran) };
+    taken(said, "").map(|_| (ran.value, ran.end, ran.read))
+}
+
+/// How so many runs in a row on a stream of a seed end: the values, the numbers of the ends, and how many bits they read.
+pub(crate) fn row(text: &str, seed: u64, stream: u64, count: usize, limits: &Four) -> Result<(Vec<i64>, Vec<u8>, u64), Error> {
+    let (mut values, mut ends, mut read) = (zeros::<i64>(count)?, zeros(count)?, 0);
+    let (to, end) = (values.as_mut_ptr(), ends.as_mut_ptr());
+    // SAFETY: as in `ends`.
+    let said = unsafe { zar_draws_in_a_row(text.as_ptr(), text.len(), seed, stream, limits, to, count, end, count, &mut read) };
+    taken(said, "").map(|_| (values, ends, read))
 }

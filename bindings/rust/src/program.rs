@@ -1,5 +1,5 @@
 //! Programs, and what is asked of them.
-use crate::library::{check, lines, Ask, Source};
+use crate::library::{check, lines, row, run, Ask, Source};
 use crate::{runs, Bounds, Error, Fraction, Limits, Outcome};
 use std::ops::Range;
 
@@ -53,10 +53,40 @@ impl Program {
         Ok(rows(&lines(&self.text, &Ask::Posterior(turns))?, " from ", bounds))
     }
 
+    /// Two fractions between which the probability of each outcome lies, however wide that is, and of `Other`; with `all_turns` at every
+    /// limit of turns from `turns` on. The limits are those of `mass`. Refused for its states, or for rounds of which too few pass.
+    pub fn enclose(
+        &self,
+        turns: u64,
+        attempts: Option<u64>,
+        rounds: Option<u64>,
+        all_turns: bool,
+    ) -> Result<Vec<(Outcome, Bounds)>, Error> {
+        if attempts == Some(0) || rounds == Some(0) {
+            return Err(Error::OutOfRange);
+        }
+        let ask = Ask::Enclose(turns, attempts.unwrap_or(0), rounds.unwrap_or(0), all_turns);
+        Ok(rows(&lines(&self.text, &ask)?, " from ", bounds))
+    }
+
     /// How many bits a run reads on average under these limits. `zar` takes 30 turns, 2 attempts and 1 round. Refused as `mass`.
     pub fn cost(&self, turns: u64, attempts: u64, rounds: u64) -> Result<Fraction, Error> {
         let line = lines(&self.text, &Ask::Cost(turns, attempts, rounds))?;
         Ok(fraction(line.trim_start_matches("bits ").trim_end()))
+    }
+
+    /// How the run on the bits of these bytes ends, each byte's most significant bit first, and how many bits it read. It may read all of
+    /// them, whatever the budget.
+    pub fn run(&self, bits: &[u8], limits: &Limits) -> Result<(Outcome, u64), Error> {
+        let (value, end, read) = run(&self.text, bits, &limits.four())?;
+        Ok((Outcome::of_end(end, value), read))
+    }
+
+    /// How so many runs in a row on a stream of the seed end, each on the bits that those before it left, and how many bits they read. The
+    /// budget is that of all of them.
+    pub fn row(&self, seed: u64, stream: u64, count: usize, limits: &Limits) -> Result<(Vec<Outcome>, u64), Error> {
+        let (values, ends, read) = row(&self.text, seed, stream, count, &limits.four())?;
+        Ok((ends.into_iter().zip(values).map(|(end, value)| Outcome::of_end(end, value)).collect(), read))
     }
 
     /// How the runs on these streams of the seed end.

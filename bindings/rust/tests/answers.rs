@@ -1,6 +1,6 @@
 //! What the library answers through the crate, beside what is worked out by hand or stands in the documents.
 use std::thread;
-use zar::{Die, Error, Fault, Fraction, Limit, Limits, Outcome, Program, Refused, RollLimits};
+use zar::{Bounds, Die, Error, Fault, Fraction, Limit, Limits, Outcome, Program, Refused, RollLimits};
 
 const USUAL: Limits = Limits { budget: 65_536, turns: 1000, attempts: 1000, rounds: 1000 };
 const LOOP: &str = "x ~ uniform(2); while x = 1 { x ~ uniform(2); } return x;";
@@ -41,6 +41,26 @@ fn bounds_are_exact() {
     let bounds = program(LOOP).posterior(0).unwrap();
     let told: Vec<_> = bounds.iter().map(|(it, bounds)| format!("{it} from {} to {}", bounds.low, bounds.high)).collect();
     assert_eq!(told, ["value 0 from 1/2 to 1/1", "other from 0/1 to 1/2"]);
+}
+
+// The stream 0 of the seed 0 begins with the byte ad (RFC 8439, appendix A.1, test vector 1).
+#[test]
+fn bits_are_read_in_their_order() {
+    let die = program("x ~ uniform(4); return x;");
+    assert_eq!(die.run(&[0b1011_0001], &USUAL), Ok((Outcome::Value(2), 2)));
+    assert_eq!(die.run(&[], &USUAL), Ok((Outcome::MoreBits, 0)));
+    assert_eq!(die.run(&[0], &Limits { rounds: 0, ..USUAL }), Err(Error::OutOfRange));
+    let values = |values: &[i64]| values.iter().copied().map(Outcome::Value).collect::<Vec<_>>();
+    assert_eq!(die.row(0, 0, 4, &USUAL), Ok((values(&[2, 2, 3, 1]), 8)));
+    let few = die.row(0, 0, 2, &Limits { budget: 3, ..USUAL });
+    assert_eq!(few, Ok((vec![Outcome::Value(2), Outcome::MoreBits], 3)));
+}
+
+#[test]
+fn bounds_enclose() {
+    let whole = Bounds { low: over(1, 1), high: over(1, 1) };
+    assert_eq!(program("return 1;").enclose(30, None, None, true).unwrap()[0], (Outcome::Value(1), whole));
+    assert_eq!(program("observe false; return 1;").enclose(30, None, None, false), Err(refused(15)));
 }
 
 #[test]
