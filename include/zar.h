@@ -67,7 +67,8 @@ zar_said zar_show(const uint8_t *text, size_t text_length, uint8_t *lines, size_
 zar_said zar_code(const uint8_t *text, size_t text_length, uint8_t *lines, size_t capacity);
 
 /* What is found wrong with a text that a call refused with this code at this place: a line, as the program shows it on a terminal, or
- * none where there is nothing to say beyond the words of the code. Its place in the text, which may be another, is told beside it. */
+ * none where there is nothing to say beyond the words of the code, or memory ran out while it was sought. Its place in the text,
+ * which may be another, is told beside it. */
 zar_said zar_explain(const uint8_t *text, size_t text_length, uint8_t code, uint32_t place, uint8_t *lines, size_t capacity);
 
 /* The limits of runs, and how many bits of a stream a run may read. */

@@ -36,7 +36,7 @@ static const char TEXT[] = "n := 0; go := 1; while go = 1 { choice 1/3 { n := (n
                            "choose { 1: { x ~ uniform(6); } | 2: { x := 1; } } if x < 2 { observe n < 2; } return n + x;";
 static const char *const NAMES[] = {"zar_check", "zar_show",  "zar_code", "zar_mass",           "zar_posterior", "zar_cost",   "zar_exact",
                                     "zar_draws", "zar_run", "zar_draws_in_a_row", "zar_enclose",   "zar_explain", "zar_roll"};
-enum { CALLS = sizeof NAMES / sizeof NAMES[0], PLACES = 50 };
+enum { CALLS = sizeof NAMES / sizeof NAMES[0], PLACES = 50, EXPLAIN = 11 };
 static struct {
     int64_t values[PLACES];
     uint64_t labels[PLACES];
@@ -66,7 +66,7 @@ static zar_said call(int which) {
     case 8: said = zar_run(text, length, (const uint8_t *)"\x1b\xad", 2, 4, 3, 3, &arrays.ran); break;
     case 9: said = zar_draws_in_a_row(text, length, 1, 0, &limits, arrays.values, PLACES, arrays.ends, PLACES, &arrays.read); break;
     case 10: said = zar_enclose(text, length, 4, 3, 2, false, arrays.lines, sizeof arrays.lines); break;
-    case 11: said = zar_explain((const uint8_t *)"face := 1; return fase;", 23, 8, 11, arrays.lines, sizeof arrays.lines); break;
+    case EXPLAIN: said = zar_explain((const uint8_t *)"face := 1; return fase;", 23, 8, 11, arrays.lines, sizeof arrays.lines); break;
     default: said = zar_roll(weights, 3, 1, 0, &roll_limits, arrays.labels, PLACES, arrays.ends, PLACES);
     }
     counting = 0;
@@ -83,7 +83,9 @@ int main(void) {
             memset(&arrays, 0x55, sizeof arrays);
             before = arrays;
             zar_said said = call(which);
-            wrong += said.status != ZAR_OUT_OF_MEMORY || held || said.length || said.code || memcmp(&arrays, &before, sizeof arrays);
+            /* What is wrong with a text may also stay unfound. */
+            int told = said.status == ZAR_OUT_OF_MEMORY || (which == EXPLAIN && said.status == ZAR_DONE && !said.has_place);
+            wrong += !told || held || said.length || said.code || memcmp(&arrays, &before, sizeof arrays);
         }
         printf("%s: %ld requests, %ld wrong\n", NAMES[which], all, wrong);
         passed += all + 1 - wrong;

@@ -39,8 +39,9 @@ fn find_hint(alloc: Global, text: &[u8], code: u8, place: u32) -> Result<Option<
 }
 
 /// Writes the line of what is found wrong with a text that is refused with a code at a place, as a terminal shows it, where the array
-/// has room, and tells its length in any case, and where in the text it stands. Where nothing is found there is no line and no place.
-/// The status is 0, or 5 where memory ran out, and then the array stays as it was. No clause says what is found.
+/// has room, and tells its length in any case, and where in the text it stands. Where nothing is found, as it may be for want of
+/// memory, there is no line and no place. The status is 0, or 5 where memory ran out, and then the array stays as it was. No clause
+/// says what is found.
 #[unsafe(no_mangle)]
 pub extern "C" fn zar_explain(
     alloc: Global,
