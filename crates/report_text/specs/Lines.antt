@@ -64,10 +64,14 @@ endless_text mass = codes "endless mass " ++ fraction_text mass ++ codes "\n"
 abbrev pub cost_text : ℕ × ℕ → List ℕ
 cost_text bits = codes "bits " ++ decimal bits.0 ++ codes "/" ++ decimal bits.1 ++ codes "\n"
 
--- how many streams have runs that end in an outcome, or that need more bits
+-- that a run ends in an outcome, or that it needs more bits
+abbrev pub key_text : TallyKey → List ℕ
+key_text (key.Outcome outcome) = outcome_text outcome
+key_text key.MoreBits = codes "more bits"
+
+-- how many streams have such runs
 abbrev pub tally_text : TallyKey → ℕ → List ℕ
-tally_text (key.Outcome outcome) n = outcome_text outcome ++ codes " count " ++ decimal n ++ codes "\n"
-tally_text key.MoreBits n = codes "more bits count " ++ decimal n ++ codes "\n"
+tally_text k n = key_text k ++ codes " count " ++ decimal n ++ codes "\n"
 
 -- how many there are of something
 abbrev pub number_text : Count → ℕ → List ℕ

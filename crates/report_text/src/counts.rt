@@ -4,7 +4,7 @@ ghost use Rattle.std.specs.Prelude.{◌≡◌};
 ghost use Rattle.report_text.specs.Lines.{tally_text, number_text};
 
 use crate::line::Line;
-use crate::outcomes::outcome_line;
+use crate::outcomes::key_line;
 use gcl_core::TallyKey;
 
 /// What is counted.
@@ -37,20 +37,9 @@ pub fn number_line(n: u64, what: Count) -> Line
 pub fn tally_line(key: &TallyKey, count: u64) -> Line
     ensures { result ≡ tally_text key.now count }
 {
-    match key {
-        TallyKey::Outcome(outcome) => {
-            let mut line = outcome_line(outcome);
-            line.push(b" count ");
-            line.push_number(count);
-            line.push(b"\n");
-            line
-        }
-        TallyKey::MoreBits => {
-            let mut line = Line::new();
-            line.push(b"more bits count ");
-            line.push_number(count);
-            line.push(b"\n");
-            line
-        }
-    }
+    let mut line = key_line(key);
+    line.push(b" count ");
+    line.push_number(count);
+    line.push(b"\n");
+    line
 }

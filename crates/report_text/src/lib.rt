@@ -21,6 +21,7 @@ mod version;
 pub use answers::{check_line, sample_line};
 pub use counts::{Count, number_line, tally_line};
 pub use line::{LINE_BYTES, Line};
+pub use outcomes::key_line;
 pub use refusals::{Refusal, fault_line};
 pub use rolls::{each_line, flips_line, roll_line};
 pub use shares::{bound_line, cost_line, endless_line, mass_line, other_line, undecided_line};

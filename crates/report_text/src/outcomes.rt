@@ -1,10 +1,10 @@
-// The text of an outcome, with which most lines begin.
+// The text of an outcome, with which most lines begin, and that of the key of a tally.
 
 ghost use Rattle.std.specs.Prelude.{◌≡◌, ◌≤◌, length};
-ghost use Rattle.report_text.specs.Lines.{outcome_text};
+ghost use Rattle.report_text.specs.Lines.{outcome_text, key_text};
 
 use crate::line::Line;
-use gcl_core::{Fault, Limit, Outcome};
+use gcl_core::{Fault, Limit, Outcome, TallyKey};
 
 pub fn outcome_line(outcome: &Outcome) -> Line
     ensures text { result ≡ outcome_text outcome.now }
@@ -24,4 +24,15 @@ pub fn outcome_line(outcome: &Outcome) -> Line
         Outcome::Limit(Limit::Rounds) => line.push(b"limit rounds"),
     }
     line
+}
+
+/// The text of a key, without a line feed: an outcome, or that more bits were needed. It takes no memory.
+pub fn key_line(key: &TallyKey) -> Line
+    ensures text { result ≡ key_text key.now }
+    ensures within { length result ≤ 46 }
+{
+    match key {
+        TallyKey::Outcome(outcome) => outcome_line(outcome),
+        TallyKey::MoreBits => Line::of(b"more bits"),
+    }
 }
