@@ -333,7 +333,8 @@ fn reads_the_numbers_of_counts(rt: HostRuntime) -> Result<(), Fail> {
             "9",
         ],
     )? {
-        Ok(Command::Checked(_, Work::Tally(range, _))) => {
+        Ok(Command::Checked(_, Work::Tally(range, _, named))) => {
+            assert!(rt; !named);
             assert_eq!(rt; range.seed, u64::MAX);
             assert_eq!(rt; range.from, 5);
             assert_eq!(rt; range.to, 9);
@@ -415,7 +416,7 @@ fn reads_the_numbers_and_the_key_of_hunt(rt: HostRuntime) -> Result<(), Fail> {
             "hunt", "p", "--want", "-5", "--to", "9", "--from", "5", "--seed", "7", "--turns", "3",
         ],
     )? {
-        Ok(Command::Checked(program, Work::Hunt(range, limits, want))) => {
+        Ok(Command::Checked(program, Work::Hunt(range, limits, want, _))) => {
             assert_eq!(rt; program.text(), "p");
             assert_eq!(rt; (range.seed, range.from, range.to), (7, 5, 9));
             assert_eq!(rt; (range.budget, range.workers), (65_536, 4));
@@ -433,7 +434,7 @@ fn wanted(alloc: Global, word: &str) -> Result<Result<TallyKey, WordsError>, All
         "hunt", "p", "--want", word, "--seed", "0", "--from", "0", "--to", "1",
     ];
     match read(alloc, &hunted)? {
-        Ok(Command::Checked(_, Work::Hunt(_, _, want))) => Ok(Ok(want)),
+        Ok(Command::Checked(_, Work::Hunt(_, _, want, _))) => Ok(Ok(want)),
         Ok(_) => Ok(Err(WordsError::BadWords { at: 0 })),
         Err(error) => Ok(Err(error)),
     }

@@ -28,12 +28,14 @@ impl Gate for Entered {
     }
 }
 
-// A sink with room for so many bytes gets just these of what is wanted, and the write that finds no room fails.
+// A sink with room for so many bytes gets just these of what is wanted, which begins with the front, and the write that finds no room
+// fails.
 fn writes<R: Threads + Sync>(
     rt: &R,
     alloc: Global,
     p: &Checked,
     range: &SeedRange,
+    front: &[u8],
     want: &[u8],
     room: usize,
 ) -> Result<bool, AllocError>
@@ -41,9 +43,9 @@ fn writes<R: Threads + Sync>(
     requires workers { IsWorkers range.now.workers }
 {
     let mut out = MemSink::new(alloc, 1000, room, &[])?;
-    let written = write_runs(rt, alloc, &mut out, p, range, &LIMITS, &Open)?;
-    let front = &want[..want.len().min(room)];
-    Ok(written.is_err() == (room < want.len()) && out.bytes() == front)
+    let written = write_runs(rt, alloc, &mut out, front, p, range, &LIMITS, &Open)?;
+    let taken = &want[..want.len().min(room)];
+    Ok(written.is_err() == (room < want.len()) && out.bytes() == taken)
 }
 
 // Programs, ranges of streams, and their lines. Stream 0 begins with the bits 101, and the far one with 001.
@@ -75,7 +77,7 @@ fn lines_of_streams(rt: HostRuntime) -> Result<(), Fail> {
         let p = program(alloc, text)?;
         let range = streams(from, to, budget, 2);
         let want = want.as_bytes();
-        assert!(rt; writes(&rt, alloc, &p, &range, want, want.len())?);
+        assert!(rt; writes(&rt, alloc, &p, &range, b"", want, want.len())?);
     }
     Ok(())
 }
@@ -107,7 +109,7 @@ fn any_number_of_workers_writes_the_lines_of_samples(rt: HostRuntime) -> Result<
         let want = sampled(alloc, &s, &streams(3, 3 + count, 40, 1))?;
         for workers in 1..5 {
             let range = streams(3, 3 + count, 40, workers);
-            assert!(rt; writes(&rt, alloc, &p, &range, &want, want.len() + 1)?);
+            assert!(rt; writes(&rt, alloc, &p, &range, b"", &want, want.len() + 1)?);
         }
     }
     Ok(())
@@ -126,7 +128,7 @@ fn stops_anywhere<R: Threads + Sync>(
     requires workers { IsWorkers range.now.workers }
 {
     for room in least..=want.len() {
-        if !writes(rt, alloc, p, range, want, room)? {
+        if !writes(rt, alloc, p, range, b"", want, room)? {
             return Ok(false);
         }
     }
@@ -149,6 +151,19 @@ fn a_sink_fails_at_any_byte(rt: HostRuntime) -> Result<(), Fail> {
     Ok(())
 }
 
+// A front of ten bytes, and two lines.
+#[test]
+fn a_front_stands_before_the_lines(rt: HostRuntime) -> Result<(), Fail> {
+    let alloc = rt.alloc();
+    let p = program(alloc, "return 7;")?;
+    let range = streams(5, 7, 0, 2);
+    let want = b"the front\nvalue 7 bits 0\nvalue 7 bits 0\n";
+    for room in 0..=want.len() {
+        assert!(rt; writes(&rt, alloc, &p, &range, b"the front\n", want, room)?);
+    }
+    Ok(())
+}
+
 // 1030 streams are 17 blocks.
 #[test]
 fn each_block_is_entered_once(rt: HostRuntime) -> Result<(), Fail> {
@@ -162,6 +177,7 @@ fn each_block_is_entered_once(rt: HostRuntime) -> Result<(), Fail> {
         &rt,
         alloc,
         &mut out,
+        b"",
         &p,
         &streams(9, 1039, 0, 2),
         &LIMITS,

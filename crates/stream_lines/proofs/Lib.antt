@@ -1,3 +1,4 @@
 pub mod Fronts
 pub mod Batches
 pub mod Taken
+pub mod Behind

@@ -18,7 +18,7 @@ use Rattle.zar_cli.specs.declared.said.Said.{Said}
 use Rattle.zar_cli.specs.declared.said.Said.TheVariants.{Answered, Rolled}
 use Rattle.zar_cli.specs.Costs as costs
 use Rattle.zar_cli.specs.Costs.{SaysCost}
-use Rattle.zar_cli.specs.Counts.{ShowsText}
+use Rattle.zar_cli.specs.Counts.{ShowsText, ShowsBehind}
 use Rattle.zar_cli.specs.Enclosures as enclosures
 use Rattle.zar_cli.specs.Enclosures.{SaysEnclosure}
 use Rattle.zar_cli.specs.ExactMasses as exact
@@ -109,6 +109,9 @@ module _ (e : Refusal) where
   of_shown : (Is : List ℕ → Type 0) → ShowsText Is (Err e) → IsRefusal e
   of_shown Is is = let same = is.2 in absurd (cc)
 
+  of_behind : (front : List ℕ) (Is : List ℕ → Type 0) → ShowsBehind front Is (Err e) → IsRefusal e
+  of_behind front Is is = let same = is.2 in absurd (cc)
+
   of_weights : (weights : Option (List ℕ)) → ◌≡◌ {A = Output} (Err e) (weights_said weights) → IsRefusal e
   of_weights (Some text) is = absurd (cc)
   of_weights None is = is_refusal _ is (omega arith)
@@ -144,9 +147,9 @@ module _ (e : Refusal) where
   work_codes file p Exact is = exact_codes p e is
   work_codes file p (Enclose turns attempts rounds all_turns) is = enclosure_codes p turns attempts rounds all_turns e is
   work_codes file p (Audit depth limits) is = of_shown _ is
-  work_codes file p (Tally range limits) is = of_shown _ is
-  work_codes file p (Runs range limits) is = of_said _ is
-  work_codes file p (Hunt range limits want) is = let same = is.2 in absurd (cc)
+  work_codes file p (Tally range limits named) is = of_behind _ _ is
+  work_codes file p (Runs range limits named) is = of_said _ is
+  work_codes file p (Hunt range limits want named) is = of_behind _ _ is
   work_codes file p Check is = of_said _ is
   work_codes file p Code is = of_said _ is
   work_codes file p Forgetful is = of_said _ is

@@ -6,7 +6,7 @@ use Rattle.report_text.specs.Lines.{refusal_text}
 use Rattle.zar_cli.specs.declared.command.Command.{Command}
 use Rattle.zar_cli.specs.declared.command.Command.TheVariants.{Checked, Show, Gen, Fast, Roll, Help}
 use Rattle.zar_cli.specs.declared.command.Source.TheVariants.{File, Stream}
-use Rattle.zar_cli.specs.declared.said.Said.TheVariants.{Answered, Accepted, Costed, Shown, Drawn, Found, Rolled, Helped}
+use Rattle.zar_cli.specs.declared.said.Said.TheVariants.{Answered, Accepted, Costed, Shown, Drawn, Rolled, Helped}
 use Rattle.zar_cli.specs.declared.statuses.TheConstants.{WRITE_FAULT, OUT_OF_MEMORY}
 use Rattle.zar_cli.specs.Answer.{IsSaid, IsAnswer}
 use Rattle.zar_cli.specs.ByStages.{Output}
@@ -39,7 +39,6 @@ drawn_memory c before now (Ok (Answered answer)) drawn is = absurd (cc)
 drawn_memory c before now (Ok (Accepted statements names)) drawn is = absurd (cc)
 drawn_memory c before now (Ok (Costed bits)) drawn is = absurd (cc)
 drawn_memory c before now (Ok (Shown text)) drawn is = absurd (cc)
-drawn_memory c before now (Ok (Found stream)) drawn is = absurd (cc)
 drawn_memory c before now (Ok (Rolled roll)) drawn is = absurd (cc)
 drawn_memory c before now (Ok (Helped topic)) drawn is = absurd (cc)
 drawn_memory c before now (Err refusal) drawn is = absurd drawn

@@ -26,6 +26,10 @@ use Rattle.zar_cli.specs.OptionWords.{limits_of, no_options}
 abbrev pub ShowsText : (List ℕ → Type 0) → Result Said Refusal → Type 0
 ShowsText Is output = (text : List ℕ) × Is text × (output ≡ Ok (Shown text))
 
+-- one is shown behind this front
+abbrev pub ShowsBehind : List ℕ → (List ℕ → Type 0) → Result Said Refusal → Type 0
+ShowsBehind front Is output = (text : List ℕ) × Is text × (output ≡ Ok (Shown (front ++ text)))
+
 -- the lines of an audit
 pub record IsAuditText (p : SourceProgram) (depth : ℕ) (limits : Limits) (text : List ℕ) : Type 0 where
   pub rows : audited.Rows

@@ -29,9 +29,9 @@ WorkHasRange Exact = Unit {0}
 WorkHasRange (Enclose turns attempts rounds all_turns) =
     (turns ≤ MOST_LIMIT) × IfSome attempts IsLimit × IfSome rounds IsLimit
 WorkHasRange (Audit depth limits) = (depth ≤ MOST_DEPTH) × InRange limits
-WorkHasRange (Tally range limits) = InRange limits × IsRange range × IsWorkers range.workers
-WorkHasRange (Runs range limits) = InRange limits × IsRange range × IsWorkers range.workers
-WorkHasRange (Hunt range limits want) = InRange limits × IsRange range × IsWorkers range.workers
+WorkHasRange (Tally range limits named) = InRange limits × IsRange range × IsWorkers range.workers
+WorkHasRange (Runs range limits named) = InRange limits × IsRange range × IsWorkers range.workers
+WorkHasRange (Hunt range limits want named) = InRange limits × IsRange range × IsWorkers range.workers
 WorkHasRange Check = Unit {0}
 WorkHasRange Code = Unit {0}
 WorkHasRange Forgetful = Unit {0}

@@ -40,7 +40,7 @@ impl<'a> Call<'a> {
             Ok(
                 Command::Checked(
                     _,
-                    Work::Tally(range, _) | Work::Runs(range, _) | Work::Hunt(range, _, _),
+                    Work::Tally(range, _, _) | Work::Runs(range, _, _) | Work::Hunt(range, _, _, _),
                 ),
             ) => Some(range.to.saturating_sub(range.from)),
             _ => None,
@@ -49,6 +49,6 @@ impl<'a> Call<'a> {
 
     /// It writes a line of each run.
     pub fn writes_runs(&self) -> bool {
-        matches!(&self.command, Ok(Command::Checked(_, Work::Runs(_, _))))
+        matches!(&self.command, Ok(Command::Checked(_, Work::Runs(_, _, _))))
     }
 }

@@ -101,12 +101,12 @@ pub enum Work {
     Enclose(u64, Option<u64>, Option<u64>, bool),
     /// The audit of its runs by all bit strings of one length.
     Audit(u32, Limits),
-    /// The tally of its runs over the streams of a range.
-    Tally(SeedRange, Limits),
-    /// The answers of its runs on the streams of a range, a line each.
-    Runs(SeedRange, Limits),
-    /// The least stream of a range on which its run has this key.
-    Hunt(SeedRange, Limits, TallyKey),
+    /// The tally of its runs over the streams of a range; whether a line before it says what it is of.
+    Tally(SeedRange, Limits, bool),
+    /// The answers of its runs on the streams of a range, a line each; whether a line before them says what they are of.
+    Runs(SeedRange, Limits, bool),
+    /// The least stream of a range on which its run has this key; whether a line before it says what it is of.
+    Hunt(SeedRange, Limits, TallyKey, bool),
     /// How many statements and names it has.
     Check,
     /// The code that samples it.

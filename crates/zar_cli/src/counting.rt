@@ -9,6 +9,7 @@ ghost use Rattle.zar_cli.specs.declared.command.Work.TheVariants.{Audit, Tally};
 ghost use Rattle.zar_cli.specs.Counts.{IsTallyText};
 ghost use Rattle.zar_cli.specs.inner.Works.{WorksAlone};
 
+use crate::naming::part_name;
 use crate::said::Said;
 use crate::tables::{audit_text, tally_rows_text};
 use audit_walk::audit;
@@ -61,20 +62,23 @@ pub fn tally_text<R: Threads + Sync, G: Gate>(
     Ok(text)
 }
 
-/// How a program's runs end on the streams of a range, as what the command says.
+/// How a program's runs end on the streams of a range, as what the command says, behind the line of the part where it is asked for.
 pub fn tally_of<R: Threads + Sync, G: Gate>(
     rt: &R,
     alloc: Global,
     program: &Checked,
     range: &SeedRange,
     limits: &Limits,
+    named: bool,
     gate: &G,
 ) -> Result<Said, Refusal>
     requires limits { InRange limits.now }
     requires range { IsRange range.now }
     requires workers { IsWorkers range.now.workers }
-    ensures { WorksAlone (Tally range.now limits.now) (source_of program.now) result }
+    ensures { WorksAlone (Tally range.now limits.now named) (source_of program.now) result }
 {
-    let text = tally_text(rt, alloc, program, range, limits, gate)?;
+    let mut text = part_name(alloc, named, "tally", program, range, limits)?;
+    let rows = tally_text(rt, alloc, program, range, limits, gate)?;
+    text.push(rows.bytes())?;
     Ok(Said::Shown(text))
 }

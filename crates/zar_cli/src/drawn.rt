@@ -1,6 +1,7 @@
 // The lines of runs that are still to be made.
 
 use gcl_core::{Checked, Limits};
+use gcl_print::Text;
 use std::alloc::{AllocError, Global};
 use std::marker::Model;
 use std::thread::Threads;
@@ -8,16 +9,18 @@ use stream_lines::write_runs;
 use stream_runs::SeedRange;
 use zar_io::{Failed, Gate, Sink};
 
-/// A program, and the streams on which it is to run. It is seen as the lines of its runs, one behind the other.
+/// A program, and the streams on which it is to run, with a text that stands before. It is seen as this front and the lines of the
+/// runs, one behind the other.
 #[derive(Drop)]
 pub struct Drawn {
+    front: Text,
     program: Checked,
     range: SeedRange,
     limits: Limits,
 }
 
 impl Model for Drawn {
-    ghost use Rattle.std.specs.Prelude.{List, ℕ};
+    ghost use Rattle.std.specs.Prelude.{List, ℕ, ◌++◌};
     ghost use Rattle.gcl_core.specs.meaning.LimitRange.{InRange};
     ghost use Rattle.gcl_core.specs.meaning.Runs.{run_on};
     ghost use Rattle.gcl_core.specs.meaning.Views.{source_of};
@@ -26,13 +29,13 @@ impl Model for Drawn {
 
     ghost Value = { List ℕ };
 
-    ghost view = { λ d. lines_of_range (run_on (source_of d.program) d.limits) d.range };
+    ghost view = { λ d. d.front ++ lines_of_range (run_on (source_of d.program) d.limits) d.range };
 
     ghost invariant = { λ d. InRange d.limits × IsRange d.range × IsWorkers d.range.workers };
 }
 
 impl Drawn {
-    ghost use Rattle.std.specs.Prelude.{◌≡◌, is_err, IfOk, OnErr};
+    ghost use Rattle.std.specs.Prelude.{◌≡◌, ◌++◌, is_err, IfOk, OnErr};
     ghost use Rattle.gcl_core.specs.meaning.LimitRange.{InRange};
     ghost use Rattle.gcl_core.specs.meaning.Runs.{run_on};
     ghost use Rattle.gcl_core.specs.meaning.Views.{source_of};
@@ -40,14 +43,15 @@ impl Drawn {
     ghost use Rattle.stream_runs.specs.Ranges.{IsRange, IsWorkers};
     ghost use Rattle.zar_io.specs.Written.{IsWritten};
 
-    /// The lines of the program's runs on the streams of the range. It takes no memory.
-    pub fn of(program: Checked, range: SeedRange, limits: Limits) -> Drawn
+    /// The front, and the lines of the program's runs on the streams of the range. It takes no memory.
+    pub fn of(front: Text, program: Checked, range: SeedRange, limits: Limits) -> Drawn
         requires limits { InRange limits }
         requires range { IsRange range }
         requires workers { IsWorkers range.workers }
-        ensures { result ≡ lines_of_range (run_on (source_of program) limits) range }
+        ensures { result ≡ front ++ lines_of_range (run_on (source_of program) limits) range }
     {
         Drawn {
+            front,
             program,
             range,
             limits,
@@ -71,6 +75,7 @@ impl Drawn {
             rt,
             alloc,
             sink,
+            self.front.bytes(),
             &self.program,
             &self.range,
             &self.limits,

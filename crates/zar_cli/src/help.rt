@@ -83,6 +83,12 @@ const FORGETFUL: Piece = (
     None,
 );
 
+// The line of a part of many streams.
+const NAMED: Part = &[(
+    "--named       a line before the answer, with the SHA-256 of the canonical text, the range, the budget and the limits\n",
+    None,
+)];
+
 // Every command takes it.
 const EXPLAIN: Part = &[(
     "--explain     what a refusal means, behind its line; also by ZAR_EXPLAIN=1\n",
@@ -276,7 +282,7 @@ pub const TALLY: Page = (
     count how the runs on a range of streams end
 
 ",
-    &[RANGE, WORK, LIMITS, EXPLAIN],
+    &[RANGE, WORK, LIMITS, NAMED, EXPLAIN],
 );
 
 pub const RUNS: Page = (
@@ -284,7 +290,7 @@ pub const RUNS: Page = (
     run the program on each stream of a range, and print the outcomes in order
 
 ",
-    &[RANGE, WORK, LIMITS, EXPLAIN],
+    &[RANGE, WORK, LIMITS, NAMED, EXPLAIN],
 );
 
 pub const HUNT: Page = (
@@ -292,7 +298,7 @@ pub const HUNT: Page = (
     print the least stream of a range with a wanted outcome
 
 ",
-    &[RANGE, &[WANT], WORK, LIMITS, EXPLAIN],
+    &[RANGE, &[WANT], WORK, LIMITS, NAMED, EXPLAIN],
 );
 
 pub const CHECK: Page = (

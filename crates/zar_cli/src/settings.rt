@@ -86,6 +86,8 @@ pub const ALL_TURNS: Setting = ("--all-turns", Form::Alone);
 /// The forgetful program is shown.
 pub const FORGETFUL: Setting = ("--forgetful", Form::Alone);
 
+pub const NAMED: Setting = ("--named", Form::Alone);
+
 /// What a refusal means is written behind its line.
 pub const EXPLAIN: Setting = ("--explain", Form::Alone);
 
@@ -105,11 +107,11 @@ const SHOW: &[Setting] = &[FORGETFUL, EXPLAIN];
 const AUDIT: &[Setting] = &[DEPTH, TURNS, ATTEMPTS, ROUNDS, EXPLAIN];
 
 const TALLY: &[Setting] = &[
-    SEED, FROM, TO, BUDGET, WORKERS, TURNS, ATTEMPTS, ROUNDS, EXPLAIN,
+    SEED, FROM, TO, BUDGET, WORKERS, TURNS, ATTEMPTS, ROUNDS, NAMED, EXPLAIN,
 ];
 
 const HUNT: &[Setting] = &[
-    SEED, FROM, TO, WANT, BUDGET, WORKERS, TURNS, ATTEMPTS, ROUNDS, EXPLAIN,
+    SEED, FROM, TO, WANT, BUDGET, WORKERS, TURNS, ATTEMPTS, ROUNDS, NAMED, EXPLAIN,
 ];
 
 const ROLL: &[Setting] = &[BITS, SEED, STREAM, BUDGET, FLIPS, EXPLAIN];

@@ -15,6 +15,7 @@ use crate::drawn::Drawn;
 use crate::enclosing::enclosed_of;
 use crate::exactly::exact_masses_of;
 use crate::hunting::found_of;
+use crate::naming::part_name;
 use crate::posterior::bounds_of;
 use crate::said::Said;
 use crate::sampling::run_of;
@@ -58,14 +59,21 @@ fn forgetful_text_of(alloc: Global, program: &Checked) -> Result<Said, Refusal>
     Ok(Said::Shown(Text::of(text)))
 }
 
-// The answers of a program's runs on the streams of a range.
-fn runs_of(program: Checked, range: &SeedRange, limits: &Limits) -> Said
+// The answers of a program's runs on the streams of a range, behind the line of the part where it is asked for.
+fn runs_of(
+    alloc: Global,
+    program: Checked,
+    range: &SeedRange,
+    limits: &Limits,
+    named: bool,
+) -> Result<Said, Refusal>
     requires limits { InRange limits.now }
     requires range { IsRange range.now }
     requires workers { IsWorkers range.now.workers }
-    ensures { WorksAlone (Runs range.now limits.now) (source_of program) (Ok result) }
+    ensures { WorksAlone (Runs range.now limits.now named) (source_of program) result }
 {
-    Said::Drawn(Drawn::of(program, *range, *limits))
+    let front = part_name(alloc, named, "runs", &program, range, limits)?;
+    Ok(Said::Drawn(Drawn::of(front, program, *range, *limits)))
 }
 
 /// What some work says of a program.
@@ -94,10 +102,12 @@ pub fn work_on<R: Threads + Sync, F: Files, G: Gate>(
             enclosed_of(alloc, &program, *turns, *attempts, *rounds, *all_turns)
         }
         Work::Audit(depth, limits) => audit_of(rt, alloc, &program, *depth, limits),
-        Work::Tally(range, limits) => tally_of(rt, alloc, &program, range, limits, gate),
-        Work::Runs(range, limits) => Ok(runs_of(program, range, limits)),
-        Work::Hunt(range, limits, want) => {
-            found_of(rt, alloc, &program, range, limits, want, gate)
+        Work::Tally(range, limits, named) => {
+            tally_of(rt, alloc, &program, range, limits, *named, gate)
+        }
+        Work::Runs(range, limits, named) => runs_of(alloc, program, range, limits, *named),
+        Work::Hunt(range, limits, want, named) => {
+            found_of(rt, alloc, &program, range, limits, want, *named, gate)
         }
         Work::Check => Ok(size_of(&program)),
         Work::Code => code_of(alloc, &program),

@@ -2,7 +2,6 @@ use Rattle.std.proofs.Common.{refl, [], sym, subst}
 use Rattle.gcl_core.specs.meaning.Runs.{run_on}
 use Rattle.gcl_core.specs.meaning.Views.{source_of}
 use Rattle.sampler_run.specs.Held.{Held, IsRestOf, StandsAfter, set_back}
-use Rattle.stream_lines.proofs.Taken.{lines_taken}
 use Rattle.stream_lines.proofs.running.write_runs.Goals as goal
 
 pub workers_of-requires : goal.workers_of-requires
@@ -15,4 +14,4 @@ returns-clause-written g c =
     let is : IsRestOf (set_back c.in_ok-home.home) (run_on (source_of c.args.program.now) c.args.limits.now) =
     subst (λ (h : Held). IsRestOf h (run_on (source_of c.args.program.now) c.args.limits.now)) (sym c.in_ok-home.ensures.start)
     (c.in_ok-sampler.ensures.runs c.args.limits.now c.requires.limits) in
-    lines_taken (run_on (source_of c.args.program.now) c.args.limits.now) c.args.range.now c.write_lines.result _ _ _ is c.write_lines.ensures.fails c.write_lines.ensures.whole c.write_lines.ensures.front
+    c.write_behind.ensures (run_on (source_of c.args.program.now) c.args.limits.now) is

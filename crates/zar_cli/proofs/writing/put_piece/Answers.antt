@@ -1,4 +1,4 @@
-use Rattle.zar_cli.proofs.Written.{one_behind}
+use Rattle.stream_lines.proofs.Behind.{one_behind}
 use Rattle.zar_cli.proofs.writing.put_piece.Goals as goal
 
 pub returns-in-Some : goal.returns-in-Some
