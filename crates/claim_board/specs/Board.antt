@@ -1,5 +1,6 @@
 -- What clauses say of a board and its passes.
-use Rattle.std.specs.Prelude.{ℕ, ◌≡◌, Bool, false, nat_lt, List, [], Option, Some, None, All, if◌then◌else◌}
+use Rattle.std.specs.Prelude.{ℕ, ◌≡◌, Bool, false, nat_lt, List, [], ◌∷◌, slice_index, Option, Some, None, All, if◌then◌else◌}
+use Rattle.atomic_table.specs.Seated.{TableId}
 use Rattle.claim_board.specs.declared.pass.Board.{Board}
 use Rattle.claim_board.specs.declared.pass.Pass.{Pass}
 use Rattle.claim_board.specs.declared.hand.Hand.{Hand}
@@ -14,6 +15,14 @@ workers_of b = b.workers
 
 abbrev pub view_of : Pass → Hand
 view_of p = p.seat.me.0
+
+-- the table at which the pass has its seat
+abbrev pub table_of : Pass → TableId
+table_of p = p.seat.table_id
+
+-- of a view: it stands for one number, and nothing was dealt to it
+abbrev pub IsFresh : Hand → Type 0
+IsFresh v = (v.passes.numbers ≡ slice_index v.passes.numbers 0 ∷ []) × (v.dealt ≡ []) × (v.ended ≡ [])
 
 -- the numbers dealt to the pass, in the order in which it drew them
 abbrev pub dealt_to : Pass → List ℕ

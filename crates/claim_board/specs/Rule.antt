@@ -1,6 +1,6 @@
 -- The rule of the board, which holds of its word and of all views between any two steps, and ties them to the dealing.
 use Rattle.std.specs.Prelude.{ℕ, ◌+◌, ◌<◌, ◌≤◌, ◌≡◌, List, [], ◌∷◌, ◌++◌, length, min, slice_index, if◌then◌else◌}
-use Rattle.atomic_table.specs.Table.{State}
+use Rattle.atomic_table.specs.Table as table
 use Rattle.claim_board.specs.declared.hand.Hand.{Hand}
 use Rattle.claim_board.specs.declared.hand.Terms.{Terms}
 use Rattle.passes.specs.Total.{total}
@@ -50,7 +50,7 @@ pub record Kept (blocks workers n : ℕ) (views : List Hand) : Type 0 where
       × EachView (Shows d.workers) views
       × ((p : ℕ) → made passes_of views ≤ p → worker_at d.workers p ≡ fresh)
 
-abbrev pub Holds : Terms → State (Unit {0}) Hand → Type 0
+abbrev pub Holds : Terms → table.State (Unit {0}) Hand → Type 0
 Holds t s = (length s.words ≡ 1) × Kept t.blocks t.workers (slice_index s.words 0) s.views
 
 -- ---- what the rule says
@@ -69,6 +69,6 @@ NoneIsLate t n views = 0 < nones views → t.blocks < n
 
 -- of each state that meets the rule
 abbrev pub RuleSays : Type 0
-RuleSays = (t : Terms) (s : State (Unit {0}) Hand) → Holds t s → let n = slice_index s.words 0 in
+RuleSays = (t : Terms) (s : table.State (Unit {0}) Hand) → Holds t s → let n = slice_index s.words 0 in
     Numbered passes_of t.workers s.views × BlocksStandOnce t n s.views × WordCounts t n s.views × NoneIsLate t n s.views
     × ShowADealing t.blocks t.workers n s.views

@@ -1,5 +1,5 @@
 -- What a pass knows of a board, its view, and how each step of the board changes it.
-use Rattle.std.specs.Prelude.{ℕ, ◌<◌, ◌≤◌, ◌≡◌, true, List, [], ◌∷◌, ◌++◌}
+use Rattle.std.specs.Prelude.{ℕ, ◌<◌, ◌≤◌, ◌≡◌, true, List, [], ◌∷◌, ◌++◌, refl}
 use Rattle.atomic_table.specs.Table.{Me, Step}
 use Rattle.claim_board.specs.declared.hand.Hand.{Hand}
 use Rattle.claim_board.specs.declared.hand.Terms.{Terms}
@@ -32,6 +32,14 @@ joined v w = hand v.blocks (numbering.joined v.passes w.passes) (v.dealt ++ w.de
 
 abbrev pub spent_hand : Hand
 spent_hand = hand 0 numbering.spent [] []
+
+abbrev pub are_numbered : numbering.AreNumbered passes_of makes made_by joined spent_hand
+are_numbered = record {
+  makes = λ v. refl;
+  made_by = λ v. refl;
+  joined = λ v w. refl;
+  spent = refl;
+}
 
 -- ---- a claim
 

@@ -5,9 +5,9 @@ ghost use Rattle.claim_board.specs.declared.pass.TheConstants.{MOST_BLOCKS, MOST
 ghost use Rattle.claim_board.specs.Board.{blocks_of, workers_of, dealt_to, had_none, numbers_of};
 ghost use Rattle.claim_board.specs.Board.{IsPassOf, IsSamePass, IsNew, AreAllPasses, AreDealtTo, Claimed};
 
-use crate::hand::{Claiming, Joining, Making, Terms};
+use crate::hand::{Claiming, Terms};
 use crate::pass::{Board, Dealt, Pass};
-use atomic_table::Table;
+use passes::{close_board, open_board};
 use std::alloc::{AllocError, Global};
 
 impl Board {
@@ -25,19 +25,7 @@ impl Board {
             blocks,
             workers: u64::from(workers),
         };
-        let (table, mut first) = Table::of_words(alloc, &[0], &terms)?;
-        let mut passes = Vec::with_capacity(alloc, workers as usize)?;
-        for _ in 1..workers {
-            let seat = table.shared.split_seat::<Making>(&mut first);
-            passes.push(Pass {
-                seat,
-                had_none: false,
-            })?;
-        }
-        passes.push(Pass {
-            seat: first,
-            had_none: false,
-        })?;
+        let (table, passes) = open_board(alloc, 0, workers, &terms)?;
         let board = Board {
             table,
             blocks,
@@ -75,7 +63,7 @@ impl Board {
 
     /// Ends the board, with all its passes. The numbers dealt to them are those below the answer, each to one pass and once.
     /// Where one of them had `None`, these are all blocks.
-    pub fn close(self, mut passes: Vec<Pass>) -> Dealt
+    pub fn close(self, passes: Vec<Pass>) -> Dealt
         requires { AreAllPasses self passes.items }
         ensures dealt { AreDealtTo result.dealt passes.items }
         ensures within { result.dealt ≤ blocks_of self }
@@ -86,27 +74,8 @@ impl Board {
             blocks,
             workers: _,
         } = self;
-        let Some(
-            Pass {
-                mut seat,
-                had_none: _,
-            },
-        ) = passes.pop()
-        else {
-            unreachable!()
-        };
-        while let Some(pass) = passes.pop() {
-            let Pass {
-                seat: other,
-                had_none: _,
-            } = pass;
-            table.shared.join_seat::<Joining>(&mut seat, other);
-        }
-        let closed = table.close_with(seat);
-        let word = closed.word(0);
-        closed.free();
         Dealt {
-            dealt: word.min(blocks),
+            dealt: close_board(table, passes).min(blocks),
         }
     }
 }

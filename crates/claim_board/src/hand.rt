@@ -1,9 +1,9 @@
 //! What a pass knows, and the rule of the board.
-ghost use Rattle.claim_board.specs.Views.{first_hand, makes, made_by, joined, spent_hand, drawing};
+ghost use Rattle.claim_board.specs.Views.{passes_of, first_hand, makes, made_by, joined, spent_hand, are_numbered, drawing};
 ghost use Rattle.claim_board.specs.Rule.{Holds};
 
-use atomic_table::{Join, Play, Split, TableRule};
-use passes::Numbering;
+use atomic_table::{Play, TableRule};
+use passes::{Numbering, View};
 use std::collections::LinkedList;
 
 /// What the board is told when it is made.
@@ -22,6 +22,20 @@ pub struct Hand {
     pub ended: LinkedList<u64>,
 }
 
+impl View for Hand {
+    ghost passes = { passes_of };
+
+    ghost makes = { makes };
+
+    ghost made_by = { made_by };
+
+    ghost joined = { joined };
+
+    ghost spent = { spent_hand };
+
+    ghost numbered = { are_numbered };
+}
+
 /// The rule of the board's word and of all views.
 pub struct Dealing;
 
@@ -36,22 +50,4 @@ pub struct Claiming;
 
 impl Play<(), Hand> for Claiming {
     ghost then = { drawing };
-}
-
-/// The seat of the first pass is split, and another pass is made.
-pub struct Making;
-
-impl Split<Hand> for Making {
-    ghost left = { makes };
-
-    ghost right = { made_by };
-}
-
-/// Two seats are joined when the board is closed.
-pub struct Joining;
-
-impl Join<Hand> for Joining {
-    ghost both = { joined };
-
-    ghost spent = { spent_hand };
 }

@@ -14,6 +14,7 @@ mod board;
 mod deal;
 mod hand;
 mod pass;
+mod seated;
 
 pub use deal::{board_shows_a_dealing, deals_fairly};
 pub use pass::{Board, Dealt, MOST_BLOCKS, MOST_PASSES, Pass};

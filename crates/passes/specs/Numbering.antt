@@ -46,3 +46,11 @@ pub record Numbered {V : Type 0} (passes : V → Numbering) (workers : ℕ) (vie
   pub numbers : EachOnce (λ (v : V). (passes v).numbers) views (made passes views)
   pub counted : total (λ (v : V). length (passes v).numbers) views ≡ made passes views
   pub lead : EachView (λ (v : V). Leads (passes v)) views
+
+-- ---- the views of a board, whose numbers change so
+
+pub record AreNumbered {V : Type 0} (passes : V → Numbering) (view_makes view_made_by : V → V) (both : V → V → V) (gone : V) : Type 0 where
+  pub makes : (v : V) → passes (view_makes v) ≡ makes (passes v)
+  pub made_by : (v : V) → passes (view_made_by v) ≡ made_by (passes v)
+  pub joined : (v w : V) → passes (both v w) ≡ joined (passes v) (passes w)
+  pub spent : passes gone ≡ spent
