@@ -1,12 +1,12 @@
-use Rattle.std.proofs.Common.{◌≡◌, ◌∙◌, ◌+◌, ◌-◌, ◌*◌, ◌<◌, Option, Some, None, Result, Ok, Bool, [], length, drop, refl, sym, ap, subst, arith}
+use Rattle.std.proofs.Common.{◌≡◌, ◌∙◌, ◌+◌, ◌-◌, ◌*◌, ◌<◌, [], length, drop, refl, sym, ap, subst, arith}
 use Rattle.std.specs.List.{sum}
-use Rattle.zar_io.specs.declared.outside.Failed.{Failed}
 use Rattle.zar_io.specs.Bits.{Took}
 use Rattle.zar_io.specs.Trace.{World, Agrees}
-use Rattle.zar_io.proofs.TraceLemmas.{agrees_before, goes_on-none, goes_on-more}
+use Rattle.zar_io.proofs.TraceLemmas.{agrees_before}
 use Rattle.dice_roll.specs.declared.answers.Roll.TheVariants.{Limit}
 use Rattle.dice_roll.proofs.Labels.{bit-le}
 use Rattle.dice_roll.proofs.Rolls.{drop_more}
+use Rattle.dice_roll.proofs.Reading.{still_there, none_read, read_on}
 use Rattle.weighted_roll.specs.WeightedRoll.{weighted_from}
 use Rattle.weighted_roll.proofs.Walking.{walk_start, walk_number, walk_next, needs, reads_leaf, reads_rest, spent}
 use Rattle.weighted_roll.proofs.Passing.{leaf_below}
@@ -21,13 +21,7 @@ loop-read-init g c = record {
       ap (λ h. weighted_from (sum c.args.weights.now) h c.args.weights.now 0 0 (g.B.Bits.left c.args.bits.now file)) e
       ∙ ap (λ b. weighted_from b (c.args.flips - 0) c.args.weights.now 0 0 (g.B.Bits.left c.args.bits.now file)) (sym c.sum_of-whole.ensures)
       ∙ ap (λ rs. weighted_from c.sum_of-whole.result (c.args.flips - 0) rs 0 0 (g.B.Bits.left c.args.bits.now file)) (sym c.copy_from_slice.ensures.after);
-  taken = λ file agrees. refl;
-  alive = λ had_ended. refl;
-  fails = refl;
-  goes_on = goes_on-none (g.B.Bits.answered c.args.bits.now) (g.B.Bits.answered c.args.bits.now) refl;
-  ended = refl;
-  broken = refl;
-  source = refl;
+  bits = none_read g.B.Bits.answered g.B.Bits.left g.B.Bits.ended g.B.Bits.broken g.B.Bits.source c.args.bits.now;
 }
 
 pub returns-in-None-clause-answer : goal.returns-in-None-clause-answer
@@ -43,7 +37,7 @@ returns-in-None-clause-taken g c file agrees =
     let earlier = agrees_before file [] (g.B.Bits.answered c.loop-read.bits) (g.B.Bits.answered c.next.new.self) c.in_ok-next.ensures.goes_on agrees in
     let w' = g.B.Bits.left c.next.new.self file in
     let t = subst (λ o. Took o (g.B.Bits.left c.loop-read.bits file) w') c.in-None.is (c.in_ok-next.ensures.bit file agrees) in
-    took_each c.args.weights.now c.args.flips _ _ _ (returns-in-None-clause-answer g c file agrees) (t.1 ∙ sym t.0 ∙ sym (c.loop-read.invariant.taken file earlier))
+    took_each c.args.weights.now c.args.flips _ _ _ (returns-in-None-clause-answer g c file agrees) (t.1 ∙ sym t.0 ∙ sym (c.loop-read.invariant.bits.taken file earlier))
 
 pub overflow_mul-number : goal.overflow_mul-number
 overflow_mul-number g c =
@@ -78,11 +72,7 @@ returns-in-Leaf-clause-taken g c file agrees =
     let i = c.loop-read.invariant in
     let w' = g.B.Bits.left c.next.new.self file in
     let t = subst (λ o. Took o (g.B.Bits.left c.loop-read.bits file) w') c.in-Some.is (c.in_ok-next.ensures.bit file agrees) in
-    took_each c.args.weights.now c.args.flips _ _ _ (returns-in-Leaf-clause-answer g c file agrees) (sym (drop_more c.loop-read.read c.in-Some.bit _ _ w' (i.taken file earlier) t))
-
--- after the end no bit is answered
-still_there : {b : Bool} (o : Option Bool) → ◌≡◌ {A = Result (Option Bool) Failed} (Ok o) (Ok None) → o ≡ Some b → ⊥
-still_there o e f = cc
+    took_each c.args.weights.now c.args.flips _ _ _ (returns-in-Leaf-clause-answer g c file agrees) (sym (drop_more c.loop-read.read c.in-Some.bit _ _ w' (i.bits.taken file earlier) t))
 
 pub loop-read-preserved : goal.loop-read-preserved
 loop-read-preserved g c =
@@ -99,13 +89,9 @@ loop-read-preserved g c =
       same = λ file agrees. reads_rest c.sum_of-whole.result c.loop-read.number c.args.flips c.loop-read.read c.loop-read.rests _ (w file) (w' file) (i.same file (before file agrees))
           b c.from.result c.in-Rest.left c.in-Rest.left c.pass_labels.new.rests c.loop-read-test.true (subst (λ o. Took o (w file) (w' file)) c.in-Some.is (e.bit file agrees))
           c.from.ensures c.in-Rest.ensures.column c.in-Rest.ensures.rests refl;
-      taken = λ file agrees. drop_more c.loop-read.read b _ _ (w' file) (i.taken file (before file agrees)) (subst (λ o. Took o (w file) (w' file)) c.in-Some.is (e.bit file agrees));
-      alive = λ had_ended. let no : ⊥ = still_there _ (e.stays_ended (i.ended ∙ had_ended)) c.in-Some.is in absurd no;
-      fails = e.fails ∙ i.fails;
-      goes_on = goes_on-more [] (g.B.Bits.answered c.args.bits.now) (g.B.Bits.answered c.loop-read.bits) (g.B.Bits.answered c.next.new.self) i.goes_on e.goes_on;
-      ended = (rw c.in-Some.is at e.ended) ∙ i.ended;
-      broken = e.broken ∙ i.broken;
-      source = e.same_source ∙ i.source;
+      bits = read_on g.B.Bits.answered g.B.Bits.left g.B.Bits.ended g.B.Bits.broken g.B.Bits.source c.args.bits.now c.loop-read.bits c.next.new.self c.loop-read.read 1 _ refl i.bits
+          (λ file agrees. ap (drop 1) (subst (λ o. Took o (w file) (w' file)) c.in-Some.is (e.bit file agrees)))
+          (λ had_ended. still_there _ (e.stays_ended had_ended) c.in-Some.is) e.fails e.goes_on (rw c.in-Some.is at e.ended) e.broken e.same_source;
     }
 
 pub returns-clause-answer : goal.returns-clause-answer
@@ -119,4 +105,4 @@ pub returns-clause-taken : goal.returns-clause-taken
 returns-clause-taken g c file agrees =
     let e : c.loop-read.read ≡ c.args.flips = omega arith in
     took_each c.args.weights.now c.args.flips _ _ _ (returns-clause-answer g c file agrees)
-    (sym (subst (λ n. drop n (g.B.Bits.left c.args.bits.now file) ≡ g.B.Bits.left c.loop-read.bits file) e (c.loop-read.invariant.taken file agrees)))
+    (sym (subst (λ n. drop n (g.B.Bits.left c.args.bits.now file) ≡ g.B.Bits.left c.loop-read.bits file) e (c.loop-read.invariant.bits.taken file agrees)))

@@ -1,12 +1,12 @@
-use Rattle.std.proofs.Common.{◌≡◌, ◌∙◌, ◌<◌, ◌≤◌, Option, Some, None, Result, Ok, [], drop, sym, ap, subst, arith}
+use Rattle.std.proofs.Common.{◌≡◌, ◌∙◌, ◌-◌, ◌<◌, ◌≤◌, Some, [], drop, sym, ap, subst, arith}
 use Rattle.std.specs.Prelude.{IfSome}
 use Rattle.dice_roll.specs.declared.answers.Roll.TheVariants.{Limit}
-use Rattle.zar_io.specs.declared.outside.Failed.{Failed}
 use Rattle.zar_io.specs.Trace.{World, Agrees}
-use Rattle.zar_io.proofs.TraceLemmas.{agrees_before, goes_on-more}
+use Rattle.zar_io.proofs.TraceLemmas.{agrees_before}
 use Rattle.weighted_roll.specs.WeightedRoll.{weighted_roll}
 use Rattle.weighted_roll.specs.inner.Walks.{StandsAt, WalkedOn}
 use Rattle.weighted_roll.specs.inner.Tables.{after_flips}
+use Rattle.dice_roll.proofs.Reading.{still_there, read_on}
 use Rattle.weighted_roll.proofs.Walking.{spent}
 use Rattle.weighted_roll.proofs.Taking.{took_each}
 use Rattle.weighted_roll.proofs.Stepping.{walked_none, taken_on}
@@ -34,7 +34,7 @@ returns-in-None-clause-taken g c file agrees =
     let left = g.B.Bits.left c.walk_on.new.bits file in
     let earlier = agrees_before file [] (g.B.Bits.answered c.loop-read.bits) (g.B.Bits.answered c.walk_on.new.bits) e.goes_on agrees in
     let t = subst (λ o. WalkedOn s.whole c.args.flips s.weights.items c.loop-read.read c.loop-read.number o w left) c.in-None.is (e.walked file agrees) in
-    took_each c.args.self.now c.args.flips _ _ _ (returns-in-None-clause-answer g c file agrees) (t.1 ∙ sym t.0 ∙ sym (c.loop-read.invariant.taken file earlier))
+    took_each c.args.self.now c.args.flips _ _ _ (returns-in-None-clause-answer g c file agrees) (t.1 ∙ sym t.0 ∙ sym (c.loop-read.invariant.bits.taken file earlier))
 
 -- ---- at a label
 
@@ -61,13 +61,9 @@ returns-in-Some-Leaf-default-clause-taken g c file agrees =
     let t = subst (λ o. WalkedOn s.whole c.args.flips s.weights.items c.loop-read.read c.loop-read.number o w left) n.is (e.walked file agrees) in
     let within = subst (λ o. IfSome o (λ p. (c.loop-read.read < p.1) × (p.1 ≤ c.args.flips))) n.is e.within in
     took_each c.args.self.now c.args.flips _ _ _ (returns-in-Some-Leaf-default-clause-answer g c file agrees)
-    (sym (taken_on c.loop-read.read n.after _ w left (c.loop-read.invariant.taken file earlier) t.1 (omega (arith, within.0))))
+    (sym (taken_on c.loop-read.read n.after _ w left (c.loop-read.invariant.bits.taken file earlier) t.1 (omega (arith, within.0))))
 
 -- ---- on
-
--- after the end no bit is answered
-still_there : {A : Type 0} {a : A} (o : Option A) → ◌≡◌ {A = Result (Option A) Failed} (Ok o) (Ok None) → o ≡ Some a → ⊥
-still_there o e f = cc
 
 pub loop-read-preserved : goal.loop-read-preserved
 loop-read-preserved g c =
@@ -87,13 +83,9 @@ loop-read-preserved g c =
       stands = subst (λ o. IfSome o (λ p. StandsAt s.whole s.depth s.weights.items c.walk_on.new.room p.1 p.0)) at e.stands;
       few = within.1;
       same = λ file agrees. i.same file (before file agrees) ∙ (walked file agrees).0;
-      taken = λ file agrees. taken_on c.loop-read.read n.after _ (w file) (left file) (i.taken file (before file agrees)) (walked file agrees).1 (omega (arith, within.0));
-      alive = λ had_ended. let no : ⊥ = still_there _ (e.stays_ended (i.ended ∙ had_ended)) at in absurd no;
-      fails = e.fails ∙ i.fails;
-      goes_on = goes_on-more [] (g.B.Bits.answered c.args.bits.now) (g.B.Bits.answered c.loop-read.bits) (g.B.Bits.answered c.walk_on.new.bits) i.goes_on e.goes_on;
-      ended = (rw n.is at e.ended) ∙ i.ended;
-      broken = e.broken ∙ i.broken;
-      source = e.same_source ∙ i.source;
+      bits = read_on g.B.Bits.answered g.B.Bits.left g.B.Bits.ended g.B.Bits.broken g.B.Bits.source c.args.bits.now c.loop-read.bits c.walk_on.new.bits c.loop-read.read (n.after - c.loop-read.read) n.after (omega (arith, within.0)) i.bits
+          (λ file agrees. sym (walked file agrees).1)
+          (λ had_ended. still_there _ (e.stays_ended had_ended) at) e.fails e.goes_on (rw n.is at e.ended) e.broken e.same_source;
     }
 
 -- ---- at the limit
@@ -112,4 +104,4 @@ pub returns-clause-taken : goal.returns-clause-taken
 returns-clause-taken g c file agrees =
     let e : c.loop-read.read ≡ c.args.flips = omega (arith, c.loop-read.invariant.few, c.loop-read-test.false) in
     took_each c.args.self.now c.args.flips _ _ _ (returns-clause-answer g c file agrees)
-    (sym (subst (λ n. drop n (g.B.Bits.left c.args.bits.now file) ≡ g.B.Bits.left c.loop-read.bits file) e (c.loop-read.invariant.taken file agrees)))
+    (sym (subst (λ n. drop n (g.B.Bits.left c.args.bits.now file) ≡ g.B.Bits.left c.loop-read.bits file) e (c.loop-read.invariant.bits.taken file agrees)))

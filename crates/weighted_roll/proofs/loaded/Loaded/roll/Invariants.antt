@@ -1,7 +1,6 @@
-use Rattle.std.proofs.Common.{◌≡◌, ◌-◌, ◌≤◌, [], drop}
-use Rattle.std.specs.Prelude.{IsTrue}
-use Rattle.zar_io.specs.GoesOn.{GoesOn}
-use Rattle.zar_io.specs.Trace.{World, Agrees, failures}
+use Rattle.std.proofs.Common.{◌≡◌, ◌-◌, ◌≤◌}
+use Rattle.zar_io.specs.Trace.{World, Agrees}
+use Rattle.dice_roll.proofs.Reading.{HasRead}
 use Rattle.weighted_roll.specs.WeightedRoll.{weighted_roll}
 use Rattle.weighted_roll.specs.inner.Walks.{rolls_on, Stands}
 use Rattle.weighted_roll.proofs.loaded.Loaded.roll.Given as goal
@@ -12,13 +11,7 @@ invariant-loop-read g l = record {
   few : l.read ≤ l.flips;
   same : (file : World) → Agrees file (g.B.Bits.answered l.bits) → weighted_roll l.table.weights.items l.flips (g.B.Bits.left l.initial.bits file)
       ≡ rolls_on l.table.whole l.flips l.table.weights.items l.read l.number (g.B.Bits.left l.bits file);
-  taken : (file : World) → Agrees file (g.B.Bits.answered l.bits) → drop l.read (g.B.Bits.left l.initial.bits file) ≡ g.B.Bits.left l.bits file;
-  alive : IsTrue (g.B.Bits.ended l.initial.bits) → l.read ≡ 0;
-  fails : failures (g.B.Bits.answered l.bits) ≡ failures (g.B.Bits.answered l.initial.bits);
-  goes_on : GoesOn [] (g.B.Bits.answered l.initial.bits) (g.B.Bits.answered l.bits);
-  ended : g.B.Bits.ended l.bits ≡ g.B.Bits.ended l.initial.bits;
-  broken : g.B.Bits.broken l.bits ≡ g.B.Bits.broken l.initial.bits;
-  source : g.B.Bits.source l.bits ≡ g.B.Bits.source l.initial.bits;
+  bits : HasRead g.B.Bits.answered g.B.Bits.left g.B.Bits.ended g.B.Bits.broken g.B.Bits.source l.initial.bits l.bits l.read;
 }
 
 abbrev pub decreases-loop-read : goal.decreases-loop-read
