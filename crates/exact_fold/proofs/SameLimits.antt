@@ -1,5 +1,5 @@
 -- What the masses of the forgetful program tend to, the masses of the program do.
-use Rattle.std.proofs.Common.{◌≡◌, ◌∙◌, ℕ, zero, suc, pos, Bool, true, false, cond, ◌&&◌, None, refl, sym, ap, subst}
+use Rattle.std.proofs.Common.{◌≡◌, ◌∙◌, ℕ, zero, suc, pos, Bool, true, false, cond, ◌&&◌, None, refl, ap, subst}
 use Rattle.std.specs.Prelude.{not, length, if◌then◌else◌}
 use Rattle.std.proofs.Math.Path.{fun_ext}
 use Rattle.gcl_core.specs.declared.answers.Limit.TheVariants.{Turns}
@@ -10,11 +10,11 @@ use Rattle.gcl_core.specs.weighing.Fractions.{Fraction, one, plus, AtMost}
 use Rattle.mass_fold.specs.Rows.{Rows}
 use Rattle.forgetting.specs.Liveness.{Names, no_names, both, reads, before_statement, before}
 use Rattle.forgetting.specs.Filling.{behind_statement}
-use Rattle.forgetting.specs.Forgetful.{forget, ends_with, forgetful_statement, forgetful, forgetful_arms, forgetful_of}
+use Rattle.forgetting.specs.Forgetful.{forget, forgetful_statement, forgetful, forgetful_arms, forgetful_of}
 use Rattle.forgetting.specs.SameMeaning.{SameMeaning}
 use Rattle.exact_fold.specs.InTheLimit.{TendsTo, RisesTo, IsExactInTheLimit, FailsInTheLimit}
-use Rattle.exact_fold.specs.Loops.{one_loops, any_loops, arm_loops, HasNoLoop}
-use Rattle.exact_fold.specs.Refused.{WhyRefused}
+use Rattle.exact_fold.specs.Loops.{one_loops, any_loops, arm_loops}
+use Rattle.exact_fold.specs.Refused.{HasNoLoop, WhyRefused}
 use Rattle.exact_fold.specs.inner.AsWritten.{RefusedAsWritten}
 use Rattle.exact_fold.specs.declared.error.ExactError.{ExactError}
 use Rattle.exact_fold.specs.declared.error.ExactError.TheVariants.{TooWide, TooManyStates, AllFailed, OutOfMemory}
