@@ -4,7 +4,11 @@ use report_text::LINE_BYTES;
 use std::alloc::{AllocError, Global};
 use std::marker::Model;
 
-// How many streams a batch has. The last batch may be shorter.
+// How many streams a batch of the first round has. Each round after it has batches twice as long, up to the most: the first lines
+// come soon, and long runs are seldom held up.
+pub const STREAMS_OF_A_FIRST_BATCH: u64 = 8;
+
+// The most streams of a batch. The last batch of a range may be shorter than the others of its round.
 pub const STREAMS_OF_A_BATCH: u64 = 16_384;
 
 // How many bytes a batch has room for: as many lines, each of the greatest length.

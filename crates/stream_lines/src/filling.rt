@@ -97,13 +97,14 @@ fn fill<'s, G: Gate>(
     }
 }
 
-// Where a batch of a round begins.
-pub(crate) fn batch_start(first: u64, to: u64, number: u64) -> u64
+// Where a batch of a round begins that has batches of this many streams.
+pub(crate) fn batch_start(first: u64, to: u64, size: u64, number: u64) -> u64
     requires order { first ≤ to }
+    requires size { size ≤ STREAMS_OF_A_BATCH }
     requires few { number ≤ MOST_WORKERS }
-    ensures { result ≡ batch_start first to number }
+    ensures { result ≡ batch_start first to size number }
 {
-    first + (to - first).min(STREAMS_OF_A_BATCH * number)
+    first + (to - first).min(number * size)
 }
 
 // The lines of the batch of this number.
@@ -111,6 +112,7 @@ fn fill_batch<'s, G: Gate>(
     job: &Job<'_, G>,
     home: &State<'s>,
     first: u64,
+    size: u64,
     number: usize,
     worker: &mut Worker<'s>,
 )
@@ -118,12 +120,13 @@ fn fill_batch<'s, G: Gate>(
     requires worker { IsWorkerOf home.now worker.old }
     requires from { job.now.range.now.from ≤ first }
     requires order { first ≤ job.now.range.now.to }
+    requires size { size ≤ STREAMS_OF_A_BATCH }
     requires number { number < MOST_WORKERS }
-    ensures { HasBatch home.now job.now.range.now first number (told_by worker.old) worker.new }
+    ensures { HasBatch home.now job.now.range.now first size number (told_by worker.old) worker.new }
 {
     let to = job.range.to;
-    let start = batch_start(first, to, number as u64);
-    let end = batch_start(first, to, number as u64 + 1);
+    let start = batch_start(first, to, size, number as u64);
+    let end = batch_start(first, to, size, number as u64 + 1);
     fill(
         job,
         home,
@@ -135,13 +138,14 @@ fn fill_batch<'s, G: Gate>(
     );
 }
 
-// The lines of a round that begins with this stream, a batch for each worker, one behind the other. Each worker works in a thread
-// of its own, where one can be made. The gate is told of each block before its first stream.
+// The lines of a round that begins with this stream, a batch of this many streams for each worker, one behind the other. Each worker
+// works in a thread of its own, where one can be made. The gate is told of each block before its first stream.
 pub(crate) fn fill_round<'s, R: Threads + Sync, G: Gate>(
     rt: &R,
     job: &Job<'_, G>,
     home: &State<'s>,
     first: u64,
+    size: u64,
     workers: &mut [Worker<'s>],
 )
     requires job { IsReadyJob job.now.limits.now job.now.range.now }
@@ -149,7 +153,8 @@ pub(crate) fn fill_round<'s, R: Threads + Sync, G: Gate>(
     requires count { length workers.old ≤ MOST_WORKERS }
     requires from { job.now.range.now.from ≤ first }
     requires order { first ≤ job.now.range.now.to }
-    ensures { HaveRound home.now job.now.range.now first workers.old workers.new }
+    requires size { size ≤ STREAMS_OF_A_BATCH }
+    ensures { HaveRound home.now job.now.range.now first size workers.old workers.new }
 {
     for_each_mut(
         rt,
@@ -157,8 +162,9 @@ pub(crate) fn fill_round<'s, R: Threads + Sync, G: Gate>(
         MOST_WORKERS as usize,
         &|number, w: &mut Worker<'_>|
             requires { IsReadyJob job.now.limits.now job.now.range.now × IsWorkerOf home.now w.now
-                × (job.now.range.now.from ≤ first) × (first ≤ job.now.range.now.to) × (number < MOST_WORKERS) }
-            ensures { HasBatch home.entry.now job.entry.now.range.now first number (told_by w.entry.now) w.exit.now }
-        { fill_batch(job, home, first, number, w) },
+                × (job.now.range.now.from ≤ first) × (first ≤ job.now.range.now.to)
+                × (size ≤ STREAMS_OF_A_BATCH) × (number < MOST_WORKERS) }
+            ensures { HasBatch home.entry.now job.entry.now.range.now first size number (told_by w.entry.now) w.exit.now }
+        { fill_batch(job, home, first, size, number, w) },
     );
 }

@@ -9,6 +9,7 @@ ghost use Rattle.stream_runs.specs.Jobs.{IsReadyJob};
 ghost use Rattle.stream_runs.specs.Ranges.{IsWorkers};
 ghost use Rattle.zar_io.specs.Trace.{Fails, written};
 
+use crate::batch::{STREAMS_OF_A_BATCH, STREAMS_OF_A_FIRST_BATCH};
 use crate::filling::{batch_start, fill_round};
 use crate::worker::Worker;
 use sampler_run::State;
@@ -31,8 +32,8 @@ fn put_round<'s, S: Sink>(sink: &mut S, workers: &[Worker<'s>]) -> Result<(), Fa
 }
 
 // Writes the lines of the streams of a range, round by round: each worker makes the lines of a batch, and the batches are then
-// written in their order. It takes no memory. The first write that fails ends it: a part of the front of the lines, and not all,
-// was appended then.
+// written in their order. They are short at first, and twice as long in each further round. It takes no memory. The first write that
+// fails ends it: a part of the front of the lines, and not all, was appended then.
 pub(crate) fn write_lines<'s, R: Threads + Sync, S: Sink, G: Gate>(
     rt: &R,
     sink: &mut S,
@@ -52,11 +53,13 @@ pub(crate) fn write_lines<'s, R: Threads + Sync, S: Sink, G: Gate>(
 {
     let to = job.range.to;
     let mut at = job.range.from;
+    let mut size = STREAMS_OF_A_FIRST_BATCH;
     while at < to {
-        let end = batch_start(at, to, workers.len() as u64);
-        fill_round(rt, job, home, at, workers);
+        let end = batch_start(at, to, size, workers.len() as u64);
+        fill_round(rt, job, home, at, size, workers);
         put_round(sink, workers)?;
         at = end;
+        size = (size * 2).min(STREAMS_OF_A_BATCH);
     }
     Ok(())
 }

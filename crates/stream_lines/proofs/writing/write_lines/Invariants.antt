@@ -2,12 +2,14 @@ use Rattle.std.proofs.Common.{◌≡◌, ◌-◌, ◌≤◌, ◌++◌, Bool, Lis
 use Rattle.gcl_core.specs.declared.answers.Answer.{Answer}
 use Rattle.sampler_run.specs.Held.{IsRestOf, set_back}
 use Rattle.zar_io.specs.Trace.{failures, written}
+use Rattle.stream_lines.specs.declared.batch.TheConstants.{STREAMS_OF_A_BATCH}
 use Rattle.stream_lines.specs.Lines.{lines_over}
 use Rattle.stream_lines.specs.inner.Rounds.{IsWorkerOf}
 use Rattle.stream_lines.proofs.writing.write_lines.Given as goal
 
 abbrev pub invariant-loop-at : goal.invariant-loop-at
 invariant-loop-at g l = (l.job.range.now.from ≤ l.at) × (l.at ≤ l.job.range.now.to)
+    × (1 ≤ l.size) × (l.size ≤ STREAMS_OF_A_BATCH)
     × All (IsWorkerOf l.home) l.workers
     × (length l.workers ≡ length l.initial.workers)
     × (failures (g.S.Sink.answered l.sink) ≡ failures (g.S.Sink.answered l.initial.sink))
