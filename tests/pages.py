@@ -153,13 +153,13 @@ def of_report(zar, folder):
     yield "none where a limit cuts nothing off", "mass settled" not in depths
     yield from of_refused(zar, folder)
     (folder / "wrong.gcl").write_text("x := 1;\nreturn y;", encoding="utf-8")
-    excerpt = "report: error E8 unknown name at 8\nwrong.gcl, line 2, column 1\n  return y;\n  ^\n"
+    excerpt = "report: error E8 unknown name at 8\n  wrong.gcl, line 2, column 8\n    return y;\n           ^\n  'y' is never set\n"
     yield "a text that is refused", report(zar, folder / "wrong.gcl") == excerpt
     (folder / "long.gcl").write_text("x := 0" + " + 1" * 10_000 + " + & + 1;", encoding="utf-8")
-    around = "error E2 bad byte at 40009\nlong.gcl, line 1, column 40010\n  " + "+ 1 " * 12 + "+ & + 1;\n  " + " " * 50 + "^\n"
-    yield "a long line is cut", report(zar, folder / "long.gcl") == f"report: {around}"
+    around = "error E2 bad byte at 40009\n  long.gcl, line 1, column 40010\n    " + "+ 1 " * 12 + "+ & + 1;\n    " + " " * 50 + "^\n"
+    yield "a long line is cut", report(zar, folder / "long.gcl") == f"report: {around}  'and' joins two truths\n"
     (folder / "never.gcl").write_text("observe false; return 1;", encoding="utf-8")
-    yield "masses that are refused", "<pre>error E15 every round fails</pre>" in report(zar, folder / "never.gcl")
+    yield "masses that are refused", "<pre>error E15 every round fails\n  no run passes the observations, and nothing limits the rounds</pre>" in report(zar, folder / "never.gcl")
     yield "no file", report(zar, folder / "none") == f"report: there is no {folder / 'none'}\n"
     yield "a number out of range", report(zar, EXAMPLES / "coin.gcl", "--runs", "0").startswith("report: each number lies between")
 
@@ -203,7 +203,7 @@ def of_server(zar):
             answers = asked(address, "/page", form, **{name: it}), asked(address, "/", **{name: it})
             yield f"nothing for {name} {it}", [status for status, _ in answers] == [403, 403]
         refused = asked(address, "/page", {**form, "text": "return y;"})[1]
-        yield "a text that is refused", "error E8 unknown name at 0\nprogram.gcl, line 1, column 1\n  return y;" in refused
+        yield "a text that is refused", "error E8 unknown name at 0\n  program.gcl, line 1, column 8\n    return y;\n           ^\n  &#x27;y&#x27; is never set<" in refused
         for name, it in WRONG:
             yield f"{name} {it} is refused", asked(address, "/page", {**form, name: it})[0] == 400
         yield "a form that is too long", asked(address, "/page", {}, Content_Length="300000")[0] == 413

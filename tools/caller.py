@@ -1,11 +1,14 @@
 """Calls of `zar` over one text, and what they answer."""
 import re
 import subprocess
+import tempfile
 import typing
 
 import printed
 
-PLACED = re.compile(r"error E\d+ .* at (\d+)")
+PLACE = re.compile(r"  /dev/stdin(, line \d+, column \d+)")
+# Where more is said of a refusal.
+MORE = "  'zar help "
 # What is refused so may be told by another command: by `exact`, whose fractions may be narrower, or by `enclose`, which rounds.
 OTHERWISE = re.compile("error E1[347] ")
 
@@ -33,7 +36,7 @@ class Told(typing.NamedTuple):
 
 
 class Caller:
-    """The program `zar` over one text, which it reads from its standard input."""
+    """The program `zar` over one text, which it reads from its standard input. That is a file, so that it can be read once more for a hint."""
 
     def __init__(self, zar, name, text):
         self.zar, self.name, self.text, self.kept = zar, name, text, {}
@@ -41,16 +44,19 @@ class Caller:
     def begin(self):
         """Another part of a page begins."""
 
-    def run(self, words):
-        """The run of these words, which has ended."""
-        return subprocess.run(words, input=self.text, capture_output=True, check=False)
+    def run(self, words, text):
+        """The run of these words on the text, which has ended."""
+        return subprocess.run(words, stdin=text, capture_output=True, check=False)
 
     def said(self, *call):
         """What a command with its options prints. One that fails is Silent."""
         if call not in self.kept:
-            run = self.run([self.zar, call[0], "/dev/stdin", *call[1:]])
+            with tempfile.TemporaryFile() as text:
+                text.write(self.text)
+                text.flush()
+                run = self.run([self.zar, call[0], "/dev/stdin", *call[1:], "--explain"], text)
             if run.returncode:
-                raise Silent(self.placed(run.stderr.decode().strip()) or f"it ended with status {run.returncode}")
+                raise Silent(self.refusal(run.stderr.decode()) or f"it ended with status {run.returncode}")
             self.kept[call] = run.stdout.decode()
         return self.kept[call]
 
@@ -63,16 +69,13 @@ class Caller:
             except Silent as why:
                 if not OTHERWISE.match(str(why)):
                     raise
-                refused.append(f"{self.typed(*call)} is refused: {why}.")
+                refused.append(f"{self.typed(*call)} is refused: {str(why).splitlines()[0]}.")
         raise Refused(" ".join(refused))
 
-    def placed(self, why):
-        """A refusal, with the line of the text that it speaks of."""
-        found = PLACED.fullmatch(why)
-        if not found:
-            return why
-        line, column, excerpt = printed.placed(self.text, int(found[1]))
-        return f"{why}\n{self.name}, line {line}, column {column}\n{excerpt}"
+    def refusal(self, told):
+        """What is said of a refusal of this text."""
+        lines = [it for it in told.splitlines() if not it.startswith(MORE)]
+        return "\n".join(PLACE.sub(lambda place: f"  {self.name}{place[1]}", it) for it in lines)
 
     def typed(self, command, *options):
         """The call as one types it."""

@@ -6,4 +6,3 @@ import sys
 TOP = pathlib.Path(__file__).resolve().parent.parent
 sys.path[:0] = [str(it) for it in (TOP / "python", *(it / "lib/python3/dist-packages" for it in TOP.parents[2:3])) if (it / "zar").is_dir()]
 from zar.printed import Bounds, Limit, Rest, bits, bounds, order, quoted, row, rows, words
-from zar.refusals import placed
