@@ -1,6 +1,6 @@
 //! What is wrong with the words of a call, and what would be right.
 
-use crate::quoting::quoted;
+use crate::quoting::{front, quoted};
 use std::alloc::{AllocError, Global};
 use terminal::Nearest;
 use terminal::excerpt::marked;
@@ -199,6 +199,7 @@ fn misplaced(takes: &[Setting], words: &[String], at: usize, word: &str) -> Opti
         (Some(before), _) if stands_alone(takes, before.as_str()) => {
             Some("the option before this takes no value")
         }
+        (_, Some((Verb::Check, _, _, _))) => Some("one file at a time; tools/lint checks many"),
         (_, Some((_, Form::Name, _, _))) => Some("one file at a time: an option begins with --"),
         _ => Some("an option begins with --"),
     }
@@ -226,6 +227,7 @@ fn of_option(
     }
     if let Some((name, value)) = word.split_once('=') {
         if setting_of(takes, name).is_some() {
+            let value = front(alloc, value)?;
             return format!(in alloc; "an option and its value are two words: {name} {value}");
         }
     }
