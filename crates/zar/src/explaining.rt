@@ -6,10 +6,11 @@ use gcl_core::refusals::BAD_WORDS;
 use std::alloc::{AllocError, Global};
 use std::fs::OpenFile;
 use std::io::Eprint;
-use std::{fs, rt};
+use std::rt::Env;
+use std::{env, fs, rt};
 use terminal::excerpt::{excerpt, shown};
 use terminal::find_wrong;
-use zar_cli::{Form, REFUSALS};
+use zar_cli::{EXPLAIN, Form, REFUSALS};
 use zar_io::{Files, HostFiles, OpenError};
 
 // The code of a refusal and its place, if its line has them.
@@ -222,4 +223,11 @@ pub fn explain<R: rt::Files + AllocGlobal + Eprint>(rt: &R, words: &[String], li
             }
         }
     }
+}
+
+/// What a refusal means is shown: a person reads standard error at a terminal, or has asked for it.
+pub fn is_explained<R: Env + AllocGlobal>(rt: &R, words: &[String], err_is_seen: bool) -> bool {
+    err_is_seen
+        || words.iter().any(|word| word.as_str() == EXPLAIN.0)
+        || env::var(rt, "ZAR_EXPLAIN").is_ok_and(|value| value.as_str() == "1")
 }

@@ -14,47 +14,27 @@ mod calls;
 mod explaining;
 mod on_host;
 mod quoting;
+mod words;
 
-use crate::explaining::explain;
+use crate::explaining::{explain, is_explained};
 use crate::on_host::on_host;
+use crate::words::{status_without, words};
 use std::io::IsTerminal;
 use std::process::ExitCode;
-use std::rt::Env;
-use std::{env, io};
 use terminal::Progress;
-use zar_cli::statuses::{NO_WORDS, OUT_OF_MEMORY};
-use zar_cli::{Call, EXPLAIN};
-
-// The words after the program's name, or the status that says why there are none.
-fn words<R: Env + AllocGlobal>(rt: &R) -> Result<Vec<String>, u8> {
-    let all = env::args(rt).map_err(|error| match error.kind() {
-        io::ErrorKind::OutOfMemory => OUT_OF_MEMORY,
-        _ => NO_WORDS,
-    })?;
-    let mut words = Vec::new(rt.alloc());
-    for word in all.skip(1) {
-        words.push(word).map_err(|_| OUT_OF_MEMORY)?;
-    }
-    Ok(words)
-}
-
-// What a refusal means is shown: a person reads standard error at a terminal, or has asked for it.
-fn is_explained<R: Env + AllocGlobal>(rt: &R, words: &[String], err_is_seen: bool) -> bool {
-    err_is_seen
-        || words.iter().any(|word| word.as_str() == EXPLAIN.0)
-        || env::var(rt, "ZAR_EXPLAIN").is_ok_and(|value| value.as_str() == "1")
-}
+use zar_cli::Call;
+use zar_cli::statuses::NO_WORDS;
 
 fn main(rt: HostRuntime) -> ExitCode {
+    let out_is_seen = rt.stdout().is_terminal();
+    let err_is_seen = rt.stderr().is_terminal();
     let words = match words(&rt) {
         Ok(words) => words,
-        Err(status) => return ExitCode::from(status),
+        Err(why) => return ExitCode::from(status_without(&rt, &why, err_is_seen)),
     };
     if words.len() >= 1 << 32 {
         return ExitCode::from(NO_WORDS);
     }
-    let out_is_seen = rt.stdout().is_terminal();
-    let err_is_seen = rt.stderr().is_terminal();
     let call = Call::of(rt.alloc(), words.as_slice());
 
     // The lines of runs tell themselves how far they are where they are seen.
