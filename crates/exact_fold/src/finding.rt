@@ -54,8 +54,8 @@ fn fractions(
 ) -> Result<BTreeMap<u64, Frac>, SettleError> {
     let mut fractions = BTreeMap::new(alloc);
     for (number, part) in residues {
-        let f = moduli.fraction(part).ok_or(SettleError::TooWide)?;
-        fractions.insert(*number, f)?;
+        let fraction = moduli.fraction(part).ok_or(SettleError::TooWide)?;
+        fractions.insert(*number, fraction)?;
     }
     Ok(fractions)
 }
@@ -70,29 +70,29 @@ impl Seen {
     }
 
     // The number of a state, which is a new one where it was not seen.
-    fn number(&mut self, alloc: Global, s: &State) -> Result<u64, SettleError> {
-        if let Some(number) = self.numbers.get(s) {
+    fn number(&mut self, alloc: Global, state: &State) -> Result<u64, SettleError> {
+        if let Some(number) = self.numbers.get(state) {
             return Ok(*number);
         }
         let number = self.states.len() as u64;
-        self.numbers.insert(s.copy(alloc)?, number)?;
-        self.states.push(s.copy(alloc)?)?;
+        self.numbers.insert(state.copy(alloc)?, number)?;
+        self.states.push(state.copy(alloc)?)?;
         Ok(number)
     }
 
     /// The states of a table are seen.
     pub fn enlist(&mut self, alloc: Global, table: &Table) -> Result<(), SettleError> {
-        for (s, _) in &table.states {
-            self.number(alloc, s)?;
+        for (state, _) in &table.states {
+            self.number(alloc, state)?;
         }
         Ok(())
     }
 
     /// One turn leads from a state to a table.
     pub fn lead(&mut self, alloc: Global, from: u64, table: &Table) -> Result<(), SettleError> {
-        for (s, f) in &table.states {
-            let to = self.number(alloc, s)?;
-            self.parts.push((from, to, *f))?;
+        for (state, weight) in &table.states {
+            let to = self.number(alloc, state)?;
+            self.parts.push((from, to, *weight))?;
         }
         Ok(())
     }
@@ -102,10 +102,10 @@ impl Seen {
     fn leaving(&self, alloc: Global) -> Result<BTreeMap<u64, bool>, SettleError> {
         let mut sums = BTreeMap::new(alloc);
         let mut sources: BTreeMap<u64, Vec<u64>> = BTreeMap::new(alloc);
-        for (from, to, f) in &self.parts {
+        for (from, to, weight) in &self.parts {
             let sum = match sums.get(from) {
-                Some(old) => f.add(old).ok_or(SettleError::TooWide)?,
-                None => *f,
+                Some(old) => weight.add(old).ok_or(SettleError::TooWide)?,
+                None => *weight,
             };
             sums.insert(*from, sum)?;
             let mut list = match sources.remove(to) {
@@ -152,17 +152,17 @@ impl Seen {
         leaving: &BTreeMap<u64, bool>,
     ) -> Result<BTreeMap<u64, Residues>, SettleError> {
         let mut entered = BTreeMap::new(alloc);
-        for (s, f) in &start.states {
-            if let Some(number) = self.numbers.get(s) {
+        for (state, weight) in &start.states {
+            if let Some(number) = self.numbers.get(state) {
                 if leaving.contains_key(number) {
-                    entered.insert(*number, moduli.of(f))?;
+                    entered.insert(*number, moduli.of(weight))?;
                 }
             }
         }
         let mut parts = BTreeMap::new(alloc);
-        for (from, to, f) in &self.parts {
+        for (from, to, weight) in &self.parts {
             if leaving.contains_key(from) && leaving.contains_key(to) {
-                parts.insert((*from, *to), moduli.of(f))?;
+                parts.insert((*from, *to), moduli.of(weight))?;
             }
         }
         let mut states = Vec::new(alloc);
@@ -199,14 +199,14 @@ impl Seen {
         let numbers = self.visits(alloc, start, &leaving)?;
         let mut visits = Table::new(alloc, start.vars);
         let mut closed = Table::new(alloc, start.vars);
-        for (s, number) in &self.numbers {
+        for (state, number) in &self.numbers {
             match numbers.get(number) {
-                Some(f) => {
-                    if f.num() != 0 {
-                        put(&mut visits, s.copy(alloc)?, *f)?;
+                Some(weight) => {
+                    if weight.num() != 0 {
+                        put(&mut visits, state.copy(alloc)?, *weight)?;
                     }
                 }
-                None => put(&mut closed, s.copy(alloc)?, Frac::of(1, 1))?,
+                None => put(&mut closed, state.copy(alloc)?, Frac::of(1, 1))?,
             }
         }
         if visits.vars != start.vars || closed.vars != start.vars {

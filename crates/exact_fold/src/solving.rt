@@ -34,11 +34,11 @@ const NUMBERS: u64 = 1 << 32;
 fn without(alloc: Global, row: &Row, state: u64) -> Result<(Row, Residues), SettleError> {
     let mut others = Vec::with_capacity(alloc, row.len())?;
     let mut part = Residues::zero();
-    for (to, f) in row {
+    for (to, weight) in row {
         if *to == state {
-            part = *f;
+            part = *weight;
         } else {
-            others.push((*to, *f))?;
+            others.push((*to, *weight))?;
         }
     }
     Ok((others, part))
