@@ -108,6 +108,11 @@ static inline const char *zar_ending(uint8_t end) {
 zar_said zar_draws(const uint8_t *text, size_t text_length, uint64_t seed, uint64_t first, const zar_limits *limits,
                    int64_t *values, size_t values_length, uint8_t *ends, size_t ends_length);
 
+/* The lines of `zar tally`: how often each outcome comes on the streams from `from` on and below `to`, at most 2^40, each with its first
+ * `budget` bits. It counts in the caller's thread, with no memory for each stream; parts of a range can be counted by several. */
+zar_said zar_tally(const uint8_t *text, size_t text_length, uint64_t seed, uint64_t from, uint64_t to, const zar_limits *limits,
+                   uint8_t *lines, size_t capacity);
+
 /* How a run ended: its value, or 0 where it has none; how many bits it read; and which end it is. */
 typedef struct {
     int64_t value;

@@ -66,6 +66,7 @@ CALLS = {
     "zar_explain": (*TEXT, ctypes.c_uint8, ctypes.c_uint32, *ARRAY),
     "zar_cost": (*TEXT, NUMBER, NUMBER, NUMBER, *ARRAY),
     "zar_draws": (*TEXT, NUMBER, NUMBER, ctypes.POINTER(Limits), *ARRAY, *ARRAY),
+    "zar_tally": (*TEXT, NUMBER, NUMBER, NUMBER, ctypes.POINTER(Limits), *ARRAY),
     "zar_run": (*TEXT, *TEXT, NUMBER, NUMBER, NUMBER, ctypes.POINTER(Ran)),
     "zar_draws_in_a_row": (*TEXT, NUMBER, NUMBER, ctypes.POINTER(Limits), *ARRAY, *ARRAY, ctypes.POINTER(NUMBER)),
     "zar_roll": (*ARRAY, NUMBER, NUMBER, ctypes.POINTER(RollLimits), *ARRAY, *ARRAY),

@@ -100,11 +100,15 @@ def line_calls(library, text, rng):
     all_turns = rng.random() < 0.5
     all_limits = ["--turns", str(turns), "--attempts", str(attempts or 1), "--rounds", str(rounds or 1)]
     given = (text, len(text))
+    seed, first, budget = rng.randrange(2**64), rng.choice([0, 17, 2**64 - 71]), rng.choice([0, 5, 65536])
+    runs = library.Limits(budget, turns, attempts or 1, rounds or 1)
     return [
         (library.zar_show, given, ["show", "p.gcl"]),
         (library.zar_code, given, ["code", "p.gcl"]),
         (library.zar_exact, given, ["exact", "p.gcl"]),
         (library.zar_mass, (*given, turns, attempts, rounds), ["mass", "p.gcl", "--turns", str(turns), *limits]),
+        (library.zar_tally, (*given, seed, first, first + 70, runs), ["tally", "p.gcl", "--seed", str(seed), "--from", str(first), "--to", str(first + 70),
+                                                                      "--budget", str(budget), *all_limits]),
         (library.zar_posterior, (*given, turns), ["posterior", "p.gcl", "--turns", str(turns)]),
         (library.zar_enclose, (*given, turns, attempts, rounds, all_turns), ["enclose", "p.gcl", "--turns", str(turns), *limits, *["--all-turns"] * all_turns]),
         (library.zar_cost, (*given, turns, attempts or 1, rounds or 1), ["cost", "p.gcl", *all_limits]),

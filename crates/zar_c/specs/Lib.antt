@@ -1,5 +1,6 @@
 pub mod Places
 pub mod Draws
+pub mod Counts
 pub mod Rolls
 pub mod Runs
 pub mod Said

@@ -2,6 +2,7 @@
 
 ghost use Rattle.std.specs.Prelude.{◌≡◌, ◌↔◌, IsTrue};
 ghost use Rattle.gcl_core.specs.meaning.LimitRange.{InRange};
+ghost use Rattle.zar_c.specs.Counts.{CanCount};
 ghost use Rattle.zar_c.specs.Draws.{CanDraw, CanDrawInARow, limits_of};
 ghost use Rattle.zar_c.specs.Places.{CanFill};
 ghost use Rattle.zar_c.specs.Rolls.{CanRoll};
@@ -9,6 +10,7 @@ ghost use Rattle.zar_c.specs.Rolls.{CanRoll};
 use dice_roll::MOST_FLIPS;
 use gcl_core::Limits;
 use gcl_core::rules::MOST_LIMIT;
+use stream_runs::MOST_STREAMS;
 use weighted_roll::are_weights;
 use zar_io::MOST_BUDGET;
 
@@ -71,6 +73,16 @@ pub(crate) fn can_draw_in_a_row(limits: &ZarLimits, values: usize, ends: usize) 
     ensures { IsTrue result ↔ CanDrawInARow limits.now values ends }
 {
     is_in_range(&run_limits(limits)) && limits.budget <= MOST_BUDGET && ends == values
+}
+
+// Whether the runs on the streams of a range can be counted: the limits are in range, and the range can be gone through.
+pub(crate) fn can_count(limits: &ZarLimits, from: u64, to: u64) -> bool
+    ensures { IsTrue result ↔ CanCount limits.now from to }
+{
+    is_in_range(&run_limits(limits))
+        && from <= to
+        && to - from <= MOST_STREAMS
+        && limits.budget <= MOST_BUDGET
 }
 
 // Whether rolls can be made: a roll may have the weights, the flips are in range, and the places can be filled.

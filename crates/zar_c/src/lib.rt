@@ -14,6 +14,8 @@
 #![tactic(auto)]
 
 mod asking;
+mod counting;
+mod counts;
 mod drawing;
 mod explaining;
 mod masses;
@@ -29,6 +31,7 @@ mod texts;
 mod weighing;
 
 pub use asking::{ZarLimits, ZarRollLimits};
+pub use counts::zar_tally;
 pub use drawing::zar_draws;
 pub use explaining::zar_explain;
 pub use masses::{zar_cost, zar_enclose, zar_exact, zar_mass, zar_posterior};

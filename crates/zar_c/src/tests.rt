@@ -3,7 +3,7 @@
 use crate::{
     DONE, MASS_REFUSED, NUMBERS_REFUSED, TEXT_REFUSED, ZarLimits, ZarRan, ZarRollLimits, zar_check,
     zar_code, zar_cost, zar_draws, zar_draws_in_a_row, zar_enclose, zar_explain, zar_mass,
-    zar_posterior, zar_roll, zar_run, zar_show, zar_version,
+    zar_posterior, zar_roll, zar_run, zar_show, zar_tally, zar_version,
 };
 use std::test::Fail;
 
@@ -134,6 +134,18 @@ fn encloses(rt: HostRuntime) -> Result<(), Fail> {
     );
     assert_eq!(rt; said.status, MASS_REFUSED);
     assert_eq!(rt; said.code, 15);
+    Ok(())
+}
+
+// Those of the documents: the first draws of the seed 1 are 4, 1 and 4.
+#[test]
+fn tallies(rt: HostRuntime) -> Result<(), Fail> {
+    let mut lines = [0u8; 36];
+    let said = zar_tally(rt.alloc(), DIE, 1, 0, 3, &USUAL, &mut lines);
+    assert_eq!(rt; said.status, DONE);
+    assert_eq!(rt; lines, *b"value 1 count 1\nvalue 4 count 2\n\0\0\0\0");
+    let said = zar_tally(rt.alloc(), DIE, 1, 3, 2, &USUAL, &mut lines);
+    assert_eq!(rt; said.status, NUMBERS_REFUSED);
     Ok(())
 }
 

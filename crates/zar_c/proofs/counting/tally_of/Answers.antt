@@ -1,0 +1,13 @@
+use Rattle.gcl_core.specs.meaning.Runs.{run_on}
+use Rattle.gcl_core.specs.meaning.Views.{source_of}
+use Rattle.zar_c.proofs.counting.tally_of.Goals as goal
+
+pub returns : goal.returns
+returns c =
+    let p = source_of c.args.program.now in
+    let l = c.args.l.now in
+    record {
+      rows = c.in_ok-found.found;
+      counted = c.in_ok-found.ensures.rows (run_on p l) (c.in_ok-sampler.ensures.runs l c.requires.limits);
+      lines = c.in_ok-text.ensures;
+    }
