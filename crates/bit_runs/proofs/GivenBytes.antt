@@ -1,5 +1,5 @@
 -- The bits that are left of some bytes, as one is taken up and gives its bits.
-use Rattle.std.proofs.Common.{◌≡◌, ◌<◌, ◌+◌, ℕ, List, [], length, get_or, refl}
+use Rattle.std.proofs.Common.{◌≡◌, ◌<◌, ◌≤◌, ◌+◌, ℕ, Bool, false, List, [], drop, length, get_or, refl, sym, ap, subst, arith}
 use Rattle.std.proofs.Math.Seq.{drop-length}
 use Rattle.std.proofs.lemmas.List.{drop_more}
 use Rattle.zar_io.specs.FileBits.{low_bits, file_bits, bits_left}

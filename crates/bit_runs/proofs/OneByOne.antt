@@ -13,7 +13,7 @@ use Rattle.sampler_run.specs.Leaving.{HasRead}
 use Rattle.sampler_run.specs.Telling.{used_in}
 use Rattle.stream_runs.specs.Ends.{end_of, value_of}
 use Rattle.stream_runs.proofs.Slots.{written_more}
-use Rattle.bit_runs.specs.Rows.{AreInARow, left_after}
+use Rattle.bit_runs.specs.Rows.{AreInARow, AreOf, left_after}
 use Rattle.bit_runs.proofs.Alike.{value_alike, end_alike}
 
 -- ---- what runs in a row give

@@ -157,7 +157,7 @@ fn a_front_stands_before_the_lines(rt: HostRuntime) -> Result<(), Fail> {
     let alloc = rt.alloc();
     let p = program(alloc, "return 7;")?;
     let range = streams(5, 7, 0, 2);
-    let want = b"the front\nvalue 7 bits 0\nvalue 7 bits 0\n";
+    let want: &[u8] = b"the front\nvalue 7 bits 0\nvalue 7 bits 0\n";
     for room in 0..=want.len() {
         assert!(rt; writes(&rt, alloc, &p, &range, b"the front\n", want, room)?);
     }

@@ -40,9 +40,9 @@ fn main(rt: HostRuntime) -> ExitCode {
     if words.len() >= 1 << 32 {
         return ExitCode::from(NO_WORDS);
     }
-    let call = Call::of(rt.alloc(), words.as_slice());
-
-    let task = task_of(&rt, &call, out_is_seen, err_is_seen);
+    let read = Call::of(rt.alloc(), words.as_slice());
+    let call = &read;
+    let task = task_of(&rt, call, out_is_seen, err_is_seen);
     let progress = Progress::new(&rt, task);
     let work = ||
         requires { IsRead call.now }
@@ -50,7 +50,7 @@ fn main(rt: HostRuntime) -> ExitCode {
         let (status, _files, _out, err) = on_host(
             &rt,
             rt.alloc(),
-            &call,
+            call,
             rt.stdout(),
             rt.stderr(),
             &progress,

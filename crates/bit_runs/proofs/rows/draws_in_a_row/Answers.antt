@@ -1,4 +1,4 @@
-use Rattle.std.proofs.Common.{◌≡◌, [], w64, to_z, of_z, refl, sym, subst, ◌∙◌, arith, rules}
+use Rattle.std.proofs.Common.{◌≡◌, ◌<◌, ◌≤◌, ◌+◌, [], w64, to_z, of_z, refl, sym, subst, ◌∙◌, arith, rules}
 use Rattle.std.proofs.lemmas.Int.{to_z-of_z}
 use Rattle.gcl_core.specs.meaning.Runs.{reads, run_on}
 use Rattle.gcl_core.specs.meaning.Views.{source_of}

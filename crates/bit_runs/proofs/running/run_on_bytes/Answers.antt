@@ -1,4 +1,4 @@
-use Rattle.std.proofs.Common.{None, Bool, List, subst}
+use Rattle.std.proofs.Common.{[], None, Bool, List, sym, subst}
 use Rattle.gcl_core.specs.meaning.Runs.{run_on}
 use Rattle.gcl_core.specs.meaning.Views.{source_of}
 use Rattle.sampler_run.specs.Held.{Ahead, run_begun}

@@ -1,4 +1,4 @@
-use Rattle.std.proofs.Common.{◌∙◌, [], drop, false, refl, sym, rules}
+use Rattle.std.proofs.Common.{◌≡◌, ◌∙◌, [], drop, false, refl, sym, rules, arith}
 use Rattle.zar_io.proofs.FileBitsLemmas.{bits_left-bit}
 use Rattle.bit_runs.proofs.GivenBytes.{no_byte}
 use Rattle.bit_runs.proofs.byte_bits.ByteBitsBits.next.Goals as goal
