@@ -6,7 +6,7 @@ use std::io::Eprint;
 use std::time::Clock;
 use zar_io::{Failed, Sink};
 
-/// A sink that writes to another. Where what it writes is seen beside the line of progress, it ends that line first.
+/// A sink that writes to another. Where what it writes is seen beside the line of progress, it takes the line away first.
 #[derive(Drop)]
 pub struct WipingSink<'p, S: Sink + Drop, R: Clock + Eprint> {
     sink: S,
@@ -32,7 +32,7 @@ impl<S: Sink + Drop, R: Clock + Eprint> Sink for WipingSink<'_, S, R> {
 
     fn write(&mut self, piece: &[u8]) -> Result<usize, Failed> {
         if self.is_seen {
-            self.progress.end();
+            self.progress.wipe();
         }
         self.sink.write(piece)
     }

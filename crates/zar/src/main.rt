@@ -10,22 +10,17 @@
 //! person, as `explain` and the line of progress do.
 #![tactic(auto)]
 
-ghost use Rattle.zar_cli.specs.Reading.{IsRead};
-
 mod calls;
 mod explaining;
 mod on_host;
 mod quoting;
-mod watching;
 mod words;
 
 use crate::explaining::{explain, is_explained};
 use crate::on_host::on_host;
-use crate::watching::task_of;
 use crate::words::{status_without, words};
 use std::io::IsTerminal;
 use std::process::ExitCode;
-use std::thread;
 use terminal::Progress;
 use zar_cli::Call;
 use zar_cli::statuses::NO_WORDS;
@@ -40,30 +35,25 @@ fn main(rt: HostRuntime) -> ExitCode {
     if words.len() >= 1 << 32 {
         return ExitCode::from(NO_WORDS);
     }
-    let read = Call::of(rt.alloc(), words.as_slice());
-    let call = &read;
-    let task = task_of(&rt, call, out_is_seen, err_is_seen);
-    let progress = Progress::new(&rt, task);
-    let work = ||
-        requires { IsRead call.now }
-    {
-        let (status, _files, _out, err) = on_host(
-            &rt,
-            rt.alloc(),
-            call,
-            rt.stdout(),
-            rt.stderr(),
-            &progress,
-            out_is_seen,
-        );
-        progress.end();
-        (status, err)
-    };
-    let (status, err) = if progress.is_seen() {
-        thread::join(&rt, || progress.watch(), work).1
+    let call = Call::of(rt.alloc(), words.as_slice());
+
+    // The lines of runs tell themselves how far they are where they are seen.
+    let streams = if err_is_seen && !(out_is_seen && call.writes_runs()) {
+        call.streams()
     } else {
-        work()
+        None
     };
+    let progress = Progress::new(&rt, streams);
+    let (status, _files, _out, err) = on_host(
+        &rt,
+        rt.alloc(),
+        &call,
+        rt.stdout(),
+        rt.stderr(),
+        &progress,
+        out_is_seen,
+    );
+    progress.wipe();
     if is_explained(&rt, call.words(), err_is_seen) {
         explain(&rt, call.words(), err.kept());
     }
