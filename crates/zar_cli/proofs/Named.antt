@@ -8,6 +8,7 @@ use Rattle.zar_cli.specs.declared.command.Command.{Command}
 use Rattle.zar_cli.specs.declared.command.Command.TheVariants.{Checked, Show, Gen, Fast, Roll, Help}
 use Rattle.zar_cli.specs.declared.command.Source.{Source}
 use Rattle.zar_cli.specs.declared.command.Source.TheVariants.{File, Stream}
+use Rattle.zar_cli.specs.declared.command.Work.TheVariants.{Forgetful}
 use Rattle.zar_cli.specs.Needs.{names_in, takes_memory}
 use Rattle.zar_cli.specs.Forms.{CallWord}
 use Rattle.zar_cli.specs.declared.settings.TheConstants.{BITS}
@@ -48,3 +49,8 @@ pub keeps_bits : (labels flips : ℕ) (source : Option Source) → NamesBits sou
 keeps_bits labels flips (Some (File bits)) h = omega arith
 keeps_bits labels flips (Some (Stream seed stream budget)) h = absurd h
 keeps_bits labels flips None h = absurd h
+
+-- a text that is shown keeps the name of its file, as it is written and as its forgetful program
+pub keeps_file : (forgetful : Bool) (program : CallWord) → KeepsWords (if forgetful then Checked program Forgetful else Show program)
+keeps_file true program = omega arith
+keeps_file false program = omega arith

@@ -8,5 +8,5 @@ use Rattle.zar_cli.proofs.working.forgetful_text_of.Goals as goal
 pub returns : goal.returns
 returns c =
     let text =
-    c.in_ok-text.ensures ∙ ap (λ (q : Program). canonical_text (source_of q)) c.program.ensures.same ∙ ap canonical_text c.in_ok-forgetful.ensures in
+    c.in_ok-text.ensures.text ∙ ap (λ (q : Program). canonical_text (source_of q)) c.program.ensures.same ∙ ap canonical_text c.in_ok-forgetful.ensures in
     record { gives = λ file. ap (λ t. Ok (Shown t)) (c.of.ensures ∙ text) }
