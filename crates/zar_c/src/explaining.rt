@@ -31,7 +31,7 @@ fn printable(alloc: Global, words: &str) -> Result<String, AllocError> {
 fn find_hint(alloc: Global, text: &[u8], code: u8, place: u32) -> Result<Option<Hint>, AllocError> {
     match find_wrong(alloc, text, code, place as usize)? {
         Some(found) => Ok(Some(Hint {
-            place: found.from as u32,
+            place: u32::try_from(found.from).unwrap_or(u32::MAX),
             words: printable(alloc, found.said.as_str())?,
         })),
         None => Ok(None),

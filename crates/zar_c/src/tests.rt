@@ -119,10 +119,10 @@ fn draws_in_a_row(rt: HostRuntime) -> Result<(), Fail> {
 
 #[test]
 fn encloses(rt: HostRuntime) -> Result<(), Fail> {
-    let mut lines = [0u8; 99];
+    let mut lines = [0u8; 24];
     let said = zar_enclose(rt.alloc(), b"return 1;", 30, 0, 0, false, &mut lines);
     assert_eq!(rt; said.status, DONE);
-    assert_eq!(rt; lines[..24], *b"value 1 from 1/1 to 1/1\n".as_slice());
+    assert_eq!(rt; lines, *b"value 1 from 1/1 to 1/1\n");
     let said = zar_enclose(
         rt.alloc(),
         b"observe false; return 1;",
@@ -151,12 +151,11 @@ fn tallies(rt: HostRuntime) -> Result<(), Fail> {
 
 #[test]
 fn explains(rt: HostRuntime) -> Result<(), Fail> {
-    let mut lines = [0u8; 99];
+    let mut lines = [0u8; 42];
     let said = zar_explain(rt.alloc(), b"face := 1; return fase;", 8, 11, &mut lines);
     assert_eq!(rt; said.status, DONE);
     assert_eq!(rt; said.place, 18);
-    let told = b"'fase' is never set; did you mean 'face'?\n";
-    assert_eq!(rt; lines[..told.len()], *told.as_slice());
+    assert_eq!(rt; lines, *b"'fase' is never set; did you mean 'face'?\n");
     let said = zar_explain(rt.alloc(), b"", 13, 0, &mut lines);
     assert_eq!(rt; said.length, 0);
     Ok(())
