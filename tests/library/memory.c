@@ -37,6 +37,7 @@ static const char TEXT[] = "n := 0; go := 1; while go = 1 { choice 1/3 { n := (n
 static const char *const NAMES[] = {"zar_check", "zar_show",  "zar_code", "zar_mass",           "zar_posterior", "zar_cost",   "zar_exact",
                                     "zar_draws", "zar_run", "zar_draws_in_a_row", "zar_enclose",   "zar_explain", "zar_tally",
                                     "zar_roll"};
+static const char HINT[] = "'fase' is never set; did you mean 'face'?\n";
 enum { CALLS = sizeof NAMES / sizeof NAMES[0], PLACES = 50, EXPLAIN = 11 };
 static struct {
     int64_t values[PLACES];
@@ -85,8 +86,12 @@ int main(void) {
             memset(&arrays, 0x55, sizeof arrays);
             before = arrays;
             zar_said said = call(which);
-            /* What is wrong with a text may also stay unfound. */
-            int told = said.status == ZAR_OUT_OF_MEMORY || (which == EXPLAIN && said.status == ZAR_DONE && !said.has_place);
+            /* What is wrong with a text may also stay unfound, or be found without what was refused. */
+            if (which == EXPLAIN && said.status == ZAR_DONE && said.has_place) {
+                wrong += held || said.length != sizeof HINT - 1 || memcmp(arrays.lines, HINT, said.length);
+                continue;
+            }
+            int told = said.status == ZAR_OUT_OF_MEMORY || (which == EXPLAIN && said.status == ZAR_DONE);
             wrong += !told || held || said.length || said.code || memcmp(&arrays, &before, sizeof arrays);
         }
         printf("%s: %ld requests, %ld wrong\n", NAMES[which], all, wrong);
