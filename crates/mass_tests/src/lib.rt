@@ -1,8 +1,10 @@
-//! The tests of fractions, units, draws' bits, masses, expected bits, bounds, enclosed and exact masses.
+//! The tests of fractions, narrow fractions, units, draws' bits, masses, expected bits under limits and without, bounds,
+//! enclosed and exact masses.
 //!
 //! They stand in a crate of their own and go by public calls, so none of the crates that they test is proved once more with its
 //! tests. They promise nothing: the fractions that are expected are written out in them, worked by hand or by another program.
-//! They show what no clause says: that programs have an answer and are not refused, above all those with loops by `exact`.
+//! They show what no clause says: that programs have an answer and are not refused, above all those with loops by `exact` and by
+//! `cost_in_the_limit`.
 #![tactic(auto)]
 
 #[cfg(test)]
@@ -18,6 +20,8 @@ mod fractions;
 #[cfg(test)]
 mod masses;
 #[cfg(test)]
+mod narrow;
+#[cfg(test)]
 mod programs;
 #[cfg(test)]
 mod rows;
@@ -25,3 +29,5 @@ mod rows;
 mod undecided_bits;
 #[cfg(test)]
 mod units;
+#[cfg(test)]
+mod unlimited_bits;

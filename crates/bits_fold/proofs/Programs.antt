@@ -1,0 +1,148 @@
+-- Programs: what a round reads, and the answer.
+use Rattle.std.proofs.Common.{⊎_elim, ◌≡◌, ℕ, ◌+◌, ◌-◌, ◌*◌, ◌≤◌, ◌<◌, [], ◌∷◌, Some, None, length, refl, ap, subst, arith}
+use Rattle.std.proofs.Math.Nat.{le_of_mul-le-mul_right, lt_of_mul-lt-mul_left, mul-le-mul_right, mul-lt-mul_of_pos_right}
+use Rattle.std.proofs.lemmas.Bool.{cases_lt}
+use Rattle.numbers.specs.Arithmetic.{product_of}
+use Rattle.numbers.specs.Fraction.{IsEqual}
+use Rattle.numbers.proofs.Divisors.{product_pos, cancel}
+use Rattle.gcl_core.specs.declared.answers.Limits.{Limits}
+use Rattle.gcl_core.specs.meaning.Checked.{IsChecked}
+use Rattle.gcl_core.specs.meaning.Outcomes.{zeros}
+use Rattle.gcl_core.specs.meaning.Syntax.{SourceProgram}
+use Rattle.gcl_core.specs.weighing.Fractions.{Fraction, zero_share, one, plus, times, AtMost, IsBelowOne, IsOne}
+use Rattle.gcl_core.specs.weighing.Mass.{is_failed}
+use Rattle.gcl_core.specs.weighing.WeightedEnds.{sure, weighted_ends}
+use Rattle.gcl_core.proofs.Accepted.{checked_weights}
+use Rattle.cost_law.specs.ExpectedBits.{expected_bits}
+use Rattle.table_flow.specs.Tables.{Table}
+use Rattle.mass_fold.specs.inner.Amounts.{Entries}
+use Rattle.weighing_law.proofs.Fractions.{at_most_then}
+use Rattle.unlimited_law.specs.Settling.{Outflow}
+use Rattle.unlimited_law.specs.SettledMasses.{ProgramSettles, settled_failed}
+use Rattle.unlimited_law.proofs.Numbers.{below_trans, add_below}
+use Rattle.unlimited_law.proofs.FractionNumbers.{of_one, of_plus, of_times, below_of}
+use Rattle.unlimited_law.proofs.Integrals.{integral, integral_sure}
+use Rattle.unlimited_law.proofs.Covers.{sign}
+use Rattle.unlimited_law.proofs.Bounded.{block_small}
+use Rattle.unlimited_law.proofs.BlockLimits.{event_test, settled_some, settled_is, test_near}
+use Rattle.unlimited_law.proofs.OneLimit.{parts_vanish}
+use Rattle.exact_fold.specs.Exact.{FailsWith}
+use Rattle.exact_fold.specs.inner.Settled.{as_table}
+use Rattle.bits_law.specs.InTheLimit.{AreExpected, RoundReads, bits_in_the_limit}
+use Rattle.bits_law.specs.Reading.{BlockReads}
+use Rattle.bits_law.proofs.BlockTends.{block_some}
+use Rattle.bits_fold.specs.declared.expected.Bits.{Bits}
+use Rattle.bits_fold.specs.declared.expected.Bits.TheVariants as bits
+use Rattle.bits_fold.specs.Expected.{IsAnswer}
+use Rattle.bits_fold.specs.inner.Reading.{ReadsFrom, ReadsInRound}
+use Rattle.bits_fold.proofs.Sums.{product_is}
+
+pub program_reads : (p : SourceProgram) (es fs : Entries) (bits : Fraction) → es ≡ (zeros (length p.names), (1, 1)) ∷ [] → ReadsFrom (BlockReads p.body) es fs bits → ReadsInRound p bits
+program_reads p es fs bits e x = by (subst (λ z. ReadsFrom (BlockReads p.body) z fs bits) e x)
+  where
+    by : ReadsFrom (BlockReads p.body) ((zeros (length p.names), (1, 1)) ∷ []) fs bits → ReadsInRound p bits
+    by x = (as_table fs, (x (omega arith, omega arith, tt)).reads)
+
+-- ---- what is expected, said of an equal fraction
+pub expected_as : (p : SourceProgram) (bits other : Fraction) → IsEqual other bits → 1 ≤ other.1 → AreExpected p bits → AreExpected p other
+expected_as p bits other e some h =
+    let pos : 0 < bits.1 = let z = h.fraction in omega arith in
+    record {
+      within = λ l. at_most_then (expected_bits p l) bits other pos (h.within l) (omega arith);
+      near = λ k any. let x = h.near k any in (x.0, λ l g. at_most_then other bits (plus (expected_bits p l) (1, k)) pos (omega arith) (x.1 l g));
+      fraction = some;
+    }
+
+-- ---- what fails
+module _ (p : SourceProgram) (ok : IsChecked p) (f : Outflow) (s : ProgramSettles p f) where
+  abbrev lost : Fraction
+  lost = settled_failed p f
+
+  failed_most : AtMost lost one
+  failed_most =
+      let w = checked_weights p ok in
+      let start = sure (zeros (length p.names)) in
+      let all_some = settled_some p.body start f w s is_failed in
+      let c = (test_near p.body start f w s 1 (omega arith) (sign is_failed) (event_test is_failed refl)).some in
+      parts_vanish lost.0 lost.1 1 1 f.turns.0 f.turns.1 c
+      (λ n any.
+      let near = test_near p.body start f w s n (omega arith) (sign is_failed) (event_test is_failed refl) in
+      let part : 0 < (times (1, n) f.turns).1 = product_pos n f.turns.1 (omega arith) c in
+      let small = below_trans (integral_sure (λ s. integral (sign is_failed) (weighted_ends n None p.body s)) (zeros (length p.names))).below (block_small n p.body w (zeros (length p.names)) (sign is_failed) (event_test is_failed refl).small) in
+      let all : AtMost lost (plus one (times (1, n) f.turns)) =
+      below_of lost (plus one (times (1, n) f.turns)) all_some (product_pos 1 _ (omega arith) part)
+      (below_trans (settled_is p.body start f w s is_failed).below
+      (below_trans near.high (below_trans (add_below (below_trans small of_one.above) (of_times (1, n) f.turns).above) (of_plus one (times (1, n) f.turns) (omega arith) part).above))) in
+      omega arith)
+
+  module _ (failed : Fraction) (some : 1 ≤ failed.1) (pos : 1 ≤ lost.1) (e : IsEqual failed lost) where
+    pub all_fail : failed.1 ≤ failed.0 → IsOne lost
+    all_fail le =
+        let x = le_of_mul-le-mul_right {m = lost.1} {n = lost.0} {k = failed.1} (let z = mul-le-mul_right lost.1 le in omega arith) (omega arith) in
+        let y = failed_most in
+        omega arith
+
+    pub some_pass : failed.0 < failed.1 → IsBelowOne lost
+    some_pass less = lt_of_mul-lt-mul_left failed.1 (let z = mul-lt-mul_of_pos_right less (let y : 0 < lost.1 = omega arith in y) in omega arith)
+
+-- ---- answers
+-- what a round reads, over what does not fail, where what fails is a fraction of equal value
+over_passes : (read rounds bits failed lost : Fraction) → 0 < read.1 → 0 < rounds.1 → failed.0 < failed.1 → lost.0 < lost.1 → IsEqual failed lost → IsEqual rounds (failed.1, failed.1 - failed.0) → IsEqual bits (times read rounds) → IsEqual bits (read.0 * lost.1, read.1 * (lost.1 - lost.0))
+over_passes read rounds bits failed lost rs ns f l e n b = by read.0 read.1 rounds.0 rounds.1 bits.0 bits.1 failed.0 failed.1 (failed.1 - failed.0) lost.0 lost.1 (lost.1 - lost.0) ns (omega arith) (omega arith) (omega arith) e n b
+  where
+    by : (x y r0 r1 b0 b1 f0 f1 u l0 l1 w : ℕ) → 0 < r1 → 0 < u → f1 ≡ f0 + u → l1 ≡ l0 + w → f0 * l1 ≡ l0 * f1 → r0 * u ≡ f1 * r1 → b0 * (y * r1) ≡ x * r0 * b1 → b0 * (y * w) ≡ x * l1 * b1
+    by x y r0 r1 b0 b1 f0 f1 u l0 l1 w rs us p q e n b =
+        let same : l1 * u ≡ w * f1 = let a = ap (λ z. l1 * z) p in let c = ap (λ z. z * f1) q in omega arith in
+        cancel (r1 * u) _ _ (product_pos r1 u rs us)
+        (let a = ap (λ z. z * (w * u)) b in let c = ap (λ z. x * b1 * w * z) n in let d = ap (λ z. x * b1 * r1 * z) same in omega arith)
+
+-- the two laws, as the calls of the law say them
+abbrev pub Tends : Type 0
+Tends = (p : SourceProgram) (J : Table) (read : Fraction) (f : Outflow) → IsChecked p → RoundReads p J read → ProgramSettles p f → IsBelowOne (settled_failed p f) → AreExpected p (bits_in_the_limit p f read)
+
+abbrev pub ReadsNothing : Type 0
+ReadsNothing = (p : SourceProgram) (J : Table) (read : Fraction) (f : Outflow) → IsChecked p → RoundReads p J read → ProgramSettles p f → IsOne (settled_failed p f) → read.0 ≡ 0 → AreExpected p zero_share
+
+module _ (p : SourceProgram) (ok : IsChecked p) (read : Fraction) (r : ReadsInRound p read) (failed : Fraction) (some : 1 ≤ failed.1) (f : FailsWith p failed) where
+  read_some : 0 < read.1
+  read_some = block_some p.body (sure (zeros (length p.names))) r.0 read r.1
+
+  lost_some : 1 ≤ (settled_failed p f.settled).1
+  lost_some = f.fraction
+
+  -- a round reads nothing
+  pub nothing_read : Tends → ReadsNothing → read.0 ≡ 0 → (none : Fraction) → IsEqual none (0, 1) → 1 ≤ none.1 → AreExpected p none
+  nothing_read tends nothing z none e ns =
+      let L = settled_failed p f.settled in
+      ⊎_elim
+      (λ (less : failed.0 < failed.1).
+      let o = tends p r.0 read f.settled ok r.1 f.settles (some_pass p ok f.settled f.settles failed some lost_some f.fails less) in
+      expected_as p (bits_in_the_limit p f.settled read) none (zero none.0 none.1 read.0 L.1 (read.1 * (L.1 - L.0)) e z) ns o)
+      (λ (le : failed.1 ≤ failed.0).
+      let o = nothing p r.0 read f.settled ok r.1 f.settles (all_fail p ok f.settled f.settles failed some lost_some f.fails le) z in
+      expected_as p zero_share none e ns o)
+      (cases_lt failed.0 failed.1)
+    where
+      zero : (a b x l m : ℕ) → a * 1 ≡ 0 * b → x ≡ 0 → a * m ≡ x * l * b
+      zero a b x l m e z = let i : a ≡ 0 = omega arith in let j = ap (λ v. v * m) i in let k = ap (λ v. v * l * b) z in omega arith
+
+  -- a round reads some bits, and may pass
+  pub bits_read : Tends → failed.0 < failed.1 → (rounds bits : Fraction) → IsEqual rounds (failed.1, failed.1 - failed.0) → 1 ≤ rounds.1 → product_of read rounds ≡ Some bits → 1 ≤ bits.1 → AreExpected p bits
+  bits_read tends less rounds bits n ns e bs =
+      let L = settled_failed p f.settled in
+      let below = some_pass p ok f.settled f.settles failed some lost_some f.fails less in
+      let g = product_is read rounds bits read_some (omega arith) e in
+      expected_as p (bits_in_the_limit p f.settled read) bits (over_passes read rounds bits failed L read_some (omega arith) less below f.fails n g.equal) bs (tends p r.0 read f.settled ok r.1 f.settles below)
+
+-- ---- a program of the same expected bits
+pub same_answer : (p q : SourceProgram) → ((l : Limits) → expected_bits q l ≡ expected_bits p l) → (a : Bits) → IsAnswer q a → IsAnswer p a
+same_answer p q e (bits.Expected f) h =
+    let o = h.0 in (
+      record {
+        within = λ l. subst (λ z. AtMost z f) (e l) (o.within l);
+        near = λ k some. let x = o.near k some in (x.0, λ l g. subst (λ z. AtMost f (plus z (1, k))) (e l) (x.1 l g));
+        fraction = o.fraction;
+      },
+      h.1,
+    )
+same_answer p q e bits.Unbounded h = λ k. let x = h k in (x.0, λ l g. subst (λ z. AtMost (k, 1) z) (e l) (x.1 l g))

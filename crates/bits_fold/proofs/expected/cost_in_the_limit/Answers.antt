@@ -1,0 +1,14 @@
+use Rattle.std.proofs.Common.{subst}
+use Rattle.std.proofs.lemmas.Result.{IfOk-weaker}
+use Rattle.gcl_core.specs.meaning.Syntax.{SourceProgram}
+use Rattle.gcl_core.specs.meaning.Views.{source_of}
+use Rattle.forgetting.specs.Forgetful.{forgetful_of}
+use Rattle.bits_fold.specs.Expected.{IsAnswer}
+use Rattle.bits_fold.proofs.Programs.{same_answer}
+use Rattle.bits_fold.proofs.expected.cost_in_the_limit.Goals as goal
+
+pub returns : goal.returns
+returns c =
+    let p = source_of c.args.p.now in
+    let same = c.in_ok-q.ensures in
+    IfOk-weaker c.bits_as_written.result _ _ (λ a h. same_answer p (forgetful_of p) (c.forgetting_costs_nothing.ensures p) a (subst (λ (q : SourceProgram). IsAnswer q a) same h)) c.bits_as_written.ensures

@@ -1,0 +1,37 @@
+use Rattle.std.proofs.Common.{◌≡◌, ℕ, drop}
+use Rattle.std.specs.List.{sum}
+use Rattle.gcl_core.specs.meaning.Arms.{parts_of}
+use Rattle.gcl_core.specs.meaning.Bounds.{BlockIsWeighed, BlockBelow, ArmsAreWeighed, ArmsBelow}
+use Rattle.gcl_core.specs.meaning.Views.{list_of, arm_list_of, list_of_arms, expression_of, statements_of}
+use Rattle.gcl_core.specs.meaning.Value.{value_of}
+use Rattle.unlimited_law.specs.Settling.{EachState}
+use Rattle.exact_fold.specs.inner.Turning.{keys_in}
+use Rattle.bits_law.specs.Reading.{BlockReads}
+use Rattle.bits_fold.specs.inner.Turning.{IsSilent}
+use Rattle.bits_fold.proofs.Arms.{ArmsFrom}
+use Rattle.bits_fold.proofs.Steps.{RestReads}
+use Rattle.bits_fold.proofs.reading.+reading.Given as goal
+
+abbrev pub invariant-read_block-loop-s : goal.invariant-read_block-loop-s
+invariant-read_block-loop-s l = record {
+  below : (m : ℕ) → BlockBelow m (list_of l.s-items) → BlockBelow m (list_of (drop l.s-index l.s-items));
+  weights : BlockIsWeighed (list_of l.s-items) → BlockIsWeighed (list_of (drop l.s-index l.s-items));
+  vars : l.now.table.vars ≡ l.fn.table.vars;
+  so_far : RestReads (BlockReads (list_of l.s-items)) (list_of (drop l.s-index l.s-items)) l.fn.table.states.entries l.now.table.states.entries l.now.bits;
+}
+
+abbrev pub invariant-check_silent-loop-s : goal.invariant-check_silent-loop-s
+invariant-check_silent-loop-s l = record {
+  next : (goal.iterator-check_silent-loop-s).can_next l.s-iterator;
+  finite : (goal.iterator-check_silent-loop-s).is_finite l.s-iterator;
+  so_far : EachState (IsSilent (value_of (expression_of l.e)) (BlockReads (statements_of l.body)) (keys_in l.closed.states.entries)) (keys_in l.s-iterator) →
+      EachState (IsSilent (value_of (expression_of l.e)) (BlockReads (statements_of l.body)) (keys_in l.closed.states.entries)) (keys_in l.closed.states.entries);
+}
+
+abbrev pub invariant-read_arms-loop-count : goal.invariant-read_arms-loop-count
+invariant-read_arms-loop-count l = record {
+  vars : l.out.table.vars ≡ l.table.vars;
+  below : ArmsBelow l.table.vars (arm_list_of (drop l.count-index l.count-items));
+  weights : ArmsAreWeighed (arm_list_of (drop l.count-index l.count-items));
+  so_far : ArmsFrom (sum (parts_of (list_of_arms l.arms))) (list_of_arms l.arms) (arm_list_of (drop l.count-index l.count-items)) l.table.states.entries l.out.table.states.entries l.out.bits;
+}

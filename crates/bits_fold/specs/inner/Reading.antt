@@ -1,0 +1,39 @@
+-- What the code makes of a table with each state once, where a block reads bits.
+use Rattle.std.specs.Prelude.{◌≤◌, None}
+use Rattle.numbers.specs.Fraction.{IsEqual}
+use Rattle.gcl_core.specs.meaning.Blocks.{by_value, by_bound}
+use Rattle.gcl_core.specs.meaning.Draw.{uniform_ends}
+use Rattle.gcl_core.specs.meaning.Syntax.{SourceProgram}
+use Rattle.gcl_core.specs.meaning.Value.{Value}
+use Rattle.gcl_core.specs.weighing.Fractions.{Fraction, zero_share}
+use Rattle.table_flow.specs.Tables.{Table}
+use Rattle.table_flow.specs.Reached.{ReachedDraws}
+use Rattle.mass_fold.specs.inner.Amounts.{Entries}
+use Rattle.unlimited_law.specs.Settling.{total}
+use Rattle.exact_fold.specs.inner.Settled.{as_table, AreAbove}
+use Rattle.bits_law.specs.Draws.{bits_of_draw, bits_of_draws}
+use Rattle.bits_law.specs.InTheLimit.{RoundReads}
+
+-- the uniform draw that a value bounds, or none
+abbrev pub bits_of_bound : Value → Fraction
+bits_of_bound v = by_value v (λ f. zero_share) (λ z. by_bound z zero_share (λ m. bits_of_draw None (uniform_ends m)))
+
+-- the sum of the weights
+abbrev pub WeighsTo : Entries → Fraction → Type 0
+WeighsTo es f = AreAbove es → (1 ≤ f.1) × IsEqual f (total (as_table es))
+
+-- the bits of the draws of all states
+abbrev pub DrawsRead : (Table → ReachedDraws) → Entries → Fraction → Type 0
+DrawsRead draws es f = AreAbove es → (1 ≤ f.1) × IsEqual f (bits_of_draws (draws (as_table es)))
+
+-- The table es leads to the table fs, and so many bits are read. Read is the relation of a statement or a block.
+pub record ReadsTo (Read : Table → Table → Fraction → Type 0) (es fs : Entries) (bits : Fraction) : Type 0 where
+  pub above : AreAbove fs
+  pub reads : Read (as_table es) (as_table fs) bits
+
+abbrev pub ReadsFrom : (Table → Table → Fraction → Type 0) → Entries → Entries → Fraction → Type 0
+ReadsFrom Read es fs bits = AreAbove es → ReadsTo Read es fs bits
+
+-- a round of a program reads so many bits
+abbrev pub ReadsInRound : SourceProgram → Fraction → Type 0
+ReadsInRound p bits = (J : Table) × RoundReads p J bits

@@ -1,0 +1,18 @@
+//! The expected bits of a run where nothing is limited, as an exact fraction. The expected visits of a loop are looked for, and one
+//! turn of the loop checks what was found.
+//!
+//! Proved: `cost_in_the_limit` answers what the expected bits under limits come to as all limits grow, or that they have no bound.
+//!
+//! No clause says that there is an answer: a call that refused each program would keep the contract, and tests alone show that it
+//! does not. A program is refused where a loop reads for ever, or where what was found of a loop does not pass its check. No clause
+//! says that memory or the stack suffices, or how long a call takes.
+#![tactic(auto)]
+
+mod draws;
+mod error;
+mod expected;
+mod finding;
+mod reading;
+
+pub use error::BitsError;
+pub use expected::{Bits, cost_in_the_limit};

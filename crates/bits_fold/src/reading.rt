@@ -1,0 +1,406 @@
+// A table through a block, and the bits that are read on the way, where nothing is limited.
+
+ghost use Rattle.std.specs.Prelude.{◌≡◌, ◌≤◌, ◌<◌, length, Some, None, IfOk, OnOk};
+ghost use Rattle.std.specs.List.{sum};
+ghost use Rattle.numbers.specs.Arithmetic.{sum_of};
+ghost use Rattle.numbers.specs.Fraction.{IsEqual};
+ghost use Rattle.gcl_core.specs.meaning.Arms.{parts_of};
+ghost use Rattle.gcl_core.specs.meaning.Bounds.{StatementIsWeighed, BlockIsWeighed, ArmsAreWeighed, StatementBelow, BlockBelow, ArmsBelow, ExpressionBelow, AreParts};
+ghost use Rattle.gcl_core.specs.meaning.Syntax.{Choose, Uniform};
+ghost use Rattle.gcl_core.specs.meaning.Views.{source_of, expression_of, statement_of, statements_of, list_of_arms};
+ghost use Rattle.gcl_core.specs.meaning.Value.{value_of};
+ghost use Rattle.table_flow.specs.Counts.{all_kept, none_stopped};
+ghost use Rattle.mass_fold.specs.declared.ended.Ended.{Ended};
+ghost use Rattle.mass_fold.specs.inner.Steps.{StepsTo};
+ghost use Rattle.bits_law.specs.Reading.{AreSilent, LoopReads, StatementReads, BlockReads, ArmsRead};
+ghost use Rattle.exact_fold.specs.inner.Turning.{keys_in};
+ghost use Rattle.bits_fold.specs.inner.Reading.{ReadsFrom, ReadsInRound};
+ghost use Rattle.bits_fold.specs.inner.Turning.{IsSilent, VisitsFrom, MayBegin};
+
+use crate::draws::{bits_of_arms, bits_of_choice, bits_of_uniform};
+use crate::error::BitsError;
+use crate::finding::{begun_anew, begun_with_more};
+use exact_fold::finding::{Seen, copied, put};
+use exact_fold::turning::{above, all_stand, alone, leaving, passes, same};
+use gcl_core::{Arms, Block, Checked, Expr, Stmt};
+use mass_fold::choosing::{sides, total, weighed};
+use mass_fold::{
+    Attempts, Ended, Fold, Gone, MOST_STATES, State, Table, assign, end_all, merge, split,
+};
+use numbers::Frac;
+use std::alloc::Global;
+
+// The table behind a block, and the bits that were read on the way.
+#[derive(Drop)]
+struct Reached {
+    table: Table,
+    bits: Frac,
+}
+
+// The visits of a loop, the entries with which it is left, and the bits that its body reads from the visits.
+#[derive(Drop)]
+struct Turn {
+    visits: Table,
+    exits: Table,
+    bits: Frac,
+}
+
+// Both tables in one, and the sum of both bits.
+fn joined(left: Reached, right: Reached) -> Result<Reached, BitsError>
+    requires { right.table.vars ≡ left.table.vars }
+    ensures table { IfOk result (λ r. (E : Ended) → StepsTo all_kept none_stopped
+        left.table.states.entries right.table.states.entries E r.table.states.entries E) }
+    ensures bits { IfOk result (λ r. sum_of left.bits right.bits ≡ Some r.bits) }
+    ensures vars { IfOk result (λ r. r.table.vars ≡ left.table.vars) }
+{
+    let mut table = left.table;
+    merge(&mut table, right.table)?;
+    let bits = left.bits.add(&right.bits).ok_or(BitsError::TooWide)?;
+    Ok(Reached { table, bits })
+}
+
+// Some bits more.
+fn with_more(reached: Reached, more: &Frac) -> Result<Reached, BitsError>
+    ensures table { IfOk result (λ r. r.table.states.entries ≡ reached.table.states.entries) }
+    ensures bits { IfOk result (λ r. sum_of more.now reached.bits ≡ Some r.bits) }
+    ensures vars { IfOk result (λ r. r.table.vars ≡ reached.table.vars) }
+{
+    let bits = more.add(&reached.bits).ok_or(BitsError::TooWide)?;
+    Ok(Reached {
+        table: reached.table,
+        bits,
+    })
+}
+
+// No bit was read.
+fn silently(table: Table) -> Reached
+    ensures table { result.table ≡ table }
+    ensures bits { result.bits ≡ (0, 1) }
+{
+    Reached {
+        table,
+        bits: Frac::of(0, 1),
+    }
+}
+
+// A fold in which draws take as many attempts as it takes.
+fn unlimited(alloc: Global) -> Fold
+    ensures { result.attempts.most ≡ None }
+{
+    Fold {
+        alloc,
+        turns: 0,
+        attempts: Attempts { most: None },
+    }
+}
+
+// The table after a block, and the bits that it reads.
+#[cycle(reading)]
+fn read_block(alloc: Global, b: &Block, table: Table) -> Result<Reached, BitsError>
+    requires below { BlockBelow table.vars (statements_of b.now) }
+    requires weights { BlockIsWeighed (statements_of b.now) }
+    ensures ok { IfOk result (λ r. ReadsFrom (BlockReads (statements_of b.now))
+        table.states.entries r.table.states.entries r.bits) }
+    ensures vars { IfOk result (λ r. r.table.vars ≡ table.vars) }
+{
+    let mut now = silently(table);
+    for s in &b.stmts {
+        let next = read_stmt(alloc, s, now.table)?;
+        now = with_more(next, &now.bits)?;
+    }
+    Ok(now)
+}
+
+#[cycle(reading)]
+#[tactic(auto, using(gcl_core::proofs::ViewLemmas::views))]
+fn read_stmt(alloc: Global, s: &Stmt, table: Table) -> Result<Reached, BitsError>
+    requires below { StatementBelow table.vars (statement_of s.now) }
+    requires weights { StatementIsWeighed (statement_of s.now) }
+    ensures ok { IfOk result (λ r. ReadsFrom (StatementReads (statement_of s.now))
+        table.states.entries r.table.states.entries r.bits) }
+    ensures vars { IfOk result (λ r. r.table.vars ≡ table.vars) }
+{
+    let mut ended = Ended::none();
+    match s {
+        Stmt::Skip => Ok(silently(table)),
+        Stmt::Set(x, e) => Ok(silently(assign(alloc, *x, e, table, &mut ended)?)),
+        Stmt::Uniform(x, e) => read_uniform(alloc, *x, e, table),
+        Stmt::Observe(e) => {
+            let (first, second) = split(alloc, e, table, &mut ended)?;
+            end_all(Gone::Failed, second, &mut ended)?;
+            Ok(silently(first))
+        }
+        Stmt::If(e, a, c) => {
+            let (first, second) = split(alloc, e, table, &mut ended)?;
+            let left = read_block(alloc, a, first)?;
+            let right = read_block(alloc, c, second)?;
+            joined(left, right)
+        }
+        Stmt::While(e, body) => read_loop(alloc, body, e, table),
+        Stmt::Choice(p, a, c) => {
+            let bits = bits_of_choice(*p, &table).ok_or(BitsError::TooWide)?;
+            let (first, second) = sides(alloc, *p, Attempts { most: None }, &table, &mut ended)?;
+            let left = read_block(alloc, a, first)?;
+            let right = read_block(alloc, c, second)?;
+            with_more(joined(left, right)?, &bits)
+        }
+        Stmt::Choose(arms) => read_choose(alloc, arms, table),
+    }
+}
+
+fn read_uniform(alloc: Global, x: u32, e: &Expr, table: Table) -> Result<Reached, BitsError>
+    requires place { x < table.vars }
+    requires reads { ExpressionBelow (expression_of e.now) table.vars }
+    ensures ok { IfOk result (λ r. ReadsFrom (StatementReads (Uniform x (expression_of e.now)))
+        table.states.entries r.table.states.entries r.bits) }
+    ensures vars { IfOk result (λ r. r.table.vars ≡ table.vars) }
+{
+    let mut ended = Ended::none();
+    let _count = table.states.len();
+    let bits = bits_of_uniform(e, &table).ok_or(BitsError::TooWide)?;
+    let table = unlimited(alloc).draw(x, e, table, &mut ended)?;
+    Ok(Reached { table, bits })
+}
+
+// The weight of one part of a draw with so many.
+fn one_part(count: u64) -> Frac
+    requires { 1 ≤ count }
+    ensures above { 1 ≤ result.0 }
+    ensures equal { IsEqual result (1, count) }
+{
+    Frac::of(1, u128::from(count))
+}
+
+#[cycle(reading)]
+fn read_choose(alloc: Global, arms: &Arms, table: Table) -> Result<Reached, BitsError>
+    requires below { ArmsBelow table.vars (list_of_arms arms.now) }
+    requires parts { AreParts (parts_of (list_of_arms arms.now)) }
+    requires weights { ArmsAreWeighed (list_of_arms arms.now) }
+    ensures ok { IfOk result (λ r. ReadsFrom (StatementReads (Choose (list_of_arms arms.now)))
+        table.states.entries r.table.states.entries r.bits) }
+    ensures vars { IfOk result (λ r. r.table.vars ≡ table.vars) }
+{
+    let bits = bits_of_arms(arms, &table).ok_or(BitsError::TooWide)?;
+    let part = one_part(total(arms));
+    with_more(read_arms(alloc, arms, &part, &table)?, &bits)
+}
+
+// The arms of a choice among several, one after the other, each by its part.
+#[cycle(reading)]
+fn read_arms(alloc: Global, arms: &Arms, part: &Frac, table: &Table) -> Result<Reached, BitsError>
+    requires below { ArmsBelow table.now.vars (list_of_arms arms.now) }
+    requires parts { AreParts (parts_of (list_of_arms arms.now)) }
+    requires weights { ArmsAreWeighed (list_of_arms arms.now) }
+    requires above { 1 ≤ part.now.0 }
+    requires equal { IsEqual part.now (1, sum (parts_of (list_of_arms arms.now))) }
+    ensures ok { IfOk result (λ r. ReadsFrom
+        (ArmsRead (sum (parts_of (list_of_arms arms.now))) (list_of_arms arms.now))
+        table.now.states.entries r.table.states.entries r.bits) }
+    ensures vars { IfOk result (λ r. r.table.vars ≡ table.now.vars) }
+{
+    let mut out = silently(Table::new(alloc, table.vars));
+    for (count, block) in &arms.arms {
+        let side = weighed(alloc, part, *count, table)?;
+        let next = read_block(alloc, block, side)?;
+        out = joined(out, next)?;
+    }
+    Ok(out)
+}
+
+// A loop: its visits are found, and one turn of its body shows that they are right; the visits of the loop begun with them show
+// that they are no more than what the loop comes to.
+#[cycle(reading)]
+fn read_loop(alloc: Global, body: &Block, e: &Expr, table: Table) -> Result<Reached, BitsError>
+    requires reads { ExpressionBelow (expression_of e.now) table.vars }
+    requires below { BlockBelow table.vars (statements_of body.now) }
+    requires weights { BlockIsWeighed (statements_of body.now) }
+    ensures ok { IfOk result (λ r. ReadsFrom
+        (LoopReads (value_of (expression_of e.now)) (BlockReads (statements_of body.now)))
+        table.states.entries r.table.states.entries r.bits) }
+    ensures vars { IfOk result (λ r. r.table.vars ≡ table.vars) }
+{
+    let start = start_of(alloc, e, &table)?;
+    let seen = explored(alloc, body, e, &start)?;
+    let found = seen.found(alloc, &start)?;
+    let closed = found.closed;
+    check_silent(alloc, body, e, &closed)?;
+    let again = begun_anew(alloc, &seen, &closed, &found.visits)?;
+    let turned = turn_from(alloc, body, e, &closed, found.visits, table)?;
+    check_visits(alloc, body, e, &closed, again, turned.visits)?;
+    Ok(Reached {
+        table: turned.exits,
+        bits: turned.bits,
+    })
+}
+
+// The loop begun with these visits, and maybe with more, has visits.
+#[cycle(reading)]
+fn check_visits(
+    alloc: Global,
+    body: &Block,
+    e: &Expr,
+    closed: &Table,
+    again: Table,
+    visits: Table,
+) -> Result<(), BitsError>
+    requires reads { ExpressionBelow (expression_of e.now) visits.vars }
+    requires below { BlockBelow visits.vars (statements_of body.now) }
+    requires weights { BlockIsWeighed (statements_of body.now) }
+    requires vars { again.vars ≡ visits.vars }
+    ensures { OnOk result (MayBegin (value_of (expression_of e.now)) (BlockReads (statements_of body.now))
+        closed.now.states.entries visits.states.entries) }
+{
+    let next = read_block(alloc, body, copied(alloc, &again)?)?;
+    let more = begun_with_more(alloc, e, closed, &again, &visits, next.table)?;
+    if !above(&more) {
+        return Err(BitsError::NotFound);
+    }
+    let mut all = visits;
+    merge(&mut all, more)?;
+    turn_from(alloc, body, e, closed, again, all)?;
+    Ok(())
+}
+
+// One turn from what was found of the visits. What it leads back and what comes in are the visits again, but for what is silent.
+#[cycle(reading)]
+fn turn_from(
+    alloc: Global,
+    body: &Block,
+    e: &Expr,
+    closed: &Table,
+    found: Table,
+    table: Table,
+) -> Result<Turn, BitsError>
+    requires reads { ExpressionBelow (expression_of e.now) table.vars }
+    requires below { BlockBelow table.vars (statements_of body.now) }
+    requires weights { BlockIsWeighed (statements_of body.now) }
+    requires vars { found.vars ≡ table.vars }
+    ensures ok { IfOk result (λ t. VisitsFrom (value_of (expression_of e.now)) (BlockReads (statements_of body.now))
+        closed.now.states.entries table.states.entries t.visits.states.entries t.exits.states.entries t.bits) }
+    ensures vars { IfOk result (λ t. t.exits.vars ≡ table.vars) }
+    ensures visits { IfOk result (λ t. t.visits.vars ≡ table.vars) }
+{
+    let copy = copied(alloc, &found)?;
+    if !above(&found) || !same(&found, &copy) {
+        return Err(BitsError::NotFound);
+    }
+    let next = read_block(alloc, body, found)?;
+    let mut all = table;
+    merge(&mut all, next.table)?;
+    let visits = leaving(alloc, closed, all)?;
+    let kept = copied(alloc, &visits)?;
+    if !same(&kept, &visits) {
+        return Err(BitsError::NotFound);
+    }
+    let mut ended = Ended::none();
+    let (on, exits) = split(alloc, e, visits, &mut ended)?;
+    if !same(&on, &copy) {
+        return Err(BitsError::NotFound);
+    }
+    Ok(Turn {
+        visits: kept,
+        exits,
+        bits: next.bits,
+    })
+}
+
+// The entries where the guard holds.
+fn start_of(alloc: Global, e: &Expr, table: &Table) -> Result<Table, BitsError>
+    requires { ExpressionBelow (expression_of e.now) table.now.vars }
+    ensures { IfOk result (λ t. t.vars ≡ table.now.vars) }
+{
+    let copy = copied(alloc, table)?;
+    let mut none = Ended::none();
+    let (first, _) = split(alloc, e, copy, &mut none)?;
+    Ok(first)
+}
+
+// Where one turn leads from a state, as far as the guard holds there again.
+#[cycle(reading)]
+fn led(alloc: Global, body: &Block, e: &Expr, vars: u32, s: &State) -> Result<Table, BitsError>
+    requires reads { ExpressionBelow (expression_of e.now) vars }
+    requires below { BlockBelow vars (statements_of body.now) }
+    requires weights { BlockIsWeighed (statements_of body.now) }
+{
+    let mut one = Table::new(alloc, vars);
+    put(&mut one, s.copy(alloc)?, Frac::of(1, 1))?;
+    let mut none = Ended::none();
+    let next = read_block(alloc, body, one)?;
+    let (first, _) = split(alloc, e, next.table, &mut none)?;
+    Ok(first)
+}
+
+// The states that a loop comes to, and where one turn leads from each.
+#[cycle(reading)]
+fn explored(alloc: Global, body: &Block, e: &Expr, start: &Table) -> Result<Seen, BitsError>
+    requires reads { ExpressionBelow (expression_of e.now) start.now.vars }
+    requires below { BlockBelow start.now.vars (statements_of body.now) }
+    requires weights { BlockIsWeighed (statements_of body.now) }
+{
+    let mut seen = Seen::none(alloc);
+    seen.enlist(alloc, start)?;
+    for i in 0..MOST_STATES {
+        if i >= seen.states.len() {
+            return Ok(seen);
+        }
+        let s = seen.states[i].copy(alloc)?;
+        let next = led(alloc, body, e, start.vars, &s)?;
+        seen.lead(alloc, i as u64, &next)?;
+    }
+    if seen.states.len() > MOST_STATES {
+        return Err(BitsError::TooManyStates);
+    }
+    Ok(seen)
+}
+
+// One turn of the body from a state of the silent ones reads nothing and stays in them.
+#[cycle(reading)]
+fn check_state(
+    alloc: Global,
+    body: &Block,
+    e: &Expr,
+    closed: &Table,
+    s: &State,
+) -> Result<(), BitsError>
+    requires reads { ExpressionBelow (expression_of e.now) closed.now.vars }
+    requires below { BlockBelow closed.now.vars (statements_of body.now) }
+    requires weights { BlockIsWeighed (statements_of body.now) }
+    requires sized { length s.now ≡ closed.now.vars }
+    ensures { OnOk result (IsSilent (value_of (expression_of e.now)) (BlockReads (statements_of body.now))
+        (keys_in closed.now.states.entries) s.now) }
+{
+    if !passes(e, s) {
+        return Err(BitsError::NotFound);
+    }
+    let one = alone(alloc, closed.vars, s)?;
+    let next = read_block(alloc, body, one)?;
+    if next.bits.num() != 0 || !all_stand(closed, &next.table) {
+        return Err(BitsError::NotFound);
+    }
+    Ok(())
+}
+
+// Nothing is read in these states any more, and none of them is ever left.
+#[cycle(reading)]
+fn check_silent(alloc: Global, body: &Block, e: &Expr, closed: &Table) -> Result<(), BitsError>
+    requires reads { ExpressionBelow (expression_of e.now) closed.now.vars }
+    requires below { BlockBelow closed.now.vars (statements_of body.now) }
+    requires weights { BlockIsWeighed (statements_of body.now) }
+    ensures { OnOk result (AreSilent (value_of (expression_of e.now)) (BlockReads (statements_of body.now))
+        (keys_in closed.now.states.entries)) }
+{
+    for (s, _) in &closed.states {
+        check_state(alloc, body, e, closed, s)?;
+    }
+    Ok(())
+}
+
+/// The bits that a round of a program reads.
+pub fn read_program(alloc: Global, p: &Checked) -> Result<Frac, BitsError>
+    ensures { IfOk result (ReadsInRound (source_of p.now)) }
+{
+    let program = p.program();
+    let table = Table::start(alloc, program.names.count())?;
+    let reached = read_block(alloc, &program.body, table)?;
+    Ok(reached.bits)
+}

@@ -1,0 +1,15 @@
+pub mod Readers
+pub mod Tends
+pub mod TableReads
+pub mod LoopTends
+pub mod BlockTends
+pub mod Shares
+pub mod Attempts
+pub mod Rounds
+pub mod LimitedReads
+pub mod BitsLaw
+pub mod Unbounded
+pub mod NoBound
+pub mod OneFraction
+pub mod WorkedBits
+pub mod FreeReads

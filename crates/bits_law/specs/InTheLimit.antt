@@ -1,0 +1,48 @@
+-- The expected number of bits where nothing is limited: what the expected numbers under limits come to as all limits grow. This project's
+-- own rule.
+use Rattle.std.specs.Prelude.{ℕ, ◌≤◌, length, None}
+use Rattle.gcl_core.specs.declared.answers.Limits.{Limits}
+use Rattle.gcl_core.specs.meaning.Outcomes.{zeros}
+use Rattle.gcl_core.specs.meaning.Syntax.{SourceProgram}
+use Rattle.gcl_core.specs.weighing.Fractions.{Fraction, plus, divided_by_rest, AtMost}
+use Rattle.gcl_core.specs.weighing.WeightedEnds.{sure}
+use Rattle.cost_law.specs.ExpectedBits.{expected_bits}
+use Rattle.table_flow.specs.Tables.{Table, tables_of}
+use Rattle.unlimited_law.specs.LoopFree.{flowed_out}
+use Rattle.unlimited_law.specs.Settling.{Outflow}
+use Rattle.unlimited_law.specs.SettledMasses.{settled_failed}
+use Rattle.bits_law.specs.Reading.{BlockReads}
+
+-- each limit is at least so much
+pub record AtLeast (least : ℕ) (l : Limits) : Type 0 where
+  pub turns : least ≤ l.turns
+  pub attempts : least ≤ l.attempts
+  pub rounds : least ≤ l.rounds
+
+-- no limit is less than in the other
+pub record NoLess (l m : Limits) : Type 0 where
+  pub turns : l.turns ≤ m.turns
+  pub attempts : l.attempts ≤ m.attempts
+  pub rounds : l.rounds ≤ m.rounds
+
+-- Under no limits more bits are expected, and where all limits are great enough no fewer but for 1 / k, whatever k.
+pub record AreExpected (p : SourceProgram) (bits : Fraction) : Type 0 where
+  pub within : (l : Limits) → AtMost (expected_bits p l) bits
+  pub near : (k : ℕ) → 1 ≤ k → (least : ℕ) × ((l : Limits) → AtLeast least l → AtMost bits (plus (expected_bits p l) (1, k)))
+  pub fraction : 1 ≤ bits.1
+
+-- where all limits are great enough more bits are expected than k, whatever k
+abbrev pub AreUnbounded : SourceProgram → Type 0
+AreUnbounded p = (k : ℕ) → (least : ℕ) × ((l : Limits) → AtLeast least l → AtMost (k, 1) (expected_bits p l))
+
+-- the body of a program reads so many bits in a round
+abbrev pub RoundReads : SourceProgram → Table → Fraction → Type 0
+RoundReads p J bits = BlockReads p.body (sure (zeros (length p.names))) J bits
+
+-- what a round reads, over the probability that it does not fail
+abbrev pub bits_in_the_limit : SourceProgram → Outflow → Fraction → Fraction
+bits_in_the_limit p f read = divided_by_rest read (settled_failed p f)
+
+-- what a program without a loop settles to, with one turn as with any other number
+abbrev pub free_outflow : SourceProgram → Outflow
+free_outflow p = flowed_out (tables_of p 1 None)

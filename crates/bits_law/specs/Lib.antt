@@ -1,0 +1,4 @@
+pub mod Draws
+pub mod Reading
+pub mod InTheLimit
+pub mod Forever
