@@ -16,7 +16,8 @@ use Rattle.units_law.specs.Merged.{merged, IsMerged}
 use Rattle.units_law.specs.Rounding.{class_units, rest_units}
 use Rattle.units_law.specs.Units.{Units, held, total, end_units}
 use Rattle.units_law.proofs.Downs.{rounds_down}
-use Rattle.units_law.proofs.Held.{held_append, from_left}
+use Rattle.units_law.proofs.Held.{held_append}
+use Rattle.units_law.proofs.Orders.{from_left}
 use Rattle.units_law.proofs.Losses.{class_total, rest_total, end_total}
 use Rattle.units_law.proofs.Merging.{held_merged}
 use Rattle.enclose_fold.specs.declared.error.EncloseError.{EncloseError}

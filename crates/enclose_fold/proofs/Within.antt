@@ -10,7 +10,7 @@ use Rattle.units_law.specs.Down.{down}
 use Rattle.units_law.specs.Rounding.{LosesFew, class_units, rest_units, drawn_units, undrawn_units}
 use Rattle.units_law.specs.Units.{Units, total, end_units}
 use Rattle.units_law.proofs.Downs.{rounds_down, loses_one, loses_six}
-use Rattle.units_law.proofs.Held.{from_left}
+use Rattle.units_law.proofs.Orders.{from_left}
 use Rattle.units_law.proofs.Losses.{class_total, rest_total, drawn_total, end_total}
 
 pub loses : (r : Option ℕ) → (k : ℕ) × LosesFew k ALL r down

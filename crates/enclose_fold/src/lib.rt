@@ -9,8 +9,9 @@
 //! 65,536 states, or where rounds have no limit and every round fails, but for what its roundings may have lost (`refused`, `units`).
 //!
 //! No clause says that a refusal comes where its cause holds, that memory or the stack suffices, or how long a call takes, which
-//! grows with the states and with the limit of turns. What is lost is counted by the widest draw of any state of 64 bits, reached or
-//! not, and by the greatest table of the forgetful program, which has a table more for each variable that is forgotten. Callers have to hand in limits in range.
+//! grows with the states and with the limit of turns. What is lost is counted by the widest draw of any state of 64 bits,
+//! reached or not, and by the greatest table of the forgetful program, which has a table more for each variable that is
+//! forgotten. Callers have to hand in limits in range.
 #![tactic(auto)]
 
 mod body;

@@ -12,7 +12,7 @@ use Rattle.gcl_core.proofs.Classes.{bits_enough, bits_le}
 use Rattle.table_flow.proofs.Draws.{power_pos, parts_add_up}
 use Rattle.units_law.specs.Rounding.{RoundsDown, LosesFew}
 use Rattle.units_law.specs.Down.{again_down, again_up, share_of, rest_of, down}
-use Rattle.units_law.proofs.Held.{from_left}
+use Rattle.units_law.proofs.Orders.{from_left}
 use Rattle.units_law.proofs.Powers.{some_all, less_before, shared_low, shared_near, power_below, power_above, power_down_near, power_up_near}
 
 -- ---- over plain numbers: P is the power of D that is Q / D, and b * s + Q ≡ D

@@ -1,4 +1,4 @@
--- A merged table below a table of fractions has no more states than that.
+-- A merged table that has a state only where a table of fractions does has no more states than that.
 use Rattle.std.proofs.Common.{◌≡◌, ℕ, zero, suc, ◌*◌, ◌≤◌, ◌<◌, Bool, true, false, cond, ◌||◌, All, List, [], ◌∷◌, map, length, refl, sym, ap, ◌∙◌, subst, arith}
 use Rattle.std.proofs.Math.Nat.{mul-le-mul_left}
 use Rattle.std.specs.Ordering.{eq_by_cmp}
@@ -38,7 +38,7 @@ amount_at N q (e ∷ I) h = at_head (same q e.1) refl (λ p. amount_at N q I p)
     at_head true p i = rw p refl
     at_head false p i = rw p (i (let z = ap (λ b. whole N e.0 * cond b 1 0) p in omega arith))
 
-member_unique : (xs : List State) (q : State) → is_member same xs q ≡ true → is_member same (unique_keys same xs) q ≡ true
+pub member_unique : (xs : List State) (q : State) → is_member same xs q ≡ true → is_member same (unique_keys same xs) q ≡ true
 member_unique [] q h = h
 member_unique (x ∷ xs) q h = at_head (is_member same xs x) (same q x) refl refl h (λ k. member_unique xs q k)
   where
@@ -54,8 +54,8 @@ some_above : (N S a b : ℕ) → 0 < N → 0 < a → N * a ≤ S * b → 0 < b
 some_above N S a zero p h l = let x = mul-le-mul_left N h in absurd (omega arith)
 some_above N S a (suc b) p h l = omega arith
 
-pub states_few : (N L : ℕ) → 0 < N → (J : Units State) (I : Table) → IsBelow N J I → states I ≤ L → length (merged J) ≤ L
-states_few N L some J I h few =
+pub fewer_states : (N L : ℕ) (J : Units State) (I : Table) → ((q : State) → 0 < held (at q) J → 0 < amount N (at q) I) → states I ≤ L → length (merged J) ≤ L
+fewer_states N L J I h few =
     let m = merged_once J in
     let ks = keys_of (merged J) in
     let d : IsDistinct same ks = subst (λ E. IsDistinct E ks) (sym same_is_eq) (IsDistinct-from_sorted order ks m.sorted) in
@@ -64,4 +64,7 @@ states_few N L some J I h few =
     omega arith
   where
     found : (q : State) → 0 < held (at q) (merged J) → 0 < amount N (at q) I
-    found q p = some_above N ALL (held (at q) (merged J)) (amount N (at q) I) some p (rw (held_merged J (at q)) (h (at q)))
+    found q p = h q (rw (held_merged J (at q)) at p)
+
+pub states_few : (N L : ℕ) → 0 < N → (J : Units State) (I : Table) → IsBelow N J I → states I ≤ L → length (merged J) ≤ L
+states_few N L some J I h = fewer_states N L J I (λ q p. some_above N ALL (held (at q) J) (amount N (at q) I) some p (h (at q)))

@@ -1,11 +1,14 @@
 pub mod States
 pub mod Merging
 pub mod FittingUnits
+pub mod Orders
+pub mod Counted
 pub mod Held
 pub mod Parts
 pub mod Drawn
 pub mod FewStates
 pub mod Blocks
+pub mod UnitsBelow
 pub mod Rounds
 pub mod Powers
 pub mod Downs

@@ -13,7 +13,8 @@ use Rattle.units_law.specs.Flows.{UnitFlow, both_units, all_units}
 use Rattle.units_law.specs.Rounding.{Rounding, RoundsDown, LosesFew, class_units, rest_units, drawn_units, undrawn_units}
 use Rattle.units_law.specs.Roundings.{bound_roundings}
 use Rattle.units_law.specs.Units.{Units, total, only_units, fault_units, end_units, set_units, below_units}
-use Rattle.units_law.proofs.Held.{from_left, held_append}
+use Rattle.units_law.proofs.Held.{held_append}
+use Rattle.units_law.proofs.Orders.{from_left}
 
 -- b is at most a, and at most k less
 abbrev pub Loses : ℕ → ℕ → ℕ → Type 0

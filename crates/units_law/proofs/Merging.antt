@@ -22,7 +22,7 @@ Some es = All (λ w. 0 < w) (values_of es)
 
 -- ---- one entry more
 
-held_insert : (G : State → ℕ) (s : State) (w : ℕ) (es : Units State) → Sorted es → held G (insert_entry order es s w) + units_at es s * G s ≡ held G es + w * G s
+pub held_insert : (G : State → ℕ) (s : State) (w : ℕ) (es : Units State) → Sorted es → held G (insert_entry order es s w) + units_at es s * G s ≡ held G es + w * G s
 held_insert G s w [] h = omega arith
 held_insert G s w (e ∷ es) h = at_head (order s e.0) refl (held_insert G s w es (sorted_tail order e.0 (keys_of es) h))
   where
@@ -132,7 +132,7 @@ none_held : (s : State) (es : Units State) → AllByRecursion (λ y. order s y �
 none_held s [] h = refl
 none_held s (e ∷ es) h = let i = none_held s es h.1 in let a = at_above s e.0 h.0 in let b = ap (λ t. e.1 * t) a in omega arith
 
-first_held : (e : State × ℕ) (es : Units State) → Sorted (e ∷ es) → held (at e.0) (e ∷ es) ≡ e.1
+pub first_held : (e : State × ℕ) (es : Units State) → Sorted (e ∷ es) → held (at e.0) (e ∷ es) ≡ e.1
 first_held e es h =
     let a = none_held e.0 es (sorted_head order e.0 (keys_of es) h) in
     let b = ap (λ t. e.1 * t) (at_itself e.0) in

@@ -36,7 +36,7 @@ one_kind result meant failed = refl
 one_kind result meant (fault f) = either (meant (outcome.Fault f))
 one_kind result meant (limit l) = either (meant (outcome.Limit l))
 
-counts_less : (result : Expression) (some meant : Outcome → Bool) → ((x : Outcome) → some x ≡ true → meant x ≡ true) → (e : End) → chi (ends_in result some) e ≤ chi (ends_in result meant) e
+pub counts_less : (result : Expression) (some meant : Outcome → Bool) → ((x : Outcome) → some x ≡ true → meant x ≡ true) → (e : End) → chi (ends_in result some) e ≤ chi (ends_in result meant) e
 counts_less result some meant h (on s) = let x = outcome_of (value_of result s) in implied (some x) (meant x) (h x)
 counts_less result some meant h failed = omega arith
 counts_less result some meant h (fault f) = implied (some (outcome.Fault f)) (meant (outcome.Fault f)) (h (outcome.Fault f))

@@ -20,7 +20,7 @@ some_part l w zero m some most e less = absurd (omega arith)
 some_part l w (suc k) m some most e less = omega arith
 
 -- a fraction above 0 stays so in lowest terms
-above : (a : ℕ) → 0 < a → 1 ≤ (lowest (a, ALL)).0
+pub above : (a : ℕ) → 0 < a → 1 ≤ (lowest (a, ALL)).0
 above a some =
     let g = lowest (a, ALL) in
     let e = lowest_equal a ALL in

@@ -29,10 +29,9 @@ use Rattle.units_law.specs.Merged.{merged}
 use Rattle.units_law.specs.Rounding.{Rounding, RoundsDown, class_units, units_kind}
 use Rattle.units_law.specs.Roundings.{bound_roundings, loop_roundings, statement_roundings, block_roundings, arms_roundings, round_roundings}
 use Rattle.units_law.specs.Units.{Units, counted_units, only_units}
-use Rattle.units_law.proofs.Blocks.{merged_below, class_below, statement_below, block_below}
+use Rattle.units_law.proofs.UnitsBelow.{merged_below, only_below, class_below, statement_below, block_below}
 use Rattle.units_law.proofs.FewStates.{states_few}
 use Rattle.units_law.proofs.FittingUnits.{UnitsFit, fit_merged, fit_class, units_keep_states}
-use Rattle.units_law.proofs.Parts.{only_below}
 use Rattle.units_law.proofs.Rounds.{begins_below}
 use Rattle.units_law.specs.FewOthers.{numbers_at, DrawsWithin, BlockWithin}
 
@@ -91,7 +90,7 @@ module _ (cut : Rounding) (c : RoundsDown cut) (N L n : ℕ) (some : 0 < N) (r :
       let g' = loop_flow v (block_flow n r b) k f'.next in
       let wf : Within N L f' = record { tables = tables_first N L f'.tables g'.tables w.tables.2; ended = ends_first N f'.ended g'.ended (ends_second N (faults v I) (f'.ended ++ g'.ended) w.ended); draws = all_first N f'.draws g'.draws w.draws } in
       let wg : Within N L g' = record { tables = tables_second N L f'.tables g'.tables w.tables.2; ended = ends_second N f'.ended g'.ended (ends_second N (faults v I) (f'.ended ++ g'.ended) w.ended); draws = all_second N f'.draws g'.draws w.draws } in
-      let hh = only_below N J I h (holds v) in
+      let hh = only_below cut c N L n some r J I h (holds v) in
       let u = fit_only counted_units (holds v) J t in
       let x = m A B u wf hh in
       let below = block_below cut c N L n some r b p A B wf hh in
@@ -122,8 +121,8 @@ module _ (cut : Rounding) (c : RoundsDown cut) (N L n : ℕ) (some : 0 < N) (r :
         let B' = only (fails v) I in
         let f' = block_flow n r a A' in
         let g' = block_flow n r b B' in
-        let x = block_few a p.0 g.1 (all_left (DrawsWithin M) (listed a) (listed b) q) A A' (fit_only counted_units (holds v) J t) (both_first N L (faults v I) f' g' s) (only_below N J I h (holds v)) in
-        let y = block_few b p.1 g.2 (all_right (DrawsWithin M) (listed a) (listed b) q) B B' (fit_only counted_units (fails v) J t) (both_second N L (faults v I) f' g' s) (only_below N J I h (fails v)) in
+        let x = block_few a p.0 g.1 (all_left (DrawsWithin M) (listed a) (listed b) q) A A' (fit_only counted_units (holds v) J t) (both_first N L (faults v I) f' g' s) (only_below cut c N L n some r J I h (holds v)) in
+        let y = block_few b p.1 g.2 (all_right (DrawsWithin M) (listed a) (listed b) q) B B' (fit_only counted_units (fails v) J t) (both_second N L (faults v I) f' g' s) (only_below cut c N L n some r J I h (fails v)) in
         let z = two f'.tables g'.tables (block_roundings cut n r a A) (block_roundings cut n r b B) (less _ _ _ x) (less _ _ _ y) in
         omega arith
     statement_few (Choice q a b) p g d J I fit l w s h =

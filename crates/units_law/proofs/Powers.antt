@@ -6,7 +6,7 @@ use Rattle.std.proofs.lemmas.Nat.{pow-add}
 use Rattle.std.proofs.lemmas.Grind.{div_ceil_times}
 use Rattle.numbers.specs.declared.units.TheConstants.{ALL}
 use Rattle.numbers.specs.Units.{shared, shared_up, power_down, power_up}
-use Rattle.units_law.proofs.Held.{from_left}
+use Rattle.units_law.proofs.Orders.{from_left}
 
 -- ---- one product more, over plain numbers
 

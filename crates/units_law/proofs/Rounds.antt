@@ -19,8 +19,8 @@ use Rattle.table_flow.proofs.Wholes.{whole_from}
 use Rattle.units_law.specs.Below.{IsBelow, FlowIsBelow}
 use Rattle.units_law.specs.Rounding.{Rounding, RoundsDown}
 use Rattle.units_law.specs.Rounds.{StandsBelow, round_units, end_units_of}
-use Rattle.units_law.proofs.Held.{from_left}
-use Rattle.units_law.proofs.Blocks.{block_below}
+use Rattle.units_law.proofs.Orders.{from_left}
+use Rattle.units_law.proofs.UnitsBelow.{block_below}
 
 pub begins_below : (N : ℕ) (s : State) → IsBelow N ((s, ALL) ∷ []) (sure s)
 begins_below N s G =

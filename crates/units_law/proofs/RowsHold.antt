@@ -30,7 +30,7 @@ use Rattle.units_law.proofs.Least.{some_left}
 through : (p q m : Fraction) → 0 < q.1 → AtMost p q → AtMost q m → AtMost p m
 through p q m some h k = le_of_mul-le-mul_right {k = q.1} (let x = mul-le-mul_right m.1 h in let y = mul-le-mul_right p.1 k in omega arith) some
 
-down_below : (part w : ℕ) (m : Fraction) → 0 < w → AtMost (part, w) m → AtMost (rounded_down part w) m
+pub down_below : (part w : ℕ) (m : Fraction) → 0 < w → AtMost (part, w) m → AtMost (rounded_down part w) m
 down_below part w m some h =
     let k = part * ALL / w in
     let d = div-add-mod' (part * ALL) w in

@@ -17,7 +17,8 @@ use Rattle.units_law.specs.Merged.{merged}
 use Rattle.units_law.specs.Rounding.{Rounding, RoundsDown, LosesFew, class_units, rest_units}
 use Rattle.units_law.specs.Roundings.{loop_roundings, statement_roundings, block_roundings, arms_roundings}
 use Rattle.units_law.specs.Units.{Units, total, only_units, fault_units, end_units}
-use Rattle.units_law.proofs.Held.{from_left, held_append}
+use Rattle.units_law.proofs.Held.{held_append}
+use Rattle.units_law.proofs.Orders.{from_left}
 use Rattle.units_law.proofs.Merging.{held_merged}
 use Rattle.units_law.proofs.Losses.{Loses, none_lost, lost_after, lost_beside, lost_times, lost_over, like, guard_total, end_total, set_total, both_total, class_total, rest_total, drawn_total}
 

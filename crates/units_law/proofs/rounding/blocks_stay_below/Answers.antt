@@ -1,4 +1,4 @@
-use Rattle.units_law.proofs.Blocks.{block_below}
+use Rattle.units_law.proofs.UnitsBelow.{block_below}
 use Rattle.units_law.proofs.rounding.blocks_stay_below.Goals as goal
 
 pub returns : goal.returns

@@ -1,0 +1,13 @@
+pub mod Merging
+pub mod PairCounts
+pub mod Splits
+pub mod SplitFlows
+pub mod Ups
+pub mod Rounds
+pub mod MoreTurns
+pub mod BesideOthers
+pub mod Growing
+pub mod Listed
+pub mod Sides
+pub mod Asides
+pub mod Walk
