@@ -31,11 +31,11 @@ use Rattle.exact_fold.proofs.Unlimited.{unlimited_append}
 use Rattle.exact_fold.proofs.Steps.{at_scale, above_positive, above_fractions, stands_itself, stands_alike, held_above, merged_alike}
 
 -- ---- one arm's side
-record Side (w : Fraction) (es side : Entries) : Type 0 where
-  above : AreAbove side
-  alike : Alike (as_table side) (scaled w (as_table es))
+pub record Side (w : Fraction) (es side : Entries) : Type 0 where
+  pub above : AreAbove side
+  pub alike : Alike (as_table side) (scaled w (as_table es))
 
-side_alike : (b p : ℕ) (part : Fraction) (es side : Entries) → 0 < b → IsEqual part (class_weight b None 1) → WeighedBy part p es side → AreAbove es → Side (class_weight b None p) es side
+pub side_alike : (b p : ℕ) (part : Fraction) (es side : Entries) → 0 < b → IsEqual part (class_weight b None 1) → WeighedBy part p es side → AreAbove es → Side (class_weight b None p) es side
 side_alike b p part es side some e d h =
     let I = as_table es in
     let u = class_weight b None p in

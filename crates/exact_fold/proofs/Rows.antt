@@ -128,12 +128,12 @@ module _ (p : SourceProgram) (f : Outflow) (fs : Entries) (F : Ended) (next : f.
         let w = equal_at (sum_of (over event) f.ended) (sum_of (over event) (rows_of F)) (amount M (count_of_end (counted meant)) (rows_of F)) M (sum_some (over event) (rows_of F) ends.first) (sym (ends.each (over event))) y in
         both_at (sum_of (λ s. event (on s)) f.next) (sum_of (over event) f.ended) _ _ M (subst (λ z. (sum_of (λ s. event (on s)) z).1 * held M (by_result p.result (counted meant)) fs ≡ (sum_of (λ s. event (on s)) z).0 * M) (sym next) x) w
 
-  some_weight : (event : End → Bool) → 0 < (settled_weight event f).1
+  pub some_weight : (event : End → Bool) → 0 < (settled_weight event f).1
   some_weight event =
       product_pos (sum_of (λ s. event (on s)) f.next).1 (sum_of (over event) f.ended).1
       (sum_some (λ s. event (on s)) f.next (subst AreFractions (sym next) (above_fractions fs above))) (sum_some (over event) f.ended ends.second)
 
-  failed_equal : IsEqual F.failed (settled_failed p f)
+  pub failed_equal : IsEqual F.failed (settled_failed p f)
   failed_equal =
       let a : sum_of (λ s. is_failed (on s)) f.next ≡ (0, 1) = none_meant f.next in
       let e = ends.each (over is_failed) in

@@ -46,7 +46,7 @@ swapped m o h k =
     alike_of (m ++ o) (o ++ m) (append_fractions m o h k) (append_fractions o m k h)
     (λ F. same_trans (integral_append F m o) (same_trans (add_turned (integral F m) (integral F o)) (same_sym (integral_append F o m))))
 
-only_parts : (test : State → Bool) (M : Table) → AreFractions M → Alike (only (λ s. not (test s)) M ++ only test M) M
+pub only_parts : (test : State → Bool) (M : Table) → AreFractions M → Alike (only (λ s. not (test s)) M ++ only test M) M
 only_parts test M h =
     alike_of (only (λ s. not (test s)) M ++ only test M) M (append_fractions (only (λ s. not (test s)) M) (only test M) (kept_fractions (λ s. not (test s)) M h) (kept_fractions test M h)) h
     (λ F. same_trans (integral_append F (only (λ s. not (test s)) M) (only test M))
@@ -67,7 +67,7 @@ stands_inside s (d ∷ D) e = at_head (is_eq (order s d.0)) (same_order s d.0) e
     at_head true p q i = inl ((same_is s d.0).0 p)
     at_head false p q i = inr (i q)
 
-within_inside : (D : Entries) (M : Table) → Within (keys_in D) (only (inside D) M)
+pub within_inside : (D : Entries) (M : Table) → Within (keys_in D) (only (inside D) M)
 within_inside D [] = tt
 within_inside D (e ∷ M) = at_head (inside D e.1) refl (within_inside D M)
   where
@@ -75,15 +75,15 @@ within_inside D (e ∷ M) = at_head (inside D e.1) refl (within_inside D M)
     at_head true p i = (stands_inside e.1 D p, i)
     at_head false p i = i
 
-all_within : (D es : Entries) → AllInside D es → Within (keys_in D) (as_table es)
+pub all_within : (D es : Entries) → AllInside D es → Within (keys_in D) (as_table es)
 all_within D [] h = tt
 all_within D (e ∷ es) h = (stands_inside e.0 D h.0, all_within D es h.1)
 
-record Left (test : State → Bool) (es fs : Entries) : Type 0 where
-  above : AreAbove fs
-  alike : Alike (as_table fs) (only test (as_table es))
+pub record Left (test : State → Bool) (es fs : Entries) : Type 0 where
+  pub above : AreAbove fs
+  pub alike : Alike (as_table fs) (only test (as_table es))
 
-left : (test : State → Bool) (es fs : Entries) (E : Ended) → ((E : Ended) → StepsTo (kept_if test) none_stopped [] es E fs E) → AreAbove es → AreFractions (rows_of E) → Left test es fs
+pub left : (test : State → Bool) (es fs : Entries) (E : Ended) → ((E : Ended) → StepsTo (kept_if test) none_stopped [] es E fs E) → AreAbove es → AreFractions (rows_of E) → Left test es fs
 left test es fs E d h k =
     let t = together_at es [] E h tt k in
     let N = t.scale in
@@ -185,10 +185,15 @@ put_alone s t f bs es p q r some g = by (subst (λ z. PutGives [] es z f) q (sub
         (held_above 1 es a.0, stands_alike 1 es (sure s) (omega arith) (record { positive = omega arith; exact = refl }, tt) o)
 
 -- ---- a choice
-pub choice_settles : (p : Weight) (a c : Statements) (es first second ls cs rs : Entries) (E F G H : Ended) → IsWeight p → BlockIsWeighed a → BlockIsWeighed c →
-    SidesTo p None es E first second F → SettlesFrom (BlockSettles Alike Alike a) first F ls G → SettlesFrom (BlockSettles Alike Alike c) second G cs H → ((E : Ended) → StepsTo all_kept none_stopped ls cs E rs E) →
-    SettlesFrom (StatementSettles Alike Alike (Choice p a c)) es E rs H
-choice_settles p a c es first second ls cs rs E F G H w wa wc d x y m h u =
+pub record SidesAlike (p : Weight) (es : Entries) (E : Ended) (first second : Entries) (F : Ended) : Type 0 where
+  pub first_above : AreAbove first
+  pub second_above : AreAbove second
+  pub first_alike : Alike (as_table first) (scaled (class_weight p.den None p.num) (as_table es))
+  pub second_alike : Alike (as_table second) (scaled (class_weight p.den None (p.den - p.num)) (as_table es))
+  pub adds : Alike (rows_of F) (rows_of E ++ [])
+
+pub sides_alike : (p : Weight) (es first second : Entries) (E F : Ended) → IsWeight p → SidesTo p None es E first second F → AreAbove es → AreFractions (rows_of E) → SidesAlike p es E first second F
+sides_alike p es first second E F w d h u =
     let I = as_table es in
     let A = scaled (class_weight p.den None p.num) I in
     let C = scaled (class_weight p.den None (p.den - p.num)) I in
@@ -208,13 +213,24 @@ choice_settles p a c es first second ls cs rs E F G H w wa wc d x y m h u =
     let w4 = weights_whole N J (all_second N (weights C) (weights J) r2) in
     let L = states A + states C in
     let o = d N L I J t.some (stands_itself N es h w1) (end_itself N E w4) (record { before = w1; first = w2; second = w3; third = tt; few_first = omega arith; few_second = omega arith }) in
-    let fa = stands_alike N first A t.some w2 o.0 in
-    let sa = stands_alike N second C t.some w3 o.1 in
-    let base = end_alike N F (J ++ []) t.some (wholes_append N J [] w4 tt) o.2 in
-    let q = x (held_above N first (o.0).kept) base.first in
-    let r = y (held_above N second (o.1).kept) q.adds.first in
+    record {
+      first_above = held_above N first (o.0).kept;
+      second_above = held_above N second (o.1).kept;
+      first_alike = stands_alike N first A t.some w2 o.0;
+      second_alike = stands_alike N second C t.some w3 o.1;
+      adds = end_alike N F (J ++ []) t.some (wholes_append N J [] w4 tt) o.2;
+    }
+
+pub choice_settles : (p : Weight) (a c : Statements) (es first second ls cs rs : Entries) (E F G H : Ended) → IsWeight p → BlockIsWeighed a → BlockIsWeighed c →
+    SidesTo p None es E first second F → SettlesFrom (BlockSettles Alike Alike a) first F ls G → SettlesFrom (BlockSettles Alike Alike c) second G cs H → ((E : Ended) → StepsTo all_kept none_stopped ls cs E rs E) →
+    SettlesFrom (StatementSettles Alike Alike (Choice p a c)) es E rs H
+choice_settles p a c es first second ls cs rs E F G H w wa wc d x y m h u =
+    let s = sides_alike p es first second E F w d h u in
+    let J = rows_of E in
+    let q = x s.first_above s.adds.first in
+    let r = y s.second_above q.adds.first in
     let g = merged_alike ls cs rs H m q.above r.above r.adds.first in
-    let more = alike_chain J [] (q.ended ++ r.ended) base (alike_chain (rows_of F) q.ended r.ended q.adds r.adds) in
+    let more = alike_chain J [] (q.ended ++ r.ended) s.adds (alike_chain (rows_of F) q.ended r.ended q.adds r.adds) in
     let ts = product_some q.turns.1 r.turns.1 q.some r.some in
     record {
       above = g.above;
@@ -224,8 +240,8 @@ choice_settles p a c es first second ls cs rs E F G H w wa wc d x y m h u =
       settles = (
         record { next = as_table ls; ended = q.ended; turns = q.turns },
         record { next = as_table cs; ended = r.ended; turns = r.turns },
-        block_from a wa _ _ _ fa q.settles,
-        block_from c wc _ _ _ sa r.settles,
+        block_from a wa _ _ _ s.first_alike q.settles,
+        block_from c wc _ _ _ s.second_alike r.settles,
         record { next = g.alike; ended = alike_refl _ (behind_fractions J (q.ended ++ r.ended) more.second); turns = refl; fraction = ts },
       );
       adds = more;

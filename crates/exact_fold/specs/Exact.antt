@@ -1,5 +1,5 @@
 -- The masses of a program in the limit of turns, as rows. This project's own rule.
-use Rattle.std.specs.Prelude.{◌≡◌, [], ◌∷◌}
+use Rattle.std.specs.Prelude.{◌≡◌, ◌≤◌, [], ◌∷◌}
 use Rattle.numbers.specs.Fraction.{IsEqual, lowest}
 use Rattle.gcl_core.specs.declared.answers.Limit.{Limit}
 use Rattle.gcl_core.specs.declared.answers.Outcome.TheVariants as outcome
@@ -31,3 +31,10 @@ pub record FailsAlways (p : SourceProgram) : Type 0 where
   pub settled : Outflow
   pub settles : ProgramSettles p settled
   pub fails : AtMost one (settled_failed p settled)
+
+-- the body settles, and a round fails with this weight
+pub record FailsWith (p : SourceProgram) (f : Fraction) : Type 0 where
+  pub settled : Outflow
+  pub settles : ProgramSettles p settled
+  pub fails : IsEqual f (settled_failed p settled)
+  pub fraction : 1 ≤ (settled_failed p settled).1

@@ -12,7 +12,7 @@ use Rattle.gcl_core.specs.meaning.Outcomes.{is_settled}
 use Rattle.unlimited_law.specs.Settling.{Outflow}
 use Rattle.unlimited_law.specs.SettledMasses.{settled_failed, IsNear}
 
--- the expected number of turns that loops complete, those of what runs for ever not counted, over what does not fail
+-- the number of turns that loops complete by their visits, those of what runs for ever not counted, over what does not fail
 abbrev pub rate_of : SourceProgram → Outflow → Fraction
 rate_of p settled = divided_by_rest settled.turns (settled_failed p settled)
 

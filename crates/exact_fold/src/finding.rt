@@ -29,13 +29,13 @@ pub struct Found {
 }
 
 /// A table with one more entry, where it has as many variables.
-pub fn put(table: &mut Table, s: State, f: Frac) -> Result<(), SettleError>
+pub fn put(table: &mut Table, state: State, weight: Frac) -> Result<(), SettleError>
     ensures { table.new.vars ≡ table.old.vars }
 {
-    if s.values().len() != table.vars as usize {
+    if state.values().len() != table.vars as usize {
         return Err(SettleError::NotSettled);
     }
-    table.put(s, f)?;
+    table.put(state, weight)?;
     Ok(())
 }
 

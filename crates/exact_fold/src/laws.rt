@@ -12,7 +12,7 @@ ghost use Rattle.exact_fold.specs.Strings.{StringsTend};
 
 /// It does nothing: its clause says that exact masses of a checked program are the limits of its masses as turns grow, without
 /// limits of attempts and of rounds: at n turns none is above its row, and none short of it by more than an n-th of the
-/// expected number of turns of all loops over what does not fail.
+/// turns of all loops by their visits, over what does not fail.
 pub fn exact_masses_are_limits()
     ensures { (p : SourceProgram) (rows : Rows) (endless : Fraction) → IsChecked p →
         (e : IsExact p rows endless) → AreLimits p rows endless (rate_of p e.settled) }

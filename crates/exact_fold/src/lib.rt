@@ -10,11 +10,12 @@
 //!
 //! No clause says that a program with a loop has an answer: a call that refused each of them as too wide would keep the contract,
 //! and tests alone show that it does not. Nothing is promised of the visits that are looked for, only of what passed the check.
-//! No clause says that memory or the stack suffices, or how long a call takes.
+//! No clause says that memory or the stack suffices, or how long a call takes. The calls of `finding` and `turning` are single steps,
+//! for the crate above.
 #![tactic(auto)]
 
 mod error;
-mod finding;
+pub mod finding;
 mod laws;
 mod loops;
 mod masses;
@@ -23,13 +24,13 @@ mod program;
 mod residues;
 mod settle;
 mod solving;
-mod turning;
+pub mod turning;
 mod wide;
 
-pub use error::ExactError;
+pub use error::{ExactError, SettleError};
 pub use laws::{
     exact_masses_are_limits, exact_masses_are_told_by_their_limits, exact_masses_lie_within_bounds,
     strings_tend_to_exact_masses,
 };
 pub use masses::exact;
-pub use program::ExactMasses;
+pub use program::{ExactMasses, failed_in_the_limit};

@@ -8,11 +8,11 @@ use gcl_core::{Arms, Block, Stmt};
 
 /// Whether a block has a loop, in blocks inside too.
 #[cycle(loops)]
-pub fn block_loops(b: &Block) -> bool
-    ensures { result ≡ any_loops (statements_of b.now) }
+pub fn block_loops(block: &Block) -> bool
+    ensures { result ≡ any_loops (statements_of block.now) }
 {
-    for s in &b.stmts {
-        if statement_loops(s) {
+    for statement in &block.stmts {
+        if statement_loops(statement) {
             return true;
         }
     }
@@ -33,10 +33,10 @@ fn arms_loop(arms: &Arms) -> bool
 
 #[cycle(loops)]
 #[tactic(auto, using(gcl_core::proofs::ViewLemmas::views))]
-fn statement_loops(s: &Stmt) -> bool
-    ensures { result ≡ one_loops (statement_of s.now) }
+fn statement_loops(statement: &Stmt) -> bool
+    ensures { result ≡ one_loops (statement_of statement.now) }
 {
-    match s {
+    match statement {
         Stmt::If(_, first, second) => block_loops(first) || block_loops(second),
         Stmt::Choice(_, first, second) => block_loops(first) || block_loops(second),
         Stmt::Choose(arms) => arms_loop(arms),

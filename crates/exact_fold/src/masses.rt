@@ -18,16 +18,17 @@ use std::alloc::Global;
 /// The rows are worked out of the forgetful program, in which states are merged that differ in variables alone whose values no longer
 /// matter. They hold of the program itself.
 ///
-/// A program without a loop is refused as `mass` refuses its forgetful program at a limit of one turn: as too wide only where the common
-/// denominator of that is 2^128 or more, and for its states only where some point of it is reached with more than
-/// [`mass_fold::MOST_STATES`]. Of a program with a loop no clause says that it answers: a call that always refused such a program as too wide would keep this contract.
-/// What is tried is a table of programs, in the tests. `AllFailed` comes only where in the limit every round fails.
-pub fn exact(alloc: Global, p: &Checked) -> Result<ExactMasses, ExactError>
-    ensures masses { IfOk result (λ e. IsExact (forgetful_of (source_of p.now)) e.rows e.endless) }
-    ensures limits { IfOk result (λ e. IsExactInTheLimit (source_of p.now) e.rows e.endless) }
-    ensures refused { IfErr result (WhyRefused (source_of p.now)) }
+/// A program without a loop is refused as `mass` refuses its forgetful program at a limit of one turn: as too wide only where
+/// the common denominator of that is 2^128 or more, and for its states only where some point of it is reached with more than
+/// [`mass_fold::MOST_STATES`]. Of a program with a loop no clause says that it answers: a call that always refused such a
+/// program as too wide would keep this contract. What is tried is a table of programs, in the tests. `AllFailed` comes only
+/// where in the limit every round fails.
+pub fn exact(alloc: Global, program: &Checked) -> Result<ExactMasses, ExactError>
+    ensures masses { IfOk result (λ e. IsExact (forgetful_of (source_of program.now)) e.rows e.endless) }
+    ensures limits { IfOk result (λ e. IsExactInTheLimit (source_of program.now) e.rows e.endless) }
+    ensures refused { IfErr result (WhyRefused (source_of program.now)) }
 {
     forgetting_changes_no_meaning();
-    let q = forgetful(alloc, p)?;
-    exact_as_written(alloc, &q)
+    let forgetful_program = forgetful(alloc, program)?;
+    exact_as_written(alloc, &forgetful_program)
 }

@@ -5,7 +5,7 @@ ghost use Rattle.table_flow.specs.Scale.{whole, Whole};
 ghost use Rattle.mass_fold.specs.Amounts.{AreHeld};
 ghost use Rattle.mass_fold.specs.inner.Rounds.{TableParts};
 ghost use Rattle.gcl_core.specs.meaning.Views.{source_of};
-ghost use Rattle.exact_fold.specs.Exact.{IsExact};
+ghost use Rattle.exact_fold.specs.Exact.{IsExact, FailsWith};
 ghost use Rattle.exact_fold.specs.InTheLimit.{IsExactInTheLimit};
 ghost use Rattle.exact_fold.specs.Loops.{any_loops};
 ghost use Rattle.exact_fold.specs.Refused.{HasNoLoop};
@@ -37,22 +37,31 @@ struct LimitRound {
 }
 
 // The states after the body of a program and the weights of what ended, in the limit of turns.
-fn settle_program(alloc: Global, p: &Checked) -> Result<(Table, Ended), SettleError>
-    ensures ok { IfOk result (λ t. ProgramSettlesTo (source_of p.now) t.0.states.entries t.1) }
-    ensures vars { IfOk result (λ t. t.0.vars ≡ length (source_of p.now).names) }
+fn settle_program(alloc: Global, checked: &Checked) -> Result<(Table, Ended), SettleError>
+    ensures ok { IfOk result (λ t. ProgramSettlesTo (source_of checked.now) t.0.states.entries t.1) }
+    ensures vars { IfOk result (λ t. t.0.vars ≡ length (source_of checked.now).names) }
 {
-    let program = p.program();
+    let program = checked.program();
     let table = Table::start(alloc, program.names.count())?;
     let mut ended = Ended::none();
     let table = settle_block(alloc, &program.body, table, &mut ended)?;
     Ok((table, ended))
 }
 
-fn limit_round(alloc: Global, p: &Checked) -> Result<LimitRound, SettleError>
-    ensures { IfOk result (λ r. RoundOf (source_of p.now) r.rows.entries r.failed) }
+/// The weight with which a round of a program fails in the limit of turns. An error comes where a loop is not settled, a number is
+/// wider than 128 bits, a point has more than 65,536 states, or memory runs out.
+pub fn failed_in_the_limit(alloc: Global, program: &Checked) -> Result<Frac, SettleError>
+    ensures { IfOk result (FailsWith (source_of program.now)) }
 {
-    let program = p.program();
-    let (table, ended) = settle_program(alloc, p)?;
+    let (_table, ended) = settle_program(alloc, program)?;
+    Ok(ended.failed)
+}
+
+fn limit_round(alloc: Global, checked: &Checked) -> Result<LimitRound, SettleError>
+    ensures { IfOk result (λ r. RoundOf (source_of checked.now) r.rows.entries r.failed) }
+{
+    let program = checked.program();
+    let (table, ended) = settle_program(alloc, checked)?;
     let mut rows = BTreeMap::new(alloc);
     add_results(&program.result, &table, &mut rows)?;
     add_ended(&ended, &mut rows)?;
@@ -62,11 +71,11 @@ fn limit_round(alloc: Global, p: &Checked) -> Result<LimitRound, SettleError>
     })
 }
 
-fn add(sum: &Frac, f: &Frac) -> Option<Frac>
-    ensures { IfSome result (λ v. (N : ℕ) → Whole N sum.now → Whole N f.now →
-        Whole N v × (whole N v ≡ whole N sum.now + whole N f.now)) }
+fn add(sum: &Frac, weight: &Frac) -> Option<Frac>
+    ensures { IfSome result (λ v. (N : ℕ) → Whole N sum.now → Whole N weight.now →
+        Whole N v × (whole N v ≡ whole N sum.now + whole N weight.now)) }
 {
-    sum.add(f)
+    sum.add(weight)
 }
 
 // The sum of the weights, or none where it, or a sum on the way to it, does not fit.
@@ -123,14 +132,14 @@ fn divided(alloc: Global, round: LimitRound) -> Result<ExactMasses, SettleError>
 }
 
 // A program with a loop: its body is settled.
-fn settled(alloc: Global, p: &Checked) -> Result<ExactMasses, ExactError>
-    requires { any_loops (source_of p.now).body ≡ true }
-    ensures masses { IfOk result (λ e. IsExact (source_of p.now) e.rows e.endless) }
-    ensures limits { IfOk result (λ e. IsExactInTheLimit (source_of p.now) e.rows e.endless) }
-    ensures refused { IfErr result (RefusedAsWritten (source_of p.now)) }
+fn settled(alloc: Global, program: &Checked) -> Result<ExactMasses, ExactError>
+    requires { any_loops (source_of program.now).body ≡ true }
+    ensures masses { IfOk result (λ e. IsExact (source_of program.now) e.rows e.endless) }
+    ensures limits { IfOk result (λ e. IsExactInTheLimit (source_of program.now) e.rows e.endless) }
+    ensures refused { IfErr result (RefusedAsWritten (source_of program.now)) }
 {
-    p.is_kept();
-    let round = limit_round(alloc, p)?;
+    program.is_kept();
+    let round = limit_round(alloc, program)?;
     if round.failed.num() >= round.failed.den() {
         return Err(ExactError::AllFailed);
     }
@@ -139,14 +148,14 @@ fn settled(alloc: Global, p: &Checked) -> Result<ExactMasses, ExactError>
 }
 
 // A program without a loop: its masses at one turn, and nothing runs for ever.
-fn at_once(alloc: Global, p: &Checked) -> Result<ExactMasses, ExactError>
-    requires { HasNoLoop (source_of p.now) }
-    ensures masses { IfOk result (λ e. IsExact (source_of p.now) e.rows e.endless) }
-    ensures limits { IfOk result (λ e. IsExactInTheLimit (source_of p.now) e.rows e.endless) }
-    ensures refused { IfErr result (RefusedAsWritten (source_of p.now)) }
+fn at_once(alloc: Global, program: &Checked) -> Result<ExactMasses, ExactError>
+    requires { HasNoLoop (source_of program.now) }
+    ensures masses { IfOk result (λ e. IsExact (source_of program.now) e.rows e.endless) }
+    ensures limits { IfOk result (λ e. IsExactInTheLimit (source_of program.now) e.rows e.endless) }
+    ensures refused { IfErr result (RefusedAsWritten (source_of program.now)) }
 {
-    p.is_kept();
-    let rows = mass(alloc, p, 1, None, None)?;
+    program.is_kept();
+    let rows = mass(alloc, program, 1, None, None)?;
     Ok(ExactMasses {
         rows,
         endless: Frac::of(0, 1),
@@ -154,14 +163,14 @@ fn at_once(alloc: Global, p: &Checked) -> Result<ExactMasses, ExactError>
 }
 
 /// The masses of a program itself, before anything is forgotten.
-pub fn exact_as_written(alloc: Global, p: &Checked) -> Result<ExactMasses, ExactError>
-    ensures masses { IfOk result (λ e. IsExact (source_of p.now) e.rows e.endless) }
-    ensures limits { IfOk result (λ e. IsExactInTheLimit (source_of p.now) e.rows e.endless) }
-    ensures refused { IfErr result (RefusedAsWritten (source_of p.now)) }
+pub fn exact_as_written(alloc: Global, program: &Checked) -> Result<ExactMasses, ExactError>
+    ensures masses { IfOk result (λ e. IsExact (source_of program.now) e.rows e.endless) }
+    ensures limits { IfOk result (λ e. IsExactInTheLimit (source_of program.now) e.rows e.endless) }
+    ensures refused { IfErr result (RefusedAsWritten (source_of program.now)) }
 {
-    if block_loops(&p.program().body) {
-        settled(alloc, p)
+    if block_loops(&program.program().body) {
+        settled(alloc, program)
     } else {
-        at_once(alloc, p)
+        at_once(alloc, program)
     }
 }

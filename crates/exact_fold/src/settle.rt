@@ -27,19 +27,19 @@ use std::alloc::Global;
 #[cycle(settle)]
 pub fn settle_block(
     alloc: Global,
-    b: &Block,
+    block: &Block,
     table: Table,
     ended: &mut Ended,
 ) -> Result<Table, SettleError>
-    requires below { BlockBelow table.vars (statements_of b.now) }
-    requires weights { BlockIsWeighed (statements_of b.now) }
-    ensures ok { IfOk result (λ t. SettlesFrom (BlockSettles Alike Alike (statements_of b.now))
+    requires below { BlockBelow table.vars (statements_of block.now) }
+    requires weights { BlockIsWeighed (statements_of block.now) }
+    ensures ok { IfOk result (λ t. SettlesFrom (BlockSettles Alike Alike (statements_of block.now))
         table.states.entries ended.old t.states.entries ended.new) }
     ensures vars { IfOk result (λ t. t.vars ≡ table.vars) }
 {
     let mut now = table;
-    for s in &b.stmts {
-        now = settle_stmt(alloc, s, now, ended)?;
+    for statement in &block.stmts {
+        now = settle_stmt(alloc, statement, now, ended)?;
     }
     Ok(now)
 }
@@ -48,18 +48,18 @@ pub fn settle_block(
 #[tactic(auto, using(gcl_core::proofs::ViewLemmas::views))]
 fn settle_stmt(
     alloc: Global,
-    s: &Stmt,
+    statement: &Stmt,
     table: Table,
     ended: &mut Ended,
 ) -> Result<Table, SettleError>
-    requires below { StatementBelow table.vars (statement_of s.now) }
-    requires weights { StatementIsWeighed (statement_of s.now) }
-    ensures ok { IfOk result (λ t. SettlesFrom (StatementSettles Alike Alike (statement_of s.now))
+    requires below { StatementBelow table.vars (statement_of statement.now) }
+    requires weights { StatementIsWeighed (statement_of statement.now) }
+    ensures ok { IfOk result (λ t. SettlesFrom (StatementSettles Alike Alike (statement_of statement.now))
         table.states.entries ended.old t.states.entries ended.new) }
     ensures vars { IfOk result (λ t. t.vars ≡ table.vars) }
 {
     let _count = table.states.len();
-    match s {
+    match statement {
         Stmt::Skip => Ok(table),
         Stmt::Set(x, e) => Ok(assign(alloc, *x, e, table, ended)?),
         Stmt::Uniform(x, e) => Ok(unlimited(alloc).draw(*x, e, table, ended)?),
@@ -143,23 +143,23 @@ fn settle_arms(
 fn settle_loop(
     alloc: Global,
     body: &Block,
-    e: &Expr,
+    guard: &Expr,
     table: Table,
     ended: &mut Ended,
 ) -> Result<Table, SettleError>
-    requires reads { ExpressionBelow (expression_of e.now) table.vars }
+    requires reads { ExpressionBelow (expression_of guard.now) table.vars }
     requires below { BlockBelow table.vars (statements_of body.now) }
     requires weights { BlockIsWeighed (statements_of body.now) }
     ensures ok { IfOk result (λ t. SettlesFrom
-        (LoopSettles Alike Alike (value_of (expression_of e.now)) (BlockSettles Alike Alike (statements_of body.now)))
+        (LoopSettles Alike Alike (value_of (expression_of guard.now)) (BlockSettles Alike Alike (statements_of body.now)))
         table.states.entries ended.old t.states.entries ended.new) }
     ensures vars { IfOk result (λ t. t.vars ≡ table.vars) }
 {
-    let start = start_of(alloc, e, &table)?;
-    let seen = explored(alloc, body, e, &start)?;
+    let start = start_of(alloc, guard, &table)?;
+    let seen = explored(alloc, body, guard, &start)?;
     let found = seen.found(alloc, &start)?;
-    check_closed(alloc, body, e, &found.closed)?;
-    turned(alloc, body, e, found, table, ended)
+    check_closed(alloc, body, guard, &found.closed)?;
+    turned(alloc, body, guard, found, table, ended)
 }
 
 // One turn from the visits. What it leads back and what comes in are the visits again, but for what is never left.
@@ -167,16 +167,16 @@ fn settle_loop(
 fn turned(
     alloc: Global,
     body: &Block,
-    e: &Expr,
+    guard: &Expr,
     found: Found,
     table: Table,
     ended: &mut Ended,
 ) -> Result<Table, SettleError>
-    requires reads { ExpressionBelow (expression_of e.now) table.vars }
+    requires reads { ExpressionBelow (expression_of guard.now) table.vars }
     requires below { BlockBelow table.vars (statements_of body.now) }
     requires weights { BlockIsWeighed (statements_of body.now) }
     requires vars { found.visits.vars ≡ table.vars }
-    ensures ok { IfOk result (λ t. TurnsTo (value_of (expression_of e.now)) (BlockSettles Alike Alike (statements_of body.now))
+    ensures ok { IfOk result (λ t. TurnsTo (value_of (expression_of guard.now)) (BlockSettles Alike Alike (statements_of body.now))
         found.closed.states.entries table.states.entries ended.old t.states.entries ended.new) }
     ensures vars { IfOk result (λ t. t.vars ≡ table.vars) }
 {
@@ -187,7 +187,7 @@ fn turned(
     let mut all = table;
     merge(&mut all, next)?;
     let seen = leaving(alloc, &found.closed, all)?;
-    let (on, exits) = split(alloc, e, seen, ended)?;
+    let (on, exits) = split(alloc, guard, seen, ended)?;
     if !same(&on, &found.copy) {
         return Err(SettleError::NotSettled);
     }
@@ -195,35 +195,41 @@ fn turned(
 }
 
 // The entries where the guard holds.
-fn start_of(alloc: Global, e: &Expr, table: &Table) -> Result<Table, SettleError>
-    requires { ExpressionBelow (expression_of e.now) table.now.vars }
+fn start_of(alloc: Global, guard: &Expr, table: &Table) -> Result<Table, SettleError>
+    requires { ExpressionBelow (expression_of guard.now) table.now.vars }
     ensures { IfOk result (λ t. t.vars ≡ table.now.vars) }
 {
     let copy = copied(alloc, table)?;
     let mut none = Ended::none();
-    let (first, _) = split(alloc, e, copy, &mut none)?;
+    let (first, _) = split(alloc, guard, copy, &mut none)?;
     Ok(first)
 }
 
 // Where one turn leads from a state, as far as the guard holds there again.
 #[cycle(settle)]
-fn led(alloc: Global, body: &Block, e: &Expr, vars: u32, s: &State) -> Result<Table, SettleError>
-    requires reads { ExpressionBelow (expression_of e.now) vars }
+fn led(
+    alloc: Global,
+    body: &Block,
+    guard: &Expr,
+    vars: u32,
+    state: &State,
+) -> Result<Table, SettleError>
+    requires reads { ExpressionBelow (expression_of guard.now) vars }
     requires below { BlockBelow vars (statements_of body.now) }
     requires weights { BlockIsWeighed (statements_of body.now) }
 {
     let mut one = Table::new(alloc, vars);
-    put(&mut one, s.copy(alloc)?, Frac::of(1, 1))?;
+    put(&mut one, state.copy(alloc)?, Frac::of(1, 1))?;
     let mut none = Ended::none();
     let next = settle_block(alloc, body, one, &mut none)?;
-    let (first, _) = split(alloc, e, next, &mut none)?;
+    let (first, _) = split(alloc, guard, next, &mut none)?;
     Ok(first)
 }
 
 // The states that a loop comes to, and where one turn leads from each.
 #[cycle(settle)]
-fn explored(alloc: Global, body: &Block, e: &Expr, start: &Table) -> Result<Seen, SettleError>
-    requires reads { ExpressionBelow (expression_of e.now) start.now.vars }
+fn explored(alloc: Global, body: &Block, guard: &Expr, start: &Table) -> Result<Seen, SettleError>
+    requires reads { ExpressionBelow (expression_of guard.now) start.now.vars }
     requires below { BlockBelow start.now.vars (statements_of body.now) }
     requires weights { BlockIsWeighed (statements_of body.now) }
 {
@@ -233,8 +239,8 @@ fn explored(alloc: Global, body: &Block, e: &Expr, start: &Table) -> Result<Seen
         if i >= seen.states.len() {
             return Ok(seen);
         }
-        let s = seen.states[i].copy(alloc)?;
-        let next = led(alloc, body, e, start.vars, &s)?;
+        let state = seen.states[i].copy(alloc)?;
+        let next = led(alloc, body, guard, start.vars, &state)?;
         seen.lead(alloc, i as u64, &next)?;
     }
     if seen.states.len() > MOST_STATES {
@@ -248,21 +254,21 @@ fn explored(alloc: Global, body: &Block, e: &Expr, start: &Table) -> Result<Seen
 fn check_state(
     alloc: Global,
     body: &Block,
-    e: &Expr,
+    guard: &Expr,
     closed: &Table,
-    s: &State,
+    state: &State,
 ) -> Result<(), SettleError>
-    requires reads { ExpressionBelow (expression_of e.now) closed.now.vars }
+    requires reads { ExpressionBelow (expression_of guard.now) closed.now.vars }
     requires below { BlockBelow closed.now.vars (statements_of body.now) }
     requires weights { BlockIsWeighed (statements_of body.now) }
-    requires sized { length s.now ≡ closed.now.vars }
-    ensures { OnOk result (StaysIn (value_of (expression_of e.now)) (BlockSettles Alike Alike (statements_of body.now))
-        (keys_in closed.now.states.entries) s.now) }
+    requires sized { length state.now ≡ closed.now.vars }
+    ensures { OnOk result (StaysIn (value_of (expression_of guard.now)) (BlockSettles Alike Alike (statements_of body.now))
+        (keys_in closed.now.states.entries) state.now) }
 {
-    if !passes(e, s) {
+    if !passes(guard, state) {
         return Err(SettleError::NotSettled);
     }
-    let one = alone(alloc, closed.vars, s)?;
+    let one = alone(alloc, closed.vars, state)?;
     let mut gone = Ended::none();
     let next = settle_block(alloc, body, one, &mut gone)?;
     if !is_none(&gone) || !all_stand(closed, &next) {
@@ -273,15 +279,20 @@ fn check_state(
 
 // No state of these is ever left.
 #[cycle(settle)]
-fn check_closed(alloc: Global, body: &Block, e: &Expr, closed: &Table) -> Result<(), SettleError>
-    requires reads { ExpressionBelow (expression_of e.now) closed.now.vars }
+fn check_closed(
+    alloc: Global,
+    body: &Block,
+    guard: &Expr,
+    closed: &Table,
+) -> Result<(), SettleError>
+    requires reads { ExpressionBelow (expression_of guard.now) closed.now.vars }
     requires below { BlockBelow closed.now.vars (statements_of body.now) }
     requires weights { BlockIsWeighed (statements_of body.now) }
-    ensures { OnOk result (IsClosed (value_of (expression_of e.now)) (BlockSettles Alike Alike (statements_of body.now))
+    ensures { OnOk result (IsClosed (value_of (expression_of guard.now)) (BlockSettles Alike Alike (statements_of body.now))
         (keys_in closed.now.states.entries)) }
 {
-    for (s, _) in &closed.states {
-        check_state(alloc, body, e, closed, s)?;
+    for (state, _) in &closed.states {
+        check_state(alloc, body, guard, closed, state)?;
     }
     Ok(())
 }

@@ -19,10 +19,10 @@ use numbers::Frac;
 use std::alloc::Global;
 
 /// Whether the state stands in the table.
-pub fn stands(table: &Table, s: &State) -> bool
-    ensures { result ≡ inside table.now.states.entries s.now }
+pub fn stands(table: &Table, state: &State) -> bool
+    ensures { result ≡ inside table.now.states.entries state.now }
 {
-    match table.states.get(s) {
+    match table.states.get(state) {
         Some(_) => true,
         None => false,
     }
@@ -35,27 +35,27 @@ pub fn leaving(alloc: Global, closed: &Table, table: Table) -> Result<Table, Set
     ensures vars { IfOk result (λ t. t.vars ≡ table.vars) }
 {
     let mut visits = Table::new(alloc, table.vars);
-    for (s, f) in table.states {
-        if !stands(closed, &s) {
-            visits.put(s, f)?;
+    for (state, weight) in table.states {
+        if !stands(closed, &state) {
+            visits.put(state, weight)?;
         }
     }
     Ok(visits)
 }
 
-fn same_state(s: &State, t: &State) -> bool
-    ensures { result ≡ true → s.now ≡ t.now }
+fn same_state(state: &State, other: &State) -> bool
+    ensures { result ≡ true → state.now ≡ other.now }
 {
-    *s == *t
+    *state == *other
 }
 
-fn same_weight(f: &Frac, g: &Frac) -> bool
-    ensures { result ≡ true → f.now ≡ g.now }
+fn same_weight(weight: &Frac, other: &Frac) -> bool
+    ensures { result ≡ true → weight.now ≡ other.now }
 {
-    if f.num() != g.num() {
+    if weight.num() != other.num() {
         return false;
     }
-    f.den() == g.den()
+    weight.den() == other.den()
 }
 
 /// Whether both tables have the same entries.
@@ -63,14 +63,14 @@ pub fn same(first: &Table, second: &Table) -> bool
     ensures { result ≡ true → first.now.states.entries ≡ second.now.states.entries }
 {
     let mut others = second.states.iter();
-    for (s, f) in &first.states {
-        let Some((t, g)) = others.next() else {
+    for (state, weight) in &first.states {
+        let Some((other, other_weight)) = others.next() else {
             return false;
         };
-        if !same_state(s, t) {
+        if !same_state(state, other) {
             return false;
         }
-        if !same_weight(f, g) {
+        if !same_weight(weight, other_weight) {
             return false;
         }
     }
@@ -81,8 +81,8 @@ pub fn same(first: &Table, second: &Table) -> bool
 pub fn above(table: &Table) -> bool
     ensures { result ≡ true → AreAbove table.now.states.entries }
 {
-    for (_, f) in &table.states {
-        if f.num() == 0 {
+    for (_, weight) in &table.states {
+        if weight.num() == 0 {
             return false;
         }
     }
@@ -90,24 +90,24 @@ pub fn above(table: &Table) -> bool
 }
 
 /// Whether the guard holds in the state.
-pub fn passes(e: &Expr, s: &State) -> bool
-    requires { ExpressionBelow (expression_of e.now) (length s.now) }
-    ensures { result ≡ true → holds (value_of (expression_of e.now)) s.now ≡ true }
+pub fn passes(guard: &Expr, state: &State) -> bool
+    requires { ExpressionBelow (expression_of guard.now) (length state.now) }
+    ensures { result ≡ true → holds (value_of (expression_of guard.now)) state.now ≡ true }
 {
-    match eval(e, s.values()) {
+    match eval(guard, state.values()) {
         Ok(v) => v != 0,
         Err(_) => false,
     }
 }
 
 /// One state with all weight.
-pub fn alone(alloc: Global, vars: u32, s: &State) -> Result<Table, SettleError>
-    requires { length s.now ≡ vars }
-    ensures one { IfOk result (λ t. Alone s.now t.states.entries) }
+pub fn alone(alloc: Global, vars: u32, state: &State) -> Result<Table, SettleError>
+    requires { length state.now ≡ vars }
+    ensures one { IfOk result (λ t. Alone state.now t.states.entries) }
     ensures vars { IfOk result (λ t. t.vars ≡ vars) }
 {
     let mut one = Table::new(alloc, vars);
-    one.put(s.copy(alloc)?, Frac::of(1, 1))?;
+    one.put(state.copy(alloc)?, Frac::of(1, 1))?;
     Ok(one)
 }
 
@@ -127,8 +127,8 @@ pub fn is_none(ended: &Ended) -> bool
 pub fn all_stand(closed: &Table, table: &Table) -> bool
     ensures { result ≡ true → AllInside closed.now.states.entries table.now.states.entries }
 {
-    for (s, _) in &table.states {
-        if !stands(closed, s) {
+    for (state, _) in &table.states {
+        if !stands(closed, state) {
             return false;
         }
     }

@@ -1,4 +1,4 @@
--- A block that settles is near what it settles to, at each limit of turns: nothing has more, and an n-th of the expected turns is what is short.
+-- A block that settles is near what it settles to, at each limit of turns: nothing has more, and an n-th of its turns is what is short.
 use Rattle.std.proofs.Common.{◌≡◌, ℕ, zero, suc, ◌-◌, ◌<◌, Bool, true, false, not, cond, ⊎_elim, List, [], ◌∷◌, ◌++◌, Ok, Err, None, sym, subst, arith}
 use Rattle.std.specs.List.{sum}
 use Rattle.gcl_core.specs.declared.answers.Limit.TheVariants.{Turns}

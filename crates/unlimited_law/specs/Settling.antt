@@ -12,7 +12,8 @@ use Rattle.gcl_core.specs.weighing.Mass.{sum_of}
 use Rattle.gcl_core.specs.weighing.WeightedEnds.{Weighted, sure, scaled, class_weight}
 use Rattle.table_flow.specs.Tables.{Table, holds, fails, only, faults, statement_flow}
 
--- the table after a block, the entries that ended, and the expected number of turns of all loops
+-- The table after a block, the entries that ended, and the number of turns that its loops complete by the visits that are given. It is
+-- more than the expected number where the visits are more: what goes round in a circle that nothing enters balances, too.
 pub record Outflow : Type 0 where
   pub next : Table
   pub ended : Weighted End

@@ -4,11 +4,12 @@
 //!
 //! Proved, without limits of attempts and rounds, of a checked program whose body settles and whose rounds do not all fail in the
 //! limit: at n turns the mass of every event without the limit of turns is at most its mass in the limit, and short of it by at
-//! most an n-th of the expected turns over what does not fail (`masses_tend_to_their_limits`). The limit of turns has at n turns
-//! at least the mass that never ends, and at most the same gap more (`turns_run_out_for_what_is_endless`). What a block settles
-//! to does not depend on which visits are given (`blocks_tend_to_what_they_settle_to`: `one_limit`).
+//! most an n-th of the turns by the visits that are given, over what does not fail (`masses_tend_to_their_limits`). The limit of
+//! turns has at n turns at least the mass that never ends, and at most the same gap more (`turns_run_out_for_what_is_endless`).
+//! What a block settles to does not depend on which visits are given (`blocks_tend_to_what_they_settle_to`: `one_limit`).
 //!
-//! No clause says that a program settles, or how visits are found: `exact_fold` looks for them and may find none.
+//! No clause says that a program settles, or how visits are found: `exact_fold` looks for them and may find none. Nor that the turns
+//! are the expected ones: visits may balance and be more than these.
 #![tactic(auto)]
 
 ghost use Rattle.std.specs.Prelude.{◌≡◌, ℕ, ◌≤◌, Bool, false, None};
@@ -31,7 +32,7 @@ ghost use Rattle.unlimited_law.specs.SettledMasses.{Settles, settled_weight, IsN
 
 /// It does nothing: its clauses say what it means that a block settles, without a limit of attempts. At every limit of turns n,
 /// and for every event of ends without the limit of turns, the ends from a table weigh at most what the block settles to, and
-/// fall short of it by at most an n-th of the expected turns. So what it settles to does not depend on which visits are given.
+/// fall short of it by at most an n-th of the turns by the visits that are given. So what it settles to does not depend on these.
 pub fn blocks_tend_to_what_they_settle_to()
     ensures near { (b : Statements) (I : Table) (f : Outflow) → BlockIsWeighed b → AreFractions I → Settles b I f →
         (n : ℕ) → 1 ≤ n → (event : End → Bool) → event (limit Turns) ≡ false →

@@ -6,5 +6,5 @@ use Rattle.exact_fold.proofs.loops.+loops.Given as goal
 abbrev pub invariant-arms_loop-loop-block : goal.invariant-arms_loop-loop-block
 invariant-arms_loop-loop-block l = arm_loops (arm_list_of (drop l.block-index l.block-items)) ≡ arm_loops (arm_list_of l.block-items)
 
-abbrev pub invariant-block_loops-loop-s : goal.invariant-block_loops-loop-s
-invariant-block_loops-loop-s l = any_loops (list_of (drop l.s-index l.s-items)) ≡ any_loops (list_of l.s-items)
+abbrev pub invariant-block_loops-loop-statement : goal.invariant-block_loops-loop-statement
+invariant-block_loops-loop-statement l = any_loops (list_of (drop l.statement-index l.statement-items)) ≡ any_loops (list_of l.statement-items)

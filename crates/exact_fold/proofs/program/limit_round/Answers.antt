@@ -6,7 +6,7 @@ use Rattle.exact_fold.proofs.program.limit_round.Goals as goal
 
 pub returns : goal.returns
 returns c =
-    let p = source_of c.args.p.now in
+    let p = source_of c.args.checked.now in
     let o = c.in_ok-table.ensures.ok in
     let fs = c.in_ok-table.table.states.entries in
     let results : ResultsGive p.result fs c.new-rows.result.entries c.add_results.new.rows.entries

@@ -27,28 +27,28 @@ use Rattle.exact_fold.proofs.settle.+settle.Goals as goal
 
 pub settle_block-settle_stmt-requires : goal.settle_block-settle_stmt-requires
 settle_block-settle_stmt-requires t c =
-    let p = list_step c.deref-s-items.result.now c.loop-s.s-index c.s-item.result c.loop-s-test.true c.s-item.is in
+    let p = list_step c.deref-statement-items.result.now c.loop-statement.statement-index c.statement-item.result c.loop-statement-test.true c.statement-item.is in
     let m = c.args.table.vars in (
       search (rules, the_lemmas),
       (
-        subst (λ m. StatementBelow m (statement_of c.s-item.result)) (sym c.loop-s.invariant.vars) (below_next m _ _ _ p (c.loop-s.invariant.below m (below_list m _ _ c.deref-s-items.ensures.value c.requires.below))).0,
-        (weights_next _ _ _ p (c.loop-s.invariant.weights (along_list _ _ c.deref-s-items.ensures.value c.requires.weights))).0,
+        subst (λ m. StatementBelow m (statement_of c.statement-item.result)) (sym c.loop-statement.invariant.vars) (below_next m _ _ _ p (c.loop-statement.invariant.below m (below_list m _ _ c.deref-statement-items.ensures.value c.requires.below))).0,
+        (weights_next _ _ _ p (c.loop-statement.invariant.weights (along_list _ _ c.deref-statement-items.ensures.value c.requires.weights))).0,
       ),
     )
 
-pub settle_block-loop-s-preserved : goal.settle_block-loop-s-preserved
-settle_block-loop-s-preserved t c =
-    let p = list_step c.deref-s-items.result.now c.loop-s.s-index c.s-item.result c.loop-s-test.true c.s-item.is in
+pub settle_block-loop-statement-preserved : goal.settle_block-loop-statement-preserved
+settle_block-loop-statement-preserved t c =
+    let p = list_step c.deref-statement-items.result.now c.loop-statement.statement-index c.statement-item.result c.loop-statement-test.true c.statement-item.is in
     record {
-      below = λ m h. (below_next m _ _ _ p (c.loop-s.invariant.below m h)).1;
-      weights = λ h. (weights_next _ _ _ p (c.loop-s.invariant.weights h)).1;
-      vars = c.in_ok-now.ensures.vars ∙ c.loop-s.invariant.vars;
-      so_far = rest_next (BlockSettles Alike Alike (list_of c.deref-s-items.result.now)) _ _ _ _ _ _ _ _ _ p c.loop-s.invariant.so_far c.in_ok-now.ensures.ok;
+      below = λ m h. (below_next m _ _ _ p (c.loop-statement.invariant.below m h)).1;
+      weights = λ h. (weights_next _ _ _ p (c.loop-statement.invariant.weights h)).1;
+      vars = c.in_ok-now.ensures.vars ∙ c.loop-statement.invariant.vars;
+      so_far = rest_next (BlockSettles Alike Alike (list_of c.deref-statement-items.result.now)) _ _ _ _ _ _ _ _ _ p c.loop-statement.invariant.so_far c.in_ok-now.ensures.ok;
     }
 
 pub settle_block-returns-clause-ok : goal.settle_block-returns-clause-ok
 settle_block-returns-clause-ok t c =
-    rest_none c.deref-s-items.result.now c.args.b.now.stmts.items c.loop-s.s-index _ _ _ _ c.loop-s-test.false c.deref-s-items.ensures.value c.loop-s.invariant.so_far
+    rest_none c.deref-statement-items.result.now c.args.block.now.stmts.items c.loop-statement.statement-index _ _ _ _ c.loop-statement-test.false c.deref-statement-items.ensures.value c.loop-statement.invariant.so_far
 
 pub settle_stmt-returns-in-Skip-clause-ok : goal.settle_stmt-returns-in-Skip-clause-ok
 settle_stmt-returns-in-Skip-clause-ok t c =
@@ -139,35 +139,35 @@ pub turned-returns-clause-ok : goal.turned-returns-clause-ok
 turned-returns-clause-ok t c =
     let D = c.args.found.closed.states.entries in
     let copy = c.args.found.copy.states.entries in
-    turn_settles (value_of (expression_of c.args.e.now)) (statements_of c.args.body.now) D c.args.table.states.entries c.args.found.visits.states.entries _ _ _ _ _ copy c.args.ended.now _ _ c.requires.weights
+    turn_settles (value_of (expression_of c.args.guard.now)) (statements_of c.args.body.now) D c.args.table.states.entries c.args.found.visits.states.entries _ _ _ _ _ copy c.args.ended.now _ _ c.requires.weights
     (c.above.ensures c.if-not-above.false) (c.same.ensures c.if-not-same.false) (c.same-2.ensures c.if-not-same-2.false) c.in_ok-next.ensures.ok c.in_ok-merge.ensures.ok
     c.in_ok-seen.ensures.ok c.in_ok-on.ensures.first c.in_ok-on.ensures.second
 
 pub check_state-returns : goal.check_state-returns
 check_state-returns t c =
-    state_stays (value_of (expression_of c.args.e.now)) (statements_of c.args.body.now) c.args.closed.now.states.entries _ _ c.args.s.now _ _ c.requires.weights (c.passes.ensures c.if-not-passes.false) c.in_ok-one.ensures.one c.none-gone.ensures c.in_ok-next.ensures.ok
+    state_stays (value_of (expression_of c.args.guard.now)) (statements_of c.args.body.now) c.args.closed.now.states.entries _ _ c.args.state.now _ _ c.requires.weights (c.passes.ensures c.if-not-passes.false) c.in_ok-one.ensures.one c.none-gone.ensures c.in_ok-next.ensures.ok
     (c.is_none.ensures c.if-not-is_none.false) (c.all_stand.ensures c.if-not-all_stand.false)
 
-pub check_closed-loop-s-init : goal.check_closed-loop-s-init
-check_closed-loop-s-init t c = record {
+pub check_closed-loop-state-init : goal.check_closed-loop-state-init
+check_closed-loop-state-init t c = record {
   next = tt;
   finite = tt;
-  so_far = λ h. subst (λ z. EachState (StaysIn (value_of (expression_of c.args.e.now)) (BlockSettles Alike Alike (statements_of c.args.body.now)) (keys_in c.args.closed.now.states.entries)) (keys_in z)) c.into_iter-s-iterator.ensures.into_iter_gives.0 h;
+  so_far = λ h. subst (λ z. EachState (StaysIn (value_of (expression_of c.args.guard.now)) (BlockSettles Alike Alike (statements_of c.args.body.now)) (keys_in c.args.closed.now.states.entries)) (keys_in z)) c.into_iter-state-iterator.ensures.into_iter_gives.0 h;
 }
 
 pub check_closed-check_state-requires : goal.check_closed-check_state-requires
-check_closed-check_state-requires t c = (search (rules, the_lemmas), (c.requires.reads, (c.requires.below, (c.requires.weights, sized_at _ _ c.args.closed.now.sized deref_pair _ _ _ _ _ _ c.into_iter-s-iterator.ensures.into_iter_gives.0 c.loop-s.yielded_by c.in-Some.is c.next.ensures.steps))))
+check_closed-check_state-requires t c = (search (rules, the_lemmas), (c.requires.reads, (c.requires.below, (c.requires.weights, sized_at _ _ c.args.closed.now.sized deref_pair _ _ _ _ _ _ c.into_iter-state-iterator.ensures.into_iter_gives.0 c.loop-state.yielded_by c.in-Some.is c.next.ensures.steps))))
 
-pub check_closed-loop-s-preserved : goal.check_closed-loop-s-preserved
-check_closed-loop-s-preserved t c = record {
+pub check_closed-loop-state-preserved : goal.check_closed-loop-state-preserved
+check_closed-loop-state-preserved t c = record {
   next = tt;
   finite = tt;
-  so_far = stays_next (StaysIn (value_of (expression_of c.args.e.now)) (BlockSettles Alike Alike (statements_of c.args.body.now)) (keys_in c.args.closed.now.states.entries)) c.args.closed.now.states.entries _ _ _ _ c.in-Some.ensures.steps c.in_ok-check_state.ensures c.loop-s.invariant.so_far;
+  so_far = stays_next (StaysIn (value_of (expression_of c.args.guard.now)) (BlockSettles Alike Alike (statements_of c.args.body.now)) (keys_in c.args.closed.now.states.entries)) c.args.closed.now.states.entries _ _ _ _ c.in-Some.ensures.steps c.in_ok-check_state.ensures c.loop-state.invariant.so_far;
 }
 
 pub check_closed-returns : goal.check_closed-returns
 check_closed-returns t c =
-    c.loop-s.invariant.so_far (subst (λ z. EachState (StaysIn (value_of (expression_of c.args.e.now)) (BlockSettles Alike Alike (statements_of c.args.body.now)) (keys_in c.args.closed.now.states.entries)) (keys_in z)) (sym c.in-None.ensures.steps.0) tt)
+    c.loop-state.invariant.so_far (subst (λ z. EachState (StaysIn (value_of (expression_of c.args.guard.now)) (BlockSettles Alike Alike (statements_of c.args.body.now)) (keys_in c.args.closed.now.states.entries)) (keys_in z)) (sym c.in-None.ensures.steps.0) tt)
 
 pub settle_stmt-settle_arms-requires : goal.settle_stmt-settle_arms-requires
 settle_stmt-settle_arms-requires t c =

@@ -11,20 +11,20 @@ use Rattle.exact_fold.specs.inner.Turning.{StaysIn, keys_in}
 use Rattle.exact_fold.proofs.Steps.{SettlesRest}
 use Rattle.exact_fold.proofs.settle.+settle.Given as goal
 
-abbrev pub invariant-settle_block-loop-s : goal.invariant-settle_block-loop-s
-invariant-settle_block-loop-s l = record {
-  below : (m : ℕ) → BlockBelow m (list_of l.s-items) → BlockBelow m (list_of (drop l.s-index l.s-items));
-  weights : BlockIsWeighed (list_of l.s-items) → BlockIsWeighed (list_of (drop l.s-index l.s-items));
+abbrev pub invariant-settle_block-loop-statement : goal.invariant-settle_block-loop-statement
+invariant-settle_block-loop-statement l = record {
+  below : (m : ℕ) → BlockBelow m (list_of l.statement-items) → BlockBelow m (list_of (drop l.statement-index l.statement-items));
+  weights : BlockIsWeighed (list_of l.statement-items) → BlockIsWeighed (list_of (drop l.statement-index l.statement-items));
   vars : l.now.vars ≡ l.fn.table.vars;
-  so_far : SettlesRest (BlockSettles Alike Alike (list_of l.s-items)) (list_of (drop l.s-index l.s-items)) l.fn.table.states.entries l.fn.ended l.now.states.entries l.ended;
+  so_far : SettlesRest (BlockSettles Alike Alike (list_of l.statement-items)) (list_of (drop l.statement-index l.statement-items)) l.fn.table.states.entries l.fn.ended l.now.states.entries l.ended;
 }
 
-abbrev pub invariant-check_closed-loop-s : goal.invariant-check_closed-loop-s
-invariant-check_closed-loop-s l = record {
-  next : (goal.iterator-check_closed-loop-s).can_next l.s-iterator;
-  finite : (goal.iterator-check_closed-loop-s).is_finite l.s-iterator;
-  so_far : EachState (StaysIn (value_of (expression_of l.e)) (BlockSettles Alike Alike (statements_of l.body)) (keys_in l.closed.states.entries)) (keys_in l.s-iterator) →
-      EachState (StaysIn (value_of (expression_of l.e)) (BlockSettles Alike Alike (statements_of l.body)) (keys_in l.closed.states.entries)) (keys_in l.closed.states.entries);
+abbrev pub invariant-check_closed-loop-state : goal.invariant-check_closed-loop-state
+invariant-check_closed-loop-state l = record {
+  next : (goal.iterator-check_closed-loop-state).can_next l.state-iterator;
+  finite : (goal.iterator-check_closed-loop-state).is_finite l.state-iterator;
+  so_far : EachState (StaysIn (value_of (expression_of l.guard)) (BlockSettles Alike Alike (statements_of l.body)) (keys_in l.closed.states.entries)) (keys_in l.state-iterator) →
+      EachState (StaysIn (value_of (expression_of l.guard)) (BlockSettles Alike Alike (statements_of l.body)) (keys_in l.closed.states.entries)) (keys_in l.closed.states.entries);
 }
 
 abbrev pub invariant-settle_arms-loop-count : goal.invariant-settle_arms-loop-count

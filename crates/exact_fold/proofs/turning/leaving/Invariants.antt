@@ -5,10 +5,10 @@ use Rattle.table_flow.specs.Counts.{kept_if, none_stopped}
 use Rattle.exact_fold.specs.inner.Turning.{outside}
 use Rattle.exact_fold.proofs.turning.leaving.Given as goal
 
-abbrev pub invariant-loop-s : goal.invariant-loop-s
-invariant-loop-s l = record {
-  next : (goal.iterator-loop-s).can_next l.s-iterator;
-  finite : (goal.iterator-loop-s).is_finite l.s-iterator;
+abbrev pub invariant-loop-state : goal.invariant-loop-state
+invariant-loop-state l = record {
+  next : (goal.iterator-loop-state).can_next l.state-iterator;
+  finite : (goal.iterator-loop-state).is_finite l.state-iterator;
   vars : l.visits.vars ≡ l.fn.table.vars;
-  so_far : (E : Ended) → StepsOn (kept_if (outside l.closed.states.entries)) none_stopped [] l.fn.table.states.entries E l.visits.states.entries E l.s-iterator;
+  so_far : (E : Ended) → StepsOn (kept_if (outside l.closed.states.entries)) none_stopped [] l.fn.table.states.entries E l.visits.states.entries E l.state-iterator;
 }

@@ -3,4 +3,4 @@ use Rattle.mass_fold.proofs.Entries.{same_is}
 use Rattle.exact_fold.proofs.turning.same_state.Goals as goal
 
 pub returns : goal.returns
-returns c = λ e. (same_is c.args.s.now c.args.t.now).0 (sym c.eq.ensures ∙ e)
+returns c = λ e. (same_is c.args.state.now c.args.other.now).0 (sym c.eq.ensures ∙ e)
