@@ -8,9 +8,9 @@ use Rattle.cost_law.specs.ExpectedBits.{expected_bits}
 use Rattle.report_text.specs.Lines.{cost_text}
 use Rattle.mass_lines.specs.Narrow.{IsNarrow}
 
--- that of exactly their number, in lowest terms
-pub record IsBitLine (p : SourceProgram) (l : Limits) (text : List ℕ) : Type 0 where
+-- that of exactly their number, in lowest terms, with d decimals
+pub record IsBitLine (p : SourceProgram) (l : Limits) (d : ℕ) (text : List ℕ) : Type 0 where
   pub bits : Fraction
   pub exact : bits ≡ lowest (expected_bits p l)
   pub narrow : IsNarrow bits
-  pub line : text ≡ cost_text bits
+  pub line : text ≡ cost_text d bits

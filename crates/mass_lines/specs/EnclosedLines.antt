@@ -1,4 +1,4 @@
--- The lines of bounds between which masses lie, outcomes ascending.
+-- The lines of bounds between which masses lie, outcomes ascending, with d decimals.
 use Rattle.std.specs.Prelude.{◌≡◌, ℕ, Bool, All, List, Option, IfNone}
 use Rattle.units_law.specs.FewOthers.{HaveLittle}
 use Rattle.units_law.specs.Holding.{IsFor, MayEnd, AreOrdered, Enclose, AreClose, most_apart}
@@ -14,7 +14,7 @@ use Rattle.mass_lines.specs.Narrow.{IsNarrow}
 -- limit of turns too. Two bounds are no further apart than what all others have at most, but for some units; and that is no more than
 -- what ran out of turns, for all turns, and what the roundings of the forgetful program may lose. Without a limit of rounds there are
 -- none where every round fails.
-pub record AreEnclosedLines (p : SourceProgram) (n : ℕ) (r R : Option ℕ) (all_turns : Bool) (text : List ℕ) : Type 0 where
+pub record AreEnclosedLines (p : SourceProgram) (n : ℕ) (r R : Option ℕ) (all_turns : Bool) (d : ℕ) (text : List ℕ) : Type 0 where
   pub rows : Rows
   pub other : Fraction
   pub ordered : AreOrdered rows other
@@ -24,4 +24,4 @@ pub record AreEnclosedLines (p : SourceProgram) (n : ℕ) (r R : Option ℕ) (al
   pub enclose : (n' : ℕ) → IsFor all_turns n n' → MayEnd p n' r R → Enclose p n' r R rows other
   pub close : AreClose (most_apart R) rows other
   pub few : HaveLittle (forgetful_of p) n r R all_turns other
-  pub lines : text ≡ bound_lines rows other
+  pub lines : text ≡ bound_lines d rows other

@@ -1,8 +1,9 @@
 //! The lines of a program's masses, limited or not, of its bounds and of its expected bits.
 //!
 //! Proved: `masses_text` gives the lines of exactly the masses above 0, and `exact_text`, `bounds_text`, `enclosed_text` and
-//! `bits_text` those of what they are named for, outcomes ascending and no fraction wider than 128 bits (`lines`, `line`). Each
-//! is refused only as the crate below it refuses (`refused`): of `exact_text` that is little, as `exact_fold` says.
+//! `bits_text` those of what they are named for, outcomes ascending and no fraction wider than 128 bits, with the decimals that are
+//! wanted (`lines`, `line`). Each is refused only as the crate below it refuses (`refused`): of `exact_text` that is little, as
+//! `exact_fold` says.
 //!
 //! No clause says that memory or the stack suffices, or how long a call takes. Callers have to hand in limits in range: 0 to 10^9
 //! turns, and 1 to 10^9 attempts and rounds.

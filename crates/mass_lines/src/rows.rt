@@ -13,28 +13,32 @@ use gcl_print::Text;
 use mass_fold::FracRows;
 use numbers::Frac;
 use posterior_bounds::{BoundRows, Bounds};
-use report_text::{bound_line, cost_line, endless_line, mass_line, other_line};
+use report_text::{Decimals, bound_line, cost_line, endless_line, mass_line, other_line};
 use std::alloc::{AllocError, Global};
 
 // The lines of masses. An error comes only where memory runs out.
 #[tactic(auto, using(crate::proofs::RowByRow::rows_end, crate::proofs::NarrowRows::all_narrow))]
-pub(crate) fn mass_rows_text(alloc: Global, rows: &FracRows) -> Result<Text, AllocError>
-    ensures lines { IfOk result (λ text. text ≡ mass_rows_text rows.now) }
+pub(crate) fn mass_rows_text(
+    alloc: Global,
+    rows: &FracRows,
+    decimals: Decimals,
+) -> Result<Text, AllocError>
+    ensures lines { IfOk result (λ text. text ≡ mass_rows_text decimals rows.now) }
     ensures narrow { IfOk result (λ _. All (λ row. IsNarrow row.1) rows.now) }
 {
     let mut text = Text::new(alloc);
     for i in 0..rows.count() {
         let (outcome, mass) = rows.get(i);
         is_narrow(mass);
-        text.push(mass_line(outcome, mass).bytes())?;
+        text.push(mass_line(outcome, mass, decimals).bytes())?;
     }
     Ok(text)
 }
 
 // The lines of the rows of bounds.
 #[tactic(auto, using(crate::proofs::RowByRow::rows_end, crate::proofs::NarrowRows::all_narrow))]
-fn bound_rows_text(alloc: Global, rows: &BoundRows) -> Result<Text, AllocError>
-    ensures lines { IfOk result (λ text. text ≡ bound_rows_text rows.now) }
+fn bound_rows_text(alloc: Global, rows: &BoundRows, decimals: Decimals) -> Result<Text, AllocError>
+    ensures lines { IfOk result (λ text. text ≡ bound_rows_text decimals rows.now) }
     ensures narrow { IfOk result (λ _. All (λ row. IsNarrow row.1 × IsNarrow row.2) rows.now) }
 {
     let mut text = Text::new(alloc);
@@ -42,48 +46,56 @@ fn bound_rows_text(alloc: Global, rows: &BoundRows) -> Result<Text, AllocError>
         let (outcome, low, high) = rows.get(i);
         is_narrow(low);
         is_narrow(high);
-        text.push(bound_line(outcome, low, high).bytes())?;
+        text.push(bound_line(outcome, low, high, decimals).bytes())?;
     }
     Ok(text)
 }
 
 // The lines of bounds. An error comes only where memory runs out.
-pub(crate) fn bound_lines(alloc: Global, bounds: &Bounds) -> Result<Text, AllocError>
-    ensures lines { IfOk result (λ text. text ≡ bound_lines bounds.now.rows bounds.now.other) }
+pub(crate) fn bound_lines(
+    alloc: Global,
+    bounds: &Bounds,
+    decimals: Decimals,
+) -> Result<Text, AllocError>
+    ensures lines { IfOk result (λ text. text ≡ bound_lines decimals bounds.now.rows bounds.now.other) }
     ensures narrow { IfOk result (λ _. All (λ row. IsNarrow row.1 × IsNarrow row.2) bounds.now.rows) }
     ensures narrow_others { IsNarrow bounds.now.other }
 {
     is_narrow(&bounds.other);
-    let mut text = bound_rows_text(alloc, &bounds.rows)?;
+    let mut text = bound_rows_text(alloc, &bounds.rows, decimals)?;
     if bounds.other.num() == 0 {
         return Ok(text);
     }
-    text.push(other_line(&bounds.other).bytes())?;
+    text.push(other_line(&bounds.other, decimals).bytes())?;
     Ok(text)
 }
 
 // The lines of masses where nothing is limited. An error comes only where memory runs out.
-pub(crate) fn exact_lines(alloc: Global, masses: &ExactMasses) -> Result<Text, AllocError>
-    ensures lines { IfOk result (λ text. text ≡ exact_lines masses.now.rows masses.now.endless) }
+pub(crate) fn exact_lines(
+    alloc: Global,
+    masses: &ExactMasses,
+    decimals: Decimals,
+) -> Result<Text, AllocError>
+    ensures lines { IfOk result (λ text. text ≡ exact_lines decimals masses.now.rows masses.now.endless) }
     ensures narrow { IfOk result (λ _. All (λ row. IsNarrow row.1) masses.now.rows) }
     ensures narrow_endless { IsNarrow masses.now.endless }
 {
     is_narrow(&masses.endless);
-    let mut text = mass_rows_text(alloc, &masses.rows)?;
+    let mut text = mass_rows_text(alloc, &masses.rows, decimals)?;
     if masses.endless.num() == 0 {
         return Ok(text);
     }
-    text.push(endless_line(&masses.endless).bytes())?;
+    text.push(endless_line(&masses.endless, decimals).bytes())?;
     Ok(text)
 }
 
 // The line of an expected number of bits. An error comes only where memory runs out.
-pub(crate) fn bit_line(alloc: Global, bits: &Frac) -> Result<Text, AllocError>
-    ensures line { IfOk result (λ text. text ≡ cost_text bits.now) }
+pub(crate) fn bit_line(alloc: Global, bits: &Frac, decimals: Decimals) -> Result<Text, AllocError>
+    ensures line { IfOk result (λ text. text ≡ cost_text decimals bits.now) }
     ensures narrow { IsNarrow bits.now }
 {
     is_narrow(bits);
     let mut text = Text::new(alloc);
-    text.push(cost_line(bits).bytes())?;
+    text.push(cost_line(bits, decimals).bytes())?;
     Ok(text)
 }

@@ -22,34 +22,41 @@ use gcl_core::{Checked, Limits};
 use gcl_print::Text;
 use mass_fold::{MassError, mass};
 use posterior_bounds::bounds;
+use report_text::Decimals;
 use std::alloc::{AllocError, Global};
 
-/// The lines of a program's masses, outcomes ascending.
+/// The lines of a program's masses, outcomes ascending, each with so many decimals, as all lines here.
 pub fn masses_text(
     alloc: Global,
     program: &Checked,
     turns: u64,
     attempts: Option<u64>,
     rounds: Option<u64>,
+    decimals: Decimals,
 ) -> Result<Text, MassError>
     requires turns { turns ≤ MOST_LIMIT }
     requires attempts { IfSome attempts IsLimit }
     requires rounds { IfSome rounds IsLimit }
-    ensures lines { IfOk result (AreMassLines (source_of program.now) turns attempts rounds) }
+    ensures lines { IfOk result (AreMassLines (source_of program.now) turns attempts rounds decimals) }
     ensures refused { IfErr result (λ e. MassRefused e (source_of program.now) turns attempts rounds) }
 {
     let rows = mass(alloc, program, turns, attempts, rounds)?;
-    Ok(mass_rows_text(alloc, &rows)?)
+    Ok(mass_rows_text(alloc, &rows, decimals)?)
 }
 
 /// The lines of a program's bounds, outcomes ascending, and of what all others have at most.
-pub fn bounds_text(alloc: Global, program: &Checked, turns: u64) -> Result<Text, MassError>
+pub fn bounds_text(
+    alloc: Global,
+    program: &Checked,
+    turns: u64,
+    decimals: Decimals,
+) -> Result<Text, MassError>
     requires { turns ≤ MOST_LIMIT }
-    ensures lines { IfOk result (AreBoundLines (source_of program.now) turns) }
+    ensures lines { IfOk result (AreBoundLines (source_of program.now) turns decimals) }
     ensures refused { IfErr result (λ e. MassRefused e (source_of program.now) turns None None) }
 {
     let found = bounds(alloc, program, turns)?;
-    Ok(bound_lines(alloc, &found)?)
+    Ok(bound_lines(alloc, &found, decimals)?)
 }
 
 /// The lines of the fractions between which a program's masses lie, outcomes ascending, and of what all others have at most; with
@@ -61,34 +68,40 @@ pub fn enclosed_text(
     attempts: Option<u64>,
     rounds: Option<u64>,
     all_turns: bool,
+    decimals: Decimals,
 ) -> Result<Text, EncloseError>
     requires turns { turns ≤ MOST_LIMIT }
     requires attempts { IfSome attempts IsLimit }
     requires rounds { IfSome rounds IsLimit }
-    ensures lines { IfOk result (AreEnclosedLines (source_of program.now) turns attempts rounds all_turns) }
+    ensures lines { IfOk result (AreEnclosedLines (source_of program.now) turns attempts rounds all_turns decimals) }
     ensures refused { IfErr result (λ e. EncloseRefused e (source_of program.now) turns attempts rounds) }
 {
     let found = enclose(alloc, program, turns, attempts, rounds, all_turns)?;
-    Ok(bound_lines(alloc, &found)?)
+    Ok(bound_lines(alloc, &found, decimals)?)
 }
 
 /// The lines of a program's masses where nothing is limited, outcomes ascending, and of what never ends.
-pub fn exact_text(alloc: Global, program: &Checked) -> Result<Text, ExactError>
-    ensures lines { IfOk result (AreExactLines (source_of program.now)) }
+pub fn exact_text(alloc: Global, program: &Checked, decimals: Decimals) -> Result<Text, ExactError>
+    ensures lines { IfOk result (AreExactLines (source_of program.now) decimals) }
     ensures refused { IfErr result (WhyRefused (source_of program.now)) }
 {
     let masses = exact(alloc, program)?;
-    Ok(exact_lines(alloc, &masses)?)
+    Ok(exact_lines(alloc, &masses, decimals)?)
 }
 
 /// The line of the bits that a run of a program reads on average.
-pub fn bits_text(alloc: Global, program: &Checked, limits: &Limits) -> Result<Text, CostError>
+pub fn bits_text(
+    alloc: Global,
+    program: &Checked,
+    limits: &Limits,
+    decimals: Decimals,
+) -> Result<Text, CostError>
     requires { InRange limits.now }
-    ensures line { IfOk result (IsBitLine (source_of program.now) limits.now) }
+    ensures line { IfOk result (IsBitLine (source_of program.now) limits.now decimals) }
     ensures refused { IfErr result (λ e. CostRefused e (source_of program.now) limits.now) }
 {
     let bits = cost(alloc, program, limits)?;
-    match bit_line(alloc, &bits) {
+    match bit_line(alloc, &bits, decimals) {
         Ok(text) => Ok(text),
         Err(AllocError) => Err(CostError::OutOfMemory),
     }

@@ -264,7 +264,7 @@ fn reads_an_option_that_stands_alone(rt: HostRuntime) -> Result<(), Fail> {
     ];
     for (words, turns, rounds, all_turns) in cases {
         match read(rt.alloc(), words)? {
-            Ok(Command::Checked(_, Work::Enclose(n, attempts, most, all))) => {
+            Ok(Command::Checked(_, Work::Enclose(n, attempts, most, all, _))) => {
                 assert_eq!(rt; n, turns);
                 assert_eq!(rt; attempts, None);
                 assert_eq!(rt; most, rounds);
@@ -279,7 +279,7 @@ fn reads_an_option_that_stands_alone(rt: HostRuntime) -> Result<(), Fail> {
 #[test]
 fn reads_the_numbers_of_counts(rt: HostRuntime) -> Result<(), Fail> {
     match &read(rt.alloc(), &["mass", "p", "--rounds", "2"])? {
-        Ok(Command::Checked(program, Work::Mass(turns, attempts, rounds))) => {
+        Ok(Command::Checked(program, Work::Mass(turns, attempts, rounds, _))) => {
             assert_eq!(rt; program.text(), "p");
             assert_eq!(rt; *turns, 30);
             assert_eq!(rt; *attempts, None);
@@ -291,30 +291,30 @@ fn reads_the_numbers_of_counts(rt: HostRuntime) -> Result<(), Fail> {
         rt.alloc(),
         &["cost", "p", "--attempts", "5", "--rounds", "2"],
     )? {
-        Ok(Command::Checked(_, Work::Cost(limits))) => {
+        Ok(Command::Checked(_, Work::Cost(limits, _))) => {
             assert_eq!(rt; (limits.turns, limits.attempts, limits.rounds), (30, 5, 2));
         }
         _ => panic!(rt; "no cost"),
     }
     match read(rt.alloc(), &["cost", "p"])? {
-        Ok(Command::Checked(_, Work::Cost(limits))) => {
+        Ok(Command::Checked(_, Work::Cost(limits, _))) => {
             assert_eq!(rt; (limits.turns, limits.attempts, limits.rounds), (30, 2, 1));
         }
         _ => panic!(rt; "no cost"),
     }
     match &read(rt.alloc(), &["posterior", "p"])? {
-        Ok(Command::Checked(program, Work::Posterior(turns))) => {
+        Ok(Command::Checked(program, Work::Posterior(turns, _))) => {
             assert_eq!(rt; program.text(), "p");
             assert_eq!(rt; *turns, 30);
         }
         _ => panic!(rt; "no posterior"),
     }
     match read(rt.alloc(), &["exact", "p"])? {
-        Ok(Command::Checked(_, Work::Exact)) => (),
+        Ok(Command::Checked(_, Work::Exact(_))) => (),
         _ => panic!(rt; "no exact"),
     }
     match read(rt.alloc(), &["audit", "p", "--depth", "3"])? {
-        Ok(Command::Checked(_, Work::Audit(depth, limits))) => {
+        Ok(Command::Checked(_, Work::Audit(depth, limits, _))) => {
             assert_eq!(rt; depth, 3);
             assert_eq!(rt; limits.attempts, 1000);
         }
@@ -353,14 +353,14 @@ fn reads_the_numbers_of_gen_and_fast(rt: HostRuntime) -> Result<(), Fail> {
         _ => panic!(rt; "no generated program"),
     }
     match read(rt.alloc(), &["fast", "6"])? {
-        Ok(Command::Fast(labels, flips, None)) => {
+        Ok(Command::Fast(labels, flips, None, _)) => {
             assert_eq!(rt; labels, 6);
             assert_eq!(rt; flips, 30);
         }
         _ => panic!(rt; "no weights"),
     }
     match read(rt.alloc(), &["fast", "4611686018427387904", "--bits", "b"])? {
-        Ok(Command::Fast(labels, flips, Some(Source::File(bits)))) => {
+        Ok(Command::Fast(labels, flips, Some(Source::File(bits)), _)) => {
             assert_eq!(rt; labels, 1 << 62);
             assert_eq!(rt; flips, 1000);
             assert_eq!(rt; bits.text(), "b");
@@ -373,14 +373,14 @@ fn reads_the_numbers_of_gen_and_fast(rt: HostRuntime) -> Result<(), Fail> {
 #[test]
 fn reads_the_weights_of_roll(rt: HostRuntime) -> Result<(), Fail> {
     match read(rt.alloc(), &["roll", "3,02,0"])? {
-        Ok(Command::Roll(list, flips, None)) => {
+        Ok(Command::Roll(list, flips, None, _)) => {
             assert_eq!(rt; list.weights(), [3, 2, 0].as_slice());
             assert_eq!(rt; flips, 30);
         }
         _ => panic!(rt; "no shares"),
     }
     match read(rt.alloc(), &["roll", "1,1", "--seed", "7"])? {
-        Ok(Command::Roll(list, flips, source)) => {
+        Ok(Command::Roll(list, flips, source, _)) => {
             assert_eq!(rt; list.weights(), [1, 1].as_slice());
             assert_eq!(rt; flips, 1000);
             match source {

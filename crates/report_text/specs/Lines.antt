@@ -15,8 +15,10 @@ use Rattle.dice_roll.specs.declared.answers.Roll.{Roll}
 use Rattle.dice_roll.specs.declared.answers.Roll.TheVariants as rolled
 use Rattle.report_text.specs.declared.counts.Count.{Count}
 use Rattle.report_text.specs.declared.counts.Count.TheVariants.{Statements, Bytes, Streams}
+use Rattle.report_text.specs.declared.decimals.Rounding.TheVariants.{Down, Up, Nearest}
 use Rattle.report_text.specs.declared.refusals.Refusal.{Refusal}
 use Rattle.report_text.specs.declared.refusals.Refusal.TheVariants.{Coded, Read, Write, Memory, NoFile}
+use Rattle.report_text.specs.Decimals.{decimals_text}
 
 abbrev pub outcome_text : Outcome → List ℕ
 outcome_text (Value v) = codes "value " ++ signed_decimal v
@@ -39,30 +41,37 @@ accepted_text statements names = codes "ok statements " ++ decimal statements ++
 abbrev pub fraction_text : ℕ × ℕ → List ℕ
 fraction_text f = decimal f.0 ++ codes "/" ++ decimal f.1
 
--- an outcome with its mass, a fraction
-abbrev pub mass_text : Outcome → ℕ × ℕ → List ℕ
-mass_text outcome mass = outcome_text outcome ++ codes " mass " ++ fraction_text mass ++ codes "\n"
+-- Behind a fraction stand d decimals, if any are wanted: to the nearest, but those of bounds outwards.
 
--- an outcome with its two bounds, fractions
-abbrev pub bound_text : Outcome → ℕ × ℕ → ℕ × ℕ → List ℕ
-bound_text outcome low high =
-    outcome_text outcome ++ codes " from " ++ fraction_text low ++ codes " to " ++ fraction_text high ++ codes "\n"
+-- an outcome with its mass, a fraction
+abbrev pub mass_text : ℕ → Outcome → ℕ × ℕ → List ℕ
+mass_text d outcome mass =
+    outcome_text outcome ++ codes " mass " ++ fraction_text mass ++ decimals_text Nearest d mass ++ codes "\n"
+
+-- two bounds, fractions
+abbrev pub bounds_text : ℕ → ℕ × ℕ → ℕ × ℕ → List ℕ
+bounds_text d low high =
+    codes " from " ++ fraction_text low ++ decimals_text Down d low ++ codes " to " ++ fraction_text high ++ decimals_text Up d high ++ codes "\n"
+
+-- an outcome with its bounds
+abbrev pub bound_text : ℕ → Outcome → ℕ × ℕ → ℕ × ℕ → List ℕ
+bound_text d outcome low high = outcome_text outcome ++ bounds_text d low high
 
 -- what all others have at most
-abbrev pub other_text : ℕ × ℕ → List ℕ
-other_text high = codes "other from 0/1 to " ++ fraction_text high ++ codes "\n"
+abbrev pub other_text : ℕ → ℕ × ℕ → List ℕ
+other_text d high = codes "other" ++ bounds_text d (0, 1) high
 
 -- the share of the strings on which a run needs more
-abbrev pub undecided_text : ℕ × ℕ → List ℕ
-undecided_text share = codes "undecided mass " ++ fraction_text share ++ codes "\n"
+abbrev pub undecided_text : ℕ → ℕ × ℕ → List ℕ
+undecided_text d share = codes "undecided mass " ++ fraction_text share ++ decimals_text Nearest d share ++ codes "\n"
 
 -- the mass with which a program runs for ever, a fraction
-abbrev pub endless_text : ℕ × ℕ → List ℕ
-endless_text mass = codes "endless mass " ++ fraction_text mass ++ codes "\n"
+abbrev pub endless_text : ℕ → ℕ × ℕ → List ℕ
+endless_text d mass = codes "endless mass " ++ fraction_text mass ++ decimals_text Nearest d mass ++ codes "\n"
 
 -- an expected number of bits, a fraction
-abbrev pub cost_text : ℕ × ℕ → List ℕ
-cost_text bits = codes "bits " ++ decimal bits.0 ++ codes "/" ++ decimal bits.1 ++ codes "\n"
+abbrev pub cost_text : ℕ → ℕ × ℕ → List ℕ
+cost_text d bits = codes "bits " ++ fraction_text bits ++ decimals_text Nearest d bits ++ codes "\n"
 
 -- that a run ends in an outcome, or that it needs more bits
 abbrev pub key_text : TallyKey → List ℕ
@@ -91,12 +100,12 @@ roll_text (rolled.Limit flips) = codes "limit flips bits " ++ decimal flips ++ c
 roll_text (rolled.MoreBits flips) = codes "more bits " ++ decimal flips ++ codes "\n"
 
 -- the weight of each label of a roll, a fraction
-abbrev pub each_text : ℕ × ℕ → List ℕ
-each_text weight = codes "each mass " ++ fraction_text weight ++ codes "\n"
+abbrev pub each_text : ℕ → ℕ × ℕ → List ℕ
+each_text d weight = codes "each mass " ++ fraction_text weight ++ decimals_text Nearest d weight ++ codes "\n"
 
 -- the weight that is left to the limit of flips, a fraction
-abbrev pub flips_text : ℕ × ℕ → List ℕ
-flips_text weight = codes "limit flips mass " ++ fraction_text weight ++ codes "\n"
+abbrev pub flips_text : ℕ → ℕ × ℕ → List ℕ
+flips_text d weight = codes "limit flips mass " ++ fraction_text weight ++ decimals_text Nearest d weight ++ codes "\n"
 
 -- the words of a code; there are none for a number that is no code
 abbrev pub code_words : ℕ → List ℕ

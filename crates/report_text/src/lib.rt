@@ -1,7 +1,7 @@
 //! The lines that the program prints, one call for each kind, made with no memory.
 //!
 //! Proved: each call gives the line of its definition, byte for byte (`ensures` of `sample_line`, `mass_line`, `fault_line` ..),
-//! and a line has at most 224 bytes (`Line::bytes`).
+//! and a line has at most 384 bytes (`Line::bytes`).
 //!
 //! No clause says that these are good words: code and definition read the words of refusals and of the version in the same
 //! tables, so a slip in one of them is seen by tests alone. A code that does not exist has a line without words. None of the
@@ -10,6 +10,7 @@
 
 mod answers;
 mod counts;
+mod decimals;
 mod line;
 mod outcomes;
 mod refusals;
@@ -20,6 +21,7 @@ mod version;
 
 pub use answers::{check_line, sample_line};
 pub use counts::{Count, number_line, tally_line};
+pub use decimals::{Decimals, MOST_DECIMALS, Rounding};
 pub use line::{LINE_BYTES, Line};
 pub use outcomes::key_line;
 pub use refusals::{Refusal, fault_line};

@@ -1,16 +1,19 @@
 // The text of an outcome, with which most lines begin, and that of the key of a tally.
 
-ghost use Rattle.std.specs.Prelude.{◌≡◌, ◌≤◌, length};
+ghost use Rattle.std.specs.Prelude.{◌≡◌, ◌+◌, ◌≤◌, ◌++◌, length};
 ghost use Rattle.report_text.specs.Lines.{outcome_text, key_text};
+ghost use Rattle.report_text.specs.declared.line.TheConstants.{LINE_BYTES};
 
 use crate::line::Line;
 use gcl_core::{Fault, Limit, Outcome, TallyKey};
 
-pub fn outcome_line(outcome: &Outcome) -> Line
-    ensures text { result ≡ outcome_text outcome.now }
-    ensures within { length result ≤ 46 }
+// Puts the text of an outcome behind the line.
+#[inline(always)]
+pub(crate) fn push_outcome(line: &mut Line, outcome: &Outcome)
+    requires { length line.old + 46 ≤ LINE_BYTES }
+    ensures text { line.new ≡ line.old ++ outcome_text outcome.now }
+    ensures within { length line.new ≤ length line.old + 46 }
 {
-    let mut line = Line::new();
     match outcome {
         Outcome::Value(n) => {
             line.push(b"value ");
@@ -23,6 +26,14 @@ pub fn outcome_line(outcome: &Outcome) -> Line
         Outcome::Limit(Limit::Attempts) => line.push(b"limit attempts"),
         Outcome::Limit(Limit::Rounds) => line.push(b"limit rounds"),
     }
+}
+
+pub fn outcome_line(outcome: &Outcome) -> Line
+    ensures text { result ≡ outcome_text outcome.now }
+    ensures within { length result ≤ 46 }
+{
+    let mut line = Line::new();
+    push_outcome(&mut line, outcome);
     line
 }
 

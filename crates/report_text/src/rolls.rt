@@ -3,6 +3,7 @@
 ghost use Rattle.std.specs.Prelude.{◌≡◌};
 ghost use Rattle.report_text.specs.Lines.{roll_text, each_text, flips_text};
 
+use crate::decimals::Decimals;
 use crate::line::Line;
 use dice_roll::Roll;
 use numbers::Frac;
@@ -32,16 +33,17 @@ pub fn roll_line(roll: &Roll) -> Line
     line
 }
 
-/// The line of the weight of each label of a roll, a fraction in lowest terms. It takes no memory.
-pub fn each_line(weight: &Frac) -> Line
-    ensures { result ≡ each_text weight.now }
+/// The line of the weight of each label of a roll, a fraction in lowest terms, with so many decimals. It takes no memory.
+pub fn each_line(weight: &Frac, decimals: Decimals) -> Line
+    ensures { result ≡ each_text decimals weight.now }
 {
-    Line::of_fraction(b"each mass ", weight)
+    Line::of_fraction(b"each mass ", weight, decimals)
 }
 
-/// The line of the weight that a roll leaves to the limit of flips, a fraction in lowest terms. It takes no memory.
-pub fn flips_line(weight: &Frac) -> Line
-    ensures { result ≡ flips_text weight.now }
+/// The line of the weight that a roll leaves to the limit of flips, a fraction in lowest terms, with so many decimals. It takes no
+/// memory.
+pub fn flips_line(weight: &Frac, decimals: Decimals) -> Line
+    ensures { result ≡ flips_text decimals weight.now }
 {
-    Line::of_fraction(b"limit flips mass ", weight)
+    Line::of_fraction(b"limit flips mass ", weight, decimals)
 }

@@ -13,7 +13,7 @@ use Rattle.zar_io.specs.Trace.{failures, is_open}
 use Rattle.zar_io.specs.Written.{IsWritten}
 use Rattle.zar_cli.specs.declared.command.Command.{Command}
 use Rattle.zar_cli.specs.declared.said.Said.{Said}
-use Rattle.zar_cli.specs.declared.said.Said.TheVariants.{Answered, Accepted, Costed, Shown, Drawn, Rolled, Helped}
+use Rattle.zar_cli.specs.declared.said.Said.TheVariants.{Answered, Accepted, Shown, Drawn, Rolled, Helped}
 use Rattle.zar_cli.specs.declared.statuses.TheConstants.{DONE, WORDS_REFUSED, READ_FAULT, WRITE_FAULT, MASS_REFUSED, LIMIT_REACHED, NO_FILE}
 use Rattle.zar_cli.specs.declared.statuses.TheConstants as status
 use Rattle.zar_cli.specs.Answer.{IsSaid, IsAnswer}
@@ -49,7 +49,6 @@ roll_statuses (rolled.MoreBits flips) = more_bits
 said_statuses : (s : Said) → IsSaidStatus (said_status s)
 said_statuses (Answered a) = answer_statuses a
 said_statuses (Accepted statements names) = done
-said_statuses (Costed bits) = done
 said_statuses (Shown text) = done
 said_statuses (Drawn text) = done
 said_statuses (Rolled roll) = roll_statuses roll

@@ -72,30 +72,30 @@ apart code below = λ same. omega (arith, below, same)
 
 -- ---- work
 
-masses_codes : (p : SourceProgram) (turns : ℕ) (attempts rounds : Option ℕ) (e : Refusal) → SaysMasses p turns attempts rounds (Err e) → IsRefusal e
-masses_codes p turns attempts rounds _ (masses.too_wide h) = omega arith
-masses_codes p turns attempts rounds _ (masses.too_many_states h) = omega arith
-masses_codes p turns attempts rounds _ (masses.all_failed h) = omega arith
+masses_codes : (p : SourceProgram) (turns : ℕ) (attempts rounds : Option ℕ) (d : ℕ) (e : Refusal) → SaysMasses p turns attempts rounds d (Err e) → IsRefusal e
+masses_codes p turns attempts rounds d _ (masses.too_wide h) = omega arith
+masses_codes p turns attempts rounds d _ (masses.too_many_states h) = omega arith
+masses_codes p turns attempts rounds d _ (masses.all_failed h) = omega arith
 
-costs_codes : (p : SourceProgram) (limits : Limits) (e : Refusal) → SaysCost p limits (Err e) → IsRefusal e
-costs_codes p limits _ (costs.too_wide h) = omega arith
-costs_codes p limits _ (costs.too_many_states h) = omega arith
+costs_codes : (p : SourceProgram) (limits : Limits) (d : ℕ) (e : Refusal) → SaysCost p limits d (Err e) → IsRefusal e
+costs_codes p limits d _ (costs.too_wide h) = omega arith
+costs_codes p limits d _ (costs.too_many_states h) = omega arith
 
-bounds_codes : (p : SourceProgram) (turns : ℕ) (e : Refusal) → SaysBounds p turns (Err e) → IsRefusal e
-bounds_codes p turns _ (posterior.too_wide h) = omega arith
-bounds_codes p turns _ (posterior.too_many_states h) = omega arith
-bounds_codes p turns _ (posterior.all_failed h) = omega arith
+bounds_codes : (p : SourceProgram) (turns d : ℕ) (e : Refusal) → SaysBounds p turns d (Err e) → IsRefusal e
+bounds_codes p turns d _ (posterior.too_wide h) = omega arith
+bounds_codes p turns d _ (posterior.too_many_states h) = omega arith
+bounds_codes p turns d _ (posterior.all_failed h) = omega arith
 
-exact_codes : (p : SourceProgram) (e : Refusal) → SaysExact p (Err e) → IsRefusal e
-exact_codes p _ (exact.too_wide h) = omega arith
-exact_codes p _ (exact.too_many_states h) = omega arith
-exact_codes p _ (exact.all_failed h) = omega arith
+exact_codes : (p : SourceProgram) (d : ℕ) (e : Refusal) → SaysExact p d (Err e) → IsRefusal e
+exact_codes p d _ (exact.too_wide h) = omega arith
+exact_codes p d _ (exact.too_many_states h) = omega arith
+exact_codes p d _ (exact.all_failed h) = omega arith
 
-enclosure_codes : (p : SourceProgram) (turns : ℕ) (attempts rounds : Option ℕ) (all_turns : Bool) (e : Refusal)
-    → SaysEnclosure p turns attempts rounds all_turns (Err e) → IsRefusal e
-enclosure_codes p turns attempts rounds all_turns _ (enclosures.too_many_states h) = omega arith
-enclosure_codes p turns attempts rounds all_turns _ (enclosures.all_failed h) = omega arith
-enclosure_codes p turns attempts rounds all_turns _ (enclosures.too_unlikely h) = omega arith
+enclosure_codes : (p : SourceProgram) (turns : ℕ) (attempts rounds : Option ℕ) (all_turns : Bool) (d : ℕ) (e : Refusal)
+    → SaysEnclosure p turns attempts rounds all_turns d (Err e) → IsRefusal e
+enclosure_codes p turns attempts rounds all_turns d _ (enclosures.too_many_states h) = omega arith
+enclosure_codes p turns attempts rounds all_turns d _ (enclosures.all_failed h) = omega arith
+enclosure_codes p turns attempts rounds all_turns d _ (enclosures.too_unlikely h) = omega arith
 
 -- ---- commands
 
@@ -141,12 +141,12 @@ module _ (e : Refusal) where
   work_codes : (file : CallWord → Option (List ℕ)) (p : SourceProgram) (work : Work) → IsWorkedOut file p work (Err e) → IsRefusal e
   work_codes file p (Sample (File bits) limits) is = of_bits (file bits) (λ w. Answered (run_on p limits w)) is
   work_codes file p (Sample (Stream seed stream budget) limits) is = of_said _ is
-  work_codes file p (Mass turns attempts rounds) is = masses_codes p turns attempts rounds e is
-  work_codes file p (Cost limits) is = costs_codes p limits e is
-  work_codes file p (Posterior turns) is = bounds_codes p turns e is
-  work_codes file p Exact is = exact_codes p e is
-  work_codes file p (Enclose turns attempts rounds all_turns) is = enclosure_codes p turns attempts rounds all_turns e is
-  work_codes file p (Audit depth limits) is = of_shown _ is
+  work_codes file p (Mass turns attempts rounds d) is = masses_codes p turns attempts rounds d e is
+  work_codes file p (Cost limits d) is = costs_codes p limits d e is
+  work_codes file p (Posterior turns d) is = bounds_codes p turns d e is
+  work_codes file p (Exact d) is = exact_codes p d e is
+  work_codes file p (Enclose turns attempts rounds all_turns d) is = enclosure_codes p turns attempts rounds all_turns d e is
+  work_codes file p (Audit depth limits d) is = of_shown _ is
   work_codes file p (Tally range limits named) is = of_behind _ _ is
   work_codes file p (Runs range limits named) is = of_said _ is
   work_codes file p (Hunt range limits want named) is = of_behind _ _ is
@@ -158,10 +158,10 @@ module _ (e : Refusal) where
   output_codes file (Checked program work) is = of_spelled (file program) (λ p. IsWorkedOut file p work) is (λ p there. work_codes file p work there)
   output_codes file (Show program) is = of_written _ _ is (λ p there. of_said _ there)
   output_codes file (Gen k) is = of_shown _ is
-  output_codes file (Fast labels flips (Some (File bits))) is = of_bits (file bits) (λ w. Rolled (fast_roll labels flips w)) is
-  output_codes file (Fast labels flips (Some (Stream seed stream budget))) is = of_said _ is
-  output_codes file (Fast labels flips None) is = of_weights (weights_text labels flips) is
-  output_codes file (Roll weights flips (Some (File bits))) is = of_bits (file bits) (λ w. Rolled (weighted_roll weights flips w)) is
-  output_codes file (Roll weights flips (Some (Stream seed stream budget))) is = of_said _ is
-  output_codes file (Roll weights flips None) is = of_weights (labels_text weights flips) is
+  output_codes file (Fast labels flips (Some (File bits)) d) is = of_bits (file bits) (λ w. Rolled (fast_roll labels flips w)) is
+  output_codes file (Fast labels flips (Some (Stream seed stream budget)) d) is = of_said _ is
+  output_codes file (Fast labels flips None d) is = of_weights (weights_text labels flips d) is
+  output_codes file (Roll weights flips (Some (File bits)) d) is = of_bits (file bits) (λ w. Rolled (weighted_roll weights flips w)) is
+  output_codes file (Roll weights flips (Some (Stream seed stream budget)) d) is = of_said _ is
+  output_codes file (Roll weights flips None d) is = of_weights (labels_text weights flips d) is
   output_codes file (Help topic) is = of_said _ is

@@ -1,12 +1,12 @@
 -- What is said where memory runs out before the first byte of what was to be said.
-use Rattle.std.proofs.Common.{◌≡◌, ℕ, Bool, true, false, List, [], Option, Some, None, Result, Ok, Err, inl, inr, refl, ◌∙◌, sym, ap, subst, if◌then◌else◌}
+use Rattle.std.proofs.Common.{◌≡◌, ℕ, Bool, true, false, List, [], Some, None, Result, Ok, Err, inl, inr, refl, ◌∙◌, sym, ap, subst, if◌then◌else◌}
 use Rattle.std.proofs.lemmas.List.{append-nil}
 use Rattle.report_text.specs.declared.refusals.Refusal.TheVariants.{Memory}
 use Rattle.report_text.specs.Lines.{refusal_text}
 use Rattle.zar_cli.specs.declared.command.Command.{Command}
 use Rattle.zar_cli.specs.declared.command.Command.TheVariants.{Checked, Show, Gen, Fast, Roll, Help}
 use Rattle.zar_cli.specs.declared.command.Source.TheVariants.{File, Stream}
-use Rattle.zar_cli.specs.declared.said.Said.TheVariants.{Answered, Accepted, Costed, Shown, Drawn, Rolled, Helped}
+use Rattle.zar_cli.specs.declared.said.Said.TheVariants.{Answered, Accepted, Shown, Drawn, Rolled, Helped}
 use Rattle.zar_cli.specs.declared.statuses.TheConstants.{WRITE_FAULT, OUT_OF_MEMORY}
 use Rattle.zar_cli.specs.Answer.{IsSaid, IsAnswer}
 use Rattle.zar_cli.specs.ByStages.{Output}
@@ -24,11 +24,11 @@ takes_for_drawn : (c : Command) (text : List ℕ) → Fits c (Ok (Drawn text)) �
 takes_for_drawn (Checked program work) text fits = refl
 takes_for_drawn (Show program) text fits = refl
 takes_for_drawn (Gen k) text fits = refl
-takes_for_drawn (Fast labels flips None) text fits = refl
-takes_for_drawn (Roll weights flips source) text fits = refl
-takes_for_drawn (Fast labels flips (Some (File bits))) text fits = refl
-takes_for_drawn (Fast labels flips (Some (Stream seed stream budget))) text (inl may) = absurd may
-takes_for_drawn (Fast labels flips (Some (Stream seed stream budget))) text (inr is) = let wrong = is.1 in absurd (cc)
+takes_for_drawn (Fast labels flips None d) text fits = refl
+takes_for_drawn (Roll weights flips source d) text fits = refl
+takes_for_drawn (Fast labels flips (Some (File bits)) d) text fits = refl
+takes_for_drawn (Fast labels flips (Some (Stream seed stream budget)) d) text (inl may) = absurd may
+takes_for_drawn (Fast labels flips (Some (Stream seed stream budget)) d) text (inr is) = let wrong = is.1 in absurd (cc)
 takes_for_drawn (Help topic) text (inl may) = absurd may
 takes_for_drawn (Help topic) text (inr is) = let wrong = is.1 in absurd (cc)
 
@@ -37,7 +37,6 @@ drawn_memory c before now (Ok (Drawn text)) drawn is =
     record { fits = inl (takes_for_drawn c text is.fits); leaves = is.leaves; asks = is.asks; tells = λ quiet file agrees. inl refl; some = is.some }
 drawn_memory c before now (Ok (Answered answer)) drawn is = absurd (cc)
 drawn_memory c before now (Ok (Accepted statements names)) drawn is = absurd (cc)
-drawn_memory c before now (Ok (Costed bits)) drawn is = absurd (cc)
 drawn_memory c before now (Ok (Shown text)) drawn is = absurd (cc)
 drawn_memory c before now (Ok (Rolled roll)) drawn is = absurd (cc)
 drawn_memory c before now (Ok (Helped topic)) drawn is = absurd (cc)

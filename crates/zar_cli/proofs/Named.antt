@@ -1,6 +1,6 @@
 -- Which commands keep words.
 use Rattle.std.proofs.Common.{◌≡◌, ℕ, true, false, List, Option, Some, None, Result, Ok, Err, refl, sym, subst, arith}
-use Rattle.std.specs.Prelude.{Bool, ◌||◌, is_some, MatchResult, if◌then◌else◌}
+use Rattle.std.specs.Prelude.{Bool, is_some, MatchResult, if◌then◌else◌}
 use Rattle.report_text.specs.declared.refusals.Refusal.TheVariants.{Memory}
 use Rattle.zar_io.specs.declared.trace.Event.{Event}
 use Rattle.zar_cli.specs.Answer.{IsSaid}
@@ -11,10 +11,8 @@ use Rattle.zar_cli.specs.declared.command.Source.TheVariants.{File, Stream}
 use Rattle.zar_cli.specs.declared.command.Work.TheVariants.{Forgetful}
 use Rattle.zar_cli.specs.Needs.{names_in, takes_memory}
 use Rattle.zar_cli.specs.Forms.{CallWord}
-use Rattle.zar_cli.specs.declared.settings.TheConstants.{BITS}
-use Rattle.zar_cli.specs.OptionWords.{Options, value_of, source_from}
+use Rattle.zar_cli.specs.OptionWords.{source_from}
 use Rattle.zar_cli.specs.Spelling.{NamesBits, KeepsWords, AreKept}
-use Rattle.zar_cli.specs.Words.{roll_source}
 use Rattle.zar_cli.proofs.Going.{asks_none}
 use Rattle.zar_cli.proofs.Saying.{said_memory}
 
@@ -23,10 +21,10 @@ takes_for_name : (c : Command) → KeepsWords c → takes_memory c ≡ true
 takes_for_name (Checked program work) h = refl
 takes_for_name (Show program) h = refl
 takes_for_name (Gen k) h = refl
-takes_for_name (Fast labels flips None) h = refl
-takes_for_name (Fast labels flips (Some (File bits))) h = refl
-takes_for_name (Roll weights flips source) h = refl
-takes_for_name (Fast labels flips (Some (Stream seed stream budget))) h = absurd (omega (arith, h))
+takes_for_name (Fast labels flips None d) h = refl
+takes_for_name (Fast labels flips (Some (File bits)) d) h = refl
+takes_for_name (Roll weights flips source d) h = refl
+takes_for_name (Fast labels flips (Some (Stream seed stream budget)) d) h = absurd (omega (arith, h))
 takes_for_name (Help topic) h = absurd (omega (arith, h))
 
 -- words of a command that keeps some, where memory runs out before any file is sought
@@ -45,10 +43,10 @@ names_bits true None stream e s = absurd (cc)
 names_bits false v stream e s = absurd (cc)
 
 -- and a roll on them keeps that word
-pub keeps_bits : (labels flips : ℕ) (source : Option Source) → NamesBits source → KeepsWords (Fast labels flips source)
-keeps_bits labels flips (Some (File bits)) h = omega arith
-keeps_bits labels flips (Some (Stream seed stream budget)) h = absurd h
-keeps_bits labels flips None h = absurd h
+pub keeps_bits : (labels flips : ℕ) (source : Option Source) (d : ℕ) → NamesBits source → KeepsWords (Fast labels flips source d)
+keeps_bits labels flips (Some (File bits)) d h = omega arith
+keeps_bits labels flips (Some (Stream seed stream budget)) d h = absurd h
+keeps_bits labels flips None d h = absurd h
 
 -- a text that is shown keeps the name of its file, as it is written and as its forgetful program
 pub keeps_file : (forgetful : Bool) (program : CallWord) → KeepsWords (if forgetful then Checked program Forgetful else Show program)

@@ -1,25 +1,17 @@
--- What is said of all strings of one length, and of the streams of a range: exactly the rows of the definitions, by the runs of
--- the program.
+-- How lines are shown, and what is said of a generated program: how large it is, and how its runs end on the first streams of a seed.
 use Rattle.std.specs.Prelude.{◌≡◌, ℕ, ◌++◌, List, length, Result, Ok}
-use Rattle.gcl_core.specs.declared.answers.Limits.{Limits}
+use Rattle.count_lines.specs.TallyLines.{AreTallyLines}
 use Rattle.gcl_core.specs.text.Canonical.{canonical_text}
 use Rattle.gcl_core.specs.text.StatementCounts.{count_all}
-use Rattle.gcl_core.specs.meaning.Runs.{run_on}
 use Rattle.gcl_core.specs.meaning.Syntax.{SourceProgram}
-use Rattle.audit_walk.specs.Audited.{IsAuditOf}
-use Rattle.audit_walk.specs.Rows as audited
 use Rattle.generated_program.specs.Generated.{generated}
 use Rattle.report_text.specs.Lines.{number_text}
 use Rattle.report_text.specs.declared.counts.Count.TheVariants.{Statements, Bytes, Streams}
 use Rattle.report_text.specs.declared.refusals.Refusal.{Refusal}
 use Rattle.stream_runs.specs.declared.range.SeedRange.{SeedRange}
-use Rattle.tally_range.specs.Counts.{count_on}
-use Rattle.tally_range.specs.Rows as tallied
-use Rattle.tally_range.specs.Rows.{IsTallyOf}
 use Rattle.zar_cli.specs.declared.said.Said.{Said}
 use Rattle.zar_cli.specs.declared.said.Said.TheVariants.{Shown}
 use Rattle.zar_cli.specs.declared.settings.TheConstants.{USUAL_BUDGET, USUAL_WORKERS, GENERATED_STREAMS}
-use Rattle.zar_cli.specs.Tables.{audit_text, tally_rows_text}
 use Rattle.zar_cli.specs.OptionWords.{limits_of, no_options}
 
 -- a text of this kind is shown
@@ -29,19 +21,6 @@ ShowsText Is output = (text : List ℕ) × Is text × (output ≡ Ok (Shown text
 -- one is shown behind this front
 abbrev pub ShowsBehind : List ℕ → (List ℕ → Type 0) → Result Said Refusal → Type 0
 ShowsBehind front Is output = (text : List ℕ) × Is text × (output ≡ Ok (Shown (front ++ text)))
-
--- the lines of an audit
-pub record IsAuditText (p : SourceProgram) (depth : ℕ) (limits : Limits) (text : List ℕ) : Type 0 where
-  pub rows : audited.Rows
-  pub undecided : ℕ
-  pub counted : IsAuditOf (run_on p limits) depth rows undecided
-  pub lines : text ≡ audit_text depth rows undecided
-
--- the lines of a tally
-pub record IsTallyText (p : SourceProgram) (range : SeedRange) (limits : Limits) (text : List ℕ) : Type 0 where
-  pub rows : tallied.Rows
-  pub counted : IsTallyOf (count_on p limits range) rows
-  pub lines : text ≡ tally_rows_text rows
 
 -- how large a program is, and how many streams it is tallied over
 abbrev pub size_text : SourceProgram → List ℕ
@@ -55,5 +34,5 @@ generated_range k = record { seed = k; from = 0; to = GENERATED_STREAMS; budget 
 -- the lines of the size and the tally of the generated program of k, under the limits where none is given
 pub record IsGeneratedText (k : ℕ) (text : List ℕ) : Type 0 where
   pub rows : List ℕ
-  pub tally : IsTallyText (generated k) (generated_range k) (limits_of no_options) rows
+  pub tally : AreTallyLines (generated k) (generated_range k) (limits_of no_options) rows
   pub lines : text ≡ size_text (generated k) ++ rows

@@ -12,12 +12,12 @@ use Rattle.zar_cli.specs.declared.said.Said.{Said}
 use Rattle.zar_cli.specs.declared.said.Said.TheVariants.{Shown}
 
 -- A refusal comes only by its cause.
-pub data SaysEnclosure (p : SourceProgram) (turns : ℕ) (attempts rounds : Option ℕ) (all_turns : Bool) : Result Said Refusal → Type 0 where
-  enclosed : (lines : List ℕ) → AreEnclosedLines p turns attempts rounds all_turns lines
-      → SaysEnclosure p turns attempts rounds all_turns (Ok (Shown lines))
+pub data SaysEnclosure (p : SourceProgram) (turns : ℕ) (attempts rounds : Option ℕ) (all_turns : Bool) (d : ℕ) : Result Said Refusal → Type 0 where
+  enclosed : (lines : List ℕ) → AreEnclosedLines p turns attempts rounds all_turns d lines
+      → SaysEnclosure p turns attempts rounds all_turns d (Ok (Shown lines))
   too_many_states : EncloseRefused TooManyStates p turns attempts rounds
-      → SaysEnclosure p turns attempts rounds all_turns (Err (Coded TOO_MANY_STATES None))
+      → SaysEnclosure p turns attempts rounds all_turns d (Err (Coded TOO_MANY_STATES None))
   all_failed : EncloseRefused AllFailed p turns attempts rounds
-      → SaysEnclosure p turns attempts rounds all_turns (Err (Coded ALL_FAILED None))
+      → SaysEnclosure p turns attempts rounds all_turns d (Err (Coded ALL_FAILED None))
   too_unlikely : EncloseRefused TooUnlikely p turns attempts rounds
-      → SaysEnclosure p turns attempts rounds all_turns (Err (Coded TOO_UNLIKELY None))
+      → SaysEnclosure p turns attempts rounds all_turns d (Err (Coded TOO_UNLIKELY None))

@@ -11,8 +11,8 @@ use Rattle.zar_cli.specs.declared.said.Said.{Said}
 use Rattle.zar_cli.specs.declared.said.Said.TheVariants.{Shown}
 
 -- A refusal comes only by its cause.
-pub data SaysExact (p : SourceProgram) : Result Said Refusal → Type 0 where
-  exact : (lines : List ℕ) → AreExactLines p lines → SaysExact p (Ok (Shown lines))
-  too_wide : WhyRefused p TooWide → SaysExact p (Err (Coded TOO_WIDE None))
-  too_many_states : WhyRefused p TooManyStates → SaysExact p (Err (Coded TOO_MANY_STATES None))
-  all_failed : WhyRefused p AllFailed → SaysExact p (Err (Coded ALL_FAILED None))
+pub data SaysExact (p : SourceProgram) (d : ℕ) : Result Said Refusal → Type 0 where
+  exact : (lines : List ℕ) → AreExactLines p d lines → SaysExact p d (Ok (Shown lines))
+  too_wide : WhyRefused p TooWide → SaysExact p d (Err (Coded TOO_WIDE None))
+  too_many_states : WhyRefused p TooManyStates → SaysExact p d (Err (Coded TOO_MANY_STATES None))
+  all_failed : WhyRefused p AllFailed → SaysExact p d (Err (Coded ALL_FAILED None))

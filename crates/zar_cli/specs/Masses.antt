@@ -11,9 +11,9 @@ use Rattle.zar_cli.specs.declared.said.Said.{Said}
 use Rattle.zar_cli.specs.declared.said.Said.TheVariants.{Shown}
 
 -- A refusal comes only by its cause.
-pub data SaysMasses (p : SourceProgram) (turns : ℕ) (attempts rounds : Option ℕ) : Result Said Refusal → Type 0 where
-  exact : (lines : List ℕ) → AreMassLines p turns attempts rounds lines → SaysMasses p turns attempts rounds (Ok (Shown lines))
-  too_wide : MassRefused TooWide p turns attempts rounds → SaysMasses p turns attempts rounds (Err (Coded TOO_WIDE None))
+pub data SaysMasses (p : SourceProgram) (turns : ℕ) (attempts rounds : Option ℕ) (d : ℕ) : Result Said Refusal → Type 0 where
+  exact : (lines : List ℕ) → AreMassLines p turns attempts rounds d lines → SaysMasses p turns attempts rounds d (Ok (Shown lines))
+  too_wide : MassRefused TooWide p turns attempts rounds → SaysMasses p turns attempts rounds d (Err (Coded TOO_WIDE None))
   too_many_states : MassRefused TooManyStates p turns attempts rounds
-      → SaysMasses p turns attempts rounds (Err (Coded TOO_MANY_STATES None))
-  all_failed : MassRefused AllFailed p turns attempts rounds → SaysMasses p turns attempts rounds (Err (Coded ALL_FAILED None))
+      → SaysMasses p turns attempts rounds d (Err (Coded TOO_MANY_STATES None))
+  all_failed : MassRefused AllFailed p turns attempts rounds → SaysMasses p turns attempts rounds d (Err (Coded ALL_FAILED None))

@@ -22,14 +22,14 @@ abbrev pub names_in : Command → List CallWord
 names_in (Checked program work) = program ∷ names_in_work work
 names_in (Show program) = program ∷ []
 names_in (Gen k) = []
-names_in (Fast labels flips (Some source)) = names_of_bits source
-names_in (Fast labels flips None) = []
-names_in (Roll weights flips (Some source)) = names_of_bits source
-names_in (Roll weights flips None) = []
+names_in (Fast labels flips (Some source) d) = names_of_bits source
+names_in (Fast labels flips None d) = []
+names_in (Roll weights flips (Some source) d) = names_of_bits source
+names_in (Roll weights flips None d) = []
 names_in (Help topic) = []
 
 -- whether it takes memory: help takes none, nor does a roll of `fast` on the bits of a stream
 abbrev pub takes_memory : Command → Bool
-takes_memory (Fast labels flips (Some (Stream seed stream budget))) = false
+takes_memory (Fast labels flips (Some (Stream seed stream budget)) d) = false
 takes_memory (Help topic) = false
 takes_memory _ = true

@@ -11,8 +11,8 @@ use Rattle.zar_cli.specs.declared.said.Said.{Said}
 use Rattle.zar_cli.specs.declared.said.Said.TheVariants.{Shown}
 
 -- A refusal comes only by its cause.
-pub data SaysBounds (p : SourceProgram) (turns : ℕ) : Result Said Refusal → Type 0 where
-  exact : (lines : List ℕ) → AreBoundLines p turns lines → SaysBounds p turns (Ok (Shown lines))
-  too_wide : MassRefused TooWide p turns None None → SaysBounds p turns (Err (Coded TOO_WIDE None))
-  too_many_states : MassRefused TooManyStates p turns None None → SaysBounds p turns (Err (Coded TOO_MANY_STATES None))
-  all_failed : MassRefused AllFailed p turns None None → SaysBounds p turns (Err (Coded ALL_FAILED None))
+pub data SaysBounds (p : SourceProgram) (turns d : ℕ) : Result Said Refusal → Type 0 where
+  exact : (lines : List ℕ) → AreBoundLines p turns d lines → SaysBounds p turns d (Ok (Shown lines))
+  too_wide : MassRefused TooWide p turns None None → SaysBounds p turns d (Err (Coded TOO_WIDE None))
+  too_many_states : MassRefused TooManyStates p turns None None → SaysBounds p turns d (Err (Coded TOO_MANY_STATES None))
+  all_failed : MassRefused AllFailed p turns None None → SaysBounds p turns d (Err (Coded ALL_FAILED None))

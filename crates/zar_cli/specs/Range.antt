@@ -22,13 +22,13 @@ SourceHasRange (Stream seed stream budget) = budget ≤ MOST_BUDGET
 
 abbrev pub WorkHasRange : Work → Type 0
 WorkHasRange (Sample source limits) = InRange limits × SourceHasRange source
-WorkHasRange (Mass turns attempts rounds) = (turns ≤ MOST_LIMIT) × IfSome attempts IsLimit × IfSome rounds IsLimit
-WorkHasRange (Cost limits) = InRange limits
-WorkHasRange (Posterior turns) = turns ≤ MOST_LIMIT
-WorkHasRange Exact = Unit {0}
-WorkHasRange (Enclose turns attempts rounds all_turns) =
+WorkHasRange (Mass turns attempts rounds d) = (turns ≤ MOST_LIMIT) × IfSome attempts IsLimit × IfSome rounds IsLimit
+WorkHasRange (Cost limits d) = InRange limits
+WorkHasRange (Posterior turns d) = turns ≤ MOST_LIMIT
+WorkHasRange (Exact d) = Unit {0}
+WorkHasRange (Enclose turns attempts rounds all_turns d) =
     (turns ≤ MOST_LIMIT) × IfSome attempts IsLimit × IfSome rounds IsLimit
-WorkHasRange (Audit depth limits) = (depth ≤ MOST_DEPTH) × InRange limits
+WorkHasRange (Audit depth limits d) = (depth ≤ MOST_DEPTH) × InRange limits
 WorkHasRange (Tally range limits named) = InRange limits × IsRange range × IsWorkers range.workers
 WorkHasRange (Runs range limits named) = InRange limits × IsRange range × IsWorkers range.workers
 WorkHasRange (Hunt range limits want named) = InRange limits × IsRange range × IsWorkers range.workers
@@ -40,7 +40,7 @@ abbrev pub HasRange : Command → Type 0
 HasRange (Checked program work) = WorkHasRange work
 HasRange (Show program) = Unit {0}
 HasRange (Gen k) = k ≤ GREATEST_NUMBER
-HasRange (Fast labels flips source) =
+HasRange (Fast labels flips source d) =
     (LEAST_LABELS ≤ labels) × (labels ≤ MOST_LABELS) × (flips ≤ MOST_FLIPS) × IfSome source SourceHasRange
-HasRange (Roll weights flips source) = AreWeights weights × (flips ≤ MOST_FLIPS) × IfSome source SourceHasRange
+HasRange (Roll weights flips source d) = AreWeights weights × (flips ≤ MOST_FLIPS) × IfSome source SourceHasRange
 HasRange (Help topic) = Unit {0}

@@ -14,12 +14,12 @@ abbrev pub if_above_zero : (Fraction → List ℕ) → Fraction → List ℕ
 if_above_zero line weight = if weight.0 == 0 then [] else line weight
 
 -- the weight of each label, and the weight left to the limit
-abbrev pub shares_text : Fraction → Fraction → List ℕ
-shares_text each left = if_above_zero each_text each ++ if_above_zero flips_text left
+abbrev pub shares_text : ℕ → Fraction → Fraction → List ℕ
+shares_text d each left = if_above_zero (each_text d) each ++ if_above_zero (flips_text d) left
 
--- where the weights are fractions that are not too wide
-abbrev pub weights_text : ℕ → ℕ → Option (List ℕ)
-weights_text labels flips = option_map (λ shares. shares_text shares.0 shares.1) (shares_of labels flips)
+-- where the weights are fractions that are not too wide, with d decimals
+abbrev pub weights_text : ℕ → ℕ → ℕ → Option (List ℕ)
+weights_text labels flips d = option_map (λ shares. shares_text d shares.0 shares.1) (shares_of labels flips)
 
 abbrev pub weights_said : Option (List ℕ) → Result Said Refusal
 weights_said (Some text) = Ok (Shown text)

@@ -7,14 +7,14 @@ use Rattle.weighted_roll.specs.Shares.{shares_of}
 use Rattle.zar_cli.specs.Rolls.{if_above_zero}
 
 -- a line for each label from i on whose share is above 0
-abbrev pub label_lines : ℕ → List Fraction → List ℕ
-label_lines i [] = []
-label_lines i (share ∷ shares) = if_above_zero (mass_text (Value (pos i))) share ++ label_lines (i + 1) shares
+abbrev pub label_lines : ℕ → ℕ → List Fraction → List ℕ
+label_lines d i [] = []
+label_lines d i (share ∷ shares) = if_above_zero (mass_text d (Value (pos i))) share ++ label_lines d (i + 1) shares
 
 -- the share of each label, what is left to the limit, and how many flips a roll makes on average
-abbrev pub shares_text : List Fraction × Fraction × Fraction → List ℕ
-shares_text shares = label_lines 0 shares.0 ++ if_above_zero flips_text shares.1 ++ cost_text shares.2
+abbrev pub shares_text : ℕ → List Fraction × Fraction × Fraction → List ℕ
+shares_text d shares = label_lines d 0 shares.0 ++ if_above_zero (flips_text d) shares.1 ++ cost_text d shares.2
 
--- where these are fractions that are not too wide
-abbrev pub labels_text : List ℕ → ℕ → Option (List ℕ)
-labels_text weights flips = option_map shares_text (shares_of weights flips)
+-- where these are fractions that are not too wide, with d decimals
+abbrev pub labels_text : List ℕ → ℕ → ℕ → Option (List ℕ)
+labels_text weights flips d = option_map (shares_text d) (shares_of weights flips)

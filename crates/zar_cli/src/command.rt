@@ -5,6 +5,7 @@ ghost use Rattle.weighted_roll.specs.Listed.{weights_in};
 
 use crate::help::Topic;
 use gcl_core::{Limits, TallyKey};
+use report_text::Decimals;
 use std::alloc::{AllocError, Global};
 use std::marker::Model;
 use stream_runs::SeedRange;
@@ -83,24 +84,24 @@ pub enum Source {
     Stream(u64, u64, u64),
 }
 
-/// What is worked out of a checked program.
+/// What is worked out of a checked program. Behind each fraction stand so many decimals.
 #[derive(Drop)]
 pub enum Work {
     /// One run.
     Sample(Source, Limits),
     /// The mass of each outcome, with limits of turns, attempts and rounds.
-    Mass(u64, Option<u64>, Option<u64>),
+    Mass(u64, Option<u64>, Option<u64>, Decimals),
     /// How many bits a run reads on average.
-    Cost(Limits),
+    Cost(Limits, Decimals),
     /// The bounds of each outcome for every greater limit of turns.
-    Posterior(u64),
+    Posterior(u64, Decimals),
     /// The mass of each outcome with no limit, and what never ends.
-    Exact,
+    Exact(Decimals),
     /// Two fractions between which the mass of each outcome lies, with limits of turns, attempts and rounds; whether they
     /// hold for every greater limit of turns.
-    Enclose(u64, Option<u64>, Option<u64>, bool),
+    Enclose(u64, Option<u64>, Option<u64>, bool, Decimals),
     /// The audit of its runs by all bit strings of one length.
-    Audit(u32, Limits),
+    Audit(u32, Limits, Decimals),
     /// The tally of its runs over the streams of a range; whether a line before it says what it is of.
     Tally(SeedRange, Limits, bool),
     /// The answers of its runs on the streams of a range, a line each; whether a line before them says what they are of.
@@ -126,9 +127,9 @@ pub enum Command {
     Gen(u32),
     /// Draws a label by the Fast Dice Roller: how many labels, the most flips, and the source of bits; without a source, weighs
     /// the labels.
-    Fast(u64, u64, Option<Source>),
+    Fast(u64, u64, Option<Source>, Decimals),
     /// Draws a label by these weights: the most flips, and the source of bits; without a source, weighs the labels.
-    Roll(WeightList, u64, Option<Source>),
+    Roll(WeightList, u64, Option<Source>, Decimals),
     /// Tells of all commands, of the options of one, or of the version.
     Help(Topic),
 }

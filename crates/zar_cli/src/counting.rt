@@ -5,17 +5,17 @@ ghost use Rattle.gcl_core.specs.meaning.LimitRange.{InRange};
 ghost use Rattle.gcl_core.specs.meaning.Views.{source_of};
 ghost use Rattle.stream_runs.specs.Ranges.{IsRange, IsWorkers};
 ghost use Rattle.audit_walk.specs.declared.auditing.TheConstants.{MOST_DEPTH};
+ghost use Rattle.count_lines.specs.TallyLines.{AreTallyLines};
 ghost use Rattle.zar_cli.specs.declared.command.Work.TheVariants.{Audit, Tally};
-ghost use Rattle.zar_cli.specs.Counts.{IsTallyText};
 ghost use Rattle.zar_cli.specs.inner.Works.{WorksAlone};
 
 use crate::naming::part_name;
 use crate::said::Said;
-use crate::tables::{audit_text, tally_rows_text};
 use audit_walk::audit;
+use count_lines::audit_text;
 use gcl_core::{Checked, Limits};
 use gcl_print::Text;
-use report_text::Refusal;
+use report_text::{Decimals, Refusal};
 use sampler_run::compile;
 use std::alloc::{AllocError, Global};
 use std::marker::Sync;
@@ -31,14 +31,15 @@ pub fn audit_of<R: Threads + Sync>(
     program: &Checked,
     depth: u32,
     limits: &Limits,
+    decimals: Decimals,
 ) -> Result<Said, Refusal>
     requires depth { depth ≤ MOST_DEPTH }
     requires limits { InRange limits.now }
-    ensures { WorksAlone (Audit depth limits.now) (source_of program.now) result }
+    ensures { WorksAlone (Audit depth limits.now decimals) (source_of program.now) result }
 {
     let sampler = compile(alloc, program)?;
     let found = audit(rt, alloc, &sampler, limits, depth)?;
-    let text = audit_text(alloc, depth, &found)?;
+    let text = audit_text(alloc, depth, &found, decimals)?;
     Ok(Said::Shown(text))
 }
 
@@ -54,11 +55,11 @@ pub fn tally_text<R: Threads + Sync, G: Gate>(
     requires limits { InRange limits.now }
     requires range { IsRange range.now }
     requires workers { IsWorkers range.now.workers }
-    ensures { IfOk result (IsTallyText (source_of program.now) range.now limits.now) }
+    ensures { IfOk result (AreTallyLines (source_of program.now) range.now limits.now) }
 {
     let sampler = compile(alloc, program)?;
     let found = tally(rt, alloc, &sampler, limits, range, gate)?;
-    let text = tally_rows_text(alloc, &found)?;
+    let text = count_lines::tally_text(alloc, &found)?;
     Ok(text)
 }
 

@@ -11,7 +11,7 @@ use crate::refusing::enclose_refusal;
 use crate::said::Said;
 use gcl_core::Checked;
 use mass_lines::enclosed_text;
-use report_text::Refusal;
+use report_text::{Decimals, Refusal};
 use std::alloc::Global;
 
 /// The lines of the fractions between which a program's masses lie.
@@ -22,13 +22,14 @@ pub fn enclosed_of(
     attempts: Option<u64>,
     rounds: Option<u64>,
     all_turns: bool,
+    decimals: Decimals,
 ) -> Result<Said, Refusal>
     requires turns { turns ≤ MOST_LIMIT }
     requires attempts { IfSome attempts IsLimit }
     requires rounds { IfSome rounds IsLimit }
-    ensures { WorksAlone (Enclose turns attempts rounds all_turns) (source_of program.now) result }
+    ensures { WorksAlone (Enclose turns attempts rounds all_turns decimals) (source_of program.now) result }
 {
-    match enclosed_text(alloc, program, turns, attempts, rounds, all_turns) {
+    match enclosed_text(alloc, program, turns, attempts, rounds, all_turns, decimals) {
         Ok(lines) => Ok(Said::Shown(lines)),
         Err(error) => Err(enclose_refusal(error)),
     }

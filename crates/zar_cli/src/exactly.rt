@@ -8,14 +8,18 @@ use crate::refusing::exact_refusal;
 use crate::said::Said;
 use gcl_core::Checked;
 use mass_lines::exact_text;
-use report_text::Refusal;
+use report_text::{Decimals, Refusal};
 use std::alloc::Global;
 
 /// The lines of a program's exact masses.
-pub fn exact_masses_of(alloc: Global, program: &Checked) -> Result<Said, Refusal>
-    ensures { WorksAlone Exact (source_of program.now) result }
+pub fn exact_masses_of(
+    alloc: Global,
+    program: &Checked,
+    decimals: Decimals,
+) -> Result<Said, Refusal>
+    ensures { WorksAlone (Exact decimals) (source_of program.now) result }
 {
-    match exact_text(alloc, program) {
+    match exact_text(alloc, program, decimals) {
         Ok(lines) => Ok(Said::Shown(lines)),
         Err(error) => Err(exact_refusal(error)),
     }

@@ -15,7 +15,7 @@ use dice_roll::{LEAST_LABELS, MOST_FLIPS, MOST_LABELS};
 use gcl_core::refusals::TOO_UNLIKELY;
 use gcl_core::{MOST_LIMIT, number_in};
 use generated_program::GREATEST_NUMBER;
-use report_text::VERSION_LINE;
+use report_text::{MOST_DECIMALS, VERSION_LINE};
 use stream_runs::MOST_WORKERS;
 use weighted_roll::{GREATEST_SUM, MOST_LISTED};
 use zar_io::MOST_BUDGET;
@@ -82,6 +82,15 @@ const FORGETFUL: Piece = (
     "--forgetful   with x := 0; where x is read no more, as exact and enclose take the program\n",
     None,
 );
+
+// The decimals behind fractions.
+const DECIMALS: Part = &[
+    (
+        "--decimals N  N decimals behind each fraction: to the nearest, bounds outwards; 1 to ",
+        Some(MOST_DECIMALS as u64),
+    ),
+    ("\n", None),
+];
 
 // The line of a part of many streams.
 const NAMED: Part = &[(
@@ -219,7 +228,12 @@ pub const MASS: Page = (
     print each outcome with its exact mass
 
 ",
-    &[MASS_TURNS, &[ATTEMPTS, NO_LIMIT, ROUNDS, NO_LIMIT], EXPLAIN],
+    &[
+        MASS_TURNS,
+        &[ATTEMPTS, NO_LIMIT, ROUNDS, NO_LIMIT],
+        DECIMALS,
+        EXPLAIN,
+    ],
 );
 
 pub const COST: Page = (
@@ -237,6 +251,7 @@ pub const COST: Page = (
             END,
         ],
         MASS_TURNS,
+        DECIMALS,
         EXPLAIN,
     ],
 );
@@ -246,7 +261,7 @@ pub const POSTERIOR: Page = (
     print each value and fault with bounds that hold for every greater limit of turns
 
 ",
-    &[MASS_TURNS, EXPLAIN],
+    &[MASS_TURNS, DECIMALS, EXPLAIN],
 );
 
 pub const EXACT: Page = (
@@ -254,7 +269,7 @@ pub const EXACT: Page = (
     print each outcome with its exact mass where nothing is limited, and what never ends
 
 ",
-    &[EXPLAIN],
+    &[DECIMALS, EXPLAIN],
 );
 
 pub const ENCLOSE: Page = (
@@ -265,6 +280,7 @@ pub const ENCLOSE: Page = (
     &[
         MASS_TURNS,
         &[ATTEMPTS, NO_LIMIT, ROUNDS, NO_LIMIT, ALL_TURNS],
+        DECIMALS,
         EXPLAIN,
     ],
 );
@@ -274,7 +290,7 @@ pub const AUDIT: Page = (
     print how all strings of N bits end
 
 ",
-    &[&[DEPTH, REQUIRED], LIMITS, EXPLAIN],
+    &[&[DEPTH, REQUIRED], LIMITS, DECIMALS, EXPLAIN],
 );
 
 pub const TALLY: Page = (
@@ -357,6 +373,7 @@ zar fast N --seed N
         ],
         ONE_RUN,
         FLIPS,
+        DECIMALS,
         EXPLAIN,
     ],
 );
@@ -369,7 +386,7 @@ zar roll W,W,.. --seed N
     draw a label by these weights
 
 ",
-    &[WEIGHTS, ONE_RUN, FLIPS, EXPLAIN],
+    &[WEIGHTS, ONE_RUN, FLIPS, DECIMALS, EXPLAIN],
 );
 
 // The page at a place of a table, which has none behind its end.

@@ -10,15 +10,20 @@ use crate::refusing::mass_refusal;
 use crate::said::Said;
 use gcl_core::Checked;
 use mass_lines::bounds_text;
-use report_text::Refusal;
+use report_text::{Decimals, Refusal};
 use std::alloc::Global;
 
 /// The lines of a program's bounds.
-pub fn bounds_of(alloc: Global, program: &Checked, turns: u64) -> Result<Said, Refusal>
+pub fn bounds_of(
+    alloc: Global,
+    program: &Checked,
+    turns: u64,
+    decimals: Decimals,
+) -> Result<Said, Refusal>
     requires { turns ≤ MOST_LIMIT }
-    ensures { WorksAlone (Posterior turns) (source_of program.now) result }
+    ensures { WorksAlone (Posterior turns decimals) (source_of program.now) result }
 {
-    match bounds_text(alloc, program, turns) {
+    match bounds_text(alloc, program, turns, decimals) {
         Ok(lines) => Ok(Said::Shown(lines)),
         Err(error) => Err(mass_refusal(error)),
     }

@@ -1,8 +1,9 @@
 // Why work on a program is refused.
 
 ghost use Rattle.std.specs.Prelude.{◌≡◌};
-ghost use Rattle.zar_cli.specs.inner.Readings.{enclose_code, exact_code, mass_code};
+ghost use Rattle.zar_cli.specs.inner.Readings.{cost_code, enclose_code, exact_code, mass_code};
 
+use cost_fold::CostError;
 use enclose_fold::EncloseError;
 use exact_fold::ExactError;
 use gcl_core::refusals;
@@ -18,6 +19,17 @@ pub fn mass_refusal(error: MassError) -> Refusal
         MassError::TooManyStates => Refusal::Coded(refusals::TOO_MANY_STATES, None),
         MassError::AllFailed => Refusal::Coded(refusals::ALL_FAILED, None),
         MassError::OutOfMemory => Refusal::Memory,
+    }
+}
+
+/// Why there is no number of bits, as a refusal.
+pub fn cost_refusal(error: CostError) -> Refusal
+    ensures { result ≡ cost_code error }
+{
+    match error {
+        CostError::TooWide => Refusal::Coded(refusals::TOO_WIDE, None),
+        CostError::TooManyStates => Refusal::Coded(refusals::TOO_MANY_STATES, None),
+        CostError::OutOfMemory => Refusal::Memory,
     }
 }
 

@@ -15,7 +15,7 @@ use crate::source::open_bits;
 use dice_roll::{Roll, roll, share};
 use gcl_print::Text;
 use numbers::Frac;
-use report_text::{Refusal, each_line, flips_line};
+use report_text::{Decimals, Refusal, each_line, flips_line};
 use std::alloc::{AllocError, Global};
 use zar_io::{Failed, FileBits, Files, StreamBits};
 
@@ -59,28 +59,38 @@ pub fn roll_on_stream(labels: u64, flips: u64, seed: u64, stream: u64, budget: u
 }
 
 // The lines of the weight of each label and of the weight left, each where it is above 0.
-fn shares_text(alloc: Global, each: &Frac, left: &Frac) -> Result<Text, AllocError>
-    ensures { IfOk result (λ text. text ≡ shares_text each.now left.now) }
+fn shares_text(
+    alloc: Global,
+    each: &Frac,
+    left: &Frac,
+    decimals: Decimals,
+) -> Result<Text, AllocError>
+    ensures { IfOk result (λ text. text ≡ shares_text decimals each.now left.now) }
 {
     let mut text = Text::new(alloc);
     if each.num() > 0 {
-        text.push(each_line(each).bytes())?;
+        text.push(each_line(each, decimals).bytes())?;
     }
     if left.num() > 0 {
-        text.push(flips_line(left).bytes())?;
+        text.push(flips_line(left, decimals).bytes())?;
     }
     Ok(text)
 }
 
 /// What the labels of a roll weigh, as lines, where the fractions are not too wide. An error comes only where memory runs out.
-pub fn weights_text(alloc: Global, labels: u64, flips: u64) -> Result<Option<Text>, AllocError>
+pub fn weights_text(
+    alloc: Global,
+    labels: u64,
+    flips: u64,
+    decimals: Decimals,
+) -> Result<Option<Text>, AllocError>
     requires low { LEAST_LABELS ≤ labels }
     requires high { labels ≤ MOST_LABELS }
     requires few { flips ≤ MOST_FLIPS }
-    ensures { IfOk result (λ text. text ≡ weights_text labels flips) }
+    ensures { IfOk result (λ text. text ≡ weights_text labels flips decimals) }
 {
     match share(labels, flips) {
-        Some((each, left)) => Ok(Some(shares_text(alloc, &each, &left)?)),
+        Some((each, left)) => Ok(Some(shares_text(alloc, &each, &left, decimals)?)),
         None => Ok(None),
     }
 }

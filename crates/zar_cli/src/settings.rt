@@ -11,6 +11,7 @@ use audit_walk::MOST_DEPTH;
 use dice_roll::{LEAST_LABELS, MOST_FLIPS, MOST_LABELS};
 use gcl_core::{MOST_LIMIT, number_in};
 use generated_program::GREATEST_NUMBER;
+use report_text::MOST_DECIMALS;
 use stream_runs::MOST_WORKERS;
 use weighted_roll::lists_weights;
 use zar_io::MOST_BUDGET;
@@ -83,6 +84,9 @@ pub const WANT: Setting = ("--want", Form::Wanted);
 
 pub const ALL_TURNS: Setting = ("--all-turns", Form::Alone);
 
+/// So many decimals stand behind each fraction.
+pub const DECIMALS: Setting = ("--decimals", Form::Number(1, MOST_DECIMALS as u64));
+
 /// The forgetful program is shown.
 pub const FORGETFUL: Setting = ("--forgetful", Form::Alone);
 
@@ -94,17 +98,19 @@ pub const EXPLAIN: Setting = ("--explain", Form::Alone);
 // The options of commands.
 const SAMPLE: &[Setting] = &[BITS, SEED, STREAM, BUDGET, TURNS, ATTEMPTS, ROUNDS, EXPLAIN];
 
-const LIMITS: &[Setting] = &[TURNS, ATTEMPTS, ROUNDS, EXPLAIN];
+const LIMITS: &[Setting] = &[TURNS, ATTEMPTS, ROUNDS, DECIMALS, EXPLAIN];
 
-const ONE_LIMIT: &[Setting] = &[TURNS, EXPLAIN];
+const ONE_LIMIT: &[Setting] = &[TURNS, DECIMALS, EXPLAIN];
+
+const EXACT: &[Setting] = &[DECIMALS, EXPLAIN];
 
 const NO_OTHER: &[Setting] = &[EXPLAIN];
 
-const ENCLOSE: &[Setting] = &[TURNS, ATTEMPTS, ROUNDS, ALL_TURNS, EXPLAIN];
+const ENCLOSE: &[Setting] = &[TURNS, ATTEMPTS, ROUNDS, ALL_TURNS, DECIMALS, EXPLAIN];
 
 const SHOW: &[Setting] = &[FORGETFUL, EXPLAIN];
 
-const AUDIT: &[Setting] = &[DEPTH, TURNS, ATTEMPTS, ROUNDS, EXPLAIN];
+const AUDIT: &[Setting] = &[DEPTH, TURNS, ATTEMPTS, ROUNDS, DECIMALS, EXPLAIN];
 
 const TALLY: &[Setting] = &[
     SEED, FROM, TO, BUDGET, WORKERS, TURNS, ATTEMPTS, ROUNDS, NAMED, EXPLAIN,
@@ -114,7 +120,7 @@ const HUNT: &[Setting] = &[
     SEED, FROM, TO, WANT, BUDGET, WORKERS, TURNS, ATTEMPTS, ROUNDS, NAMED, EXPLAIN,
 ];
 
-const ROLL: &[Setting] = &[BITS, SEED, STREAM, BUDGET, FLIPS, EXPLAIN];
+const ROLL: &[Setting] = &[BITS, SEED, STREAM, BUDGET, FLIPS, DECIMALS, EXPLAIN];
 
 // The numbers behind `gen` and `fast`.
 const GENERATED: Form = Form::Number(LEAST_GENERATED, GREATEST_NUMBER as u64);
@@ -130,7 +136,7 @@ pub const VERBS: [(&str, Row); 16] = [
     ("mass", (Verb::Mass, Form::Name, LIMITS, &[])),
     ("cost", (Verb::Cost, Form::Name, LIMITS, &[])),
     ("posterior", (Verb::Posterior, Form::Name, ONE_LIMIT, &[])),
-    ("exact", (Verb::Exact, Form::Name, NO_OTHER, &[])),
+    ("exact", (Verb::Exact, Form::Name, EXACT, &[])),
     ("enclose", (Verb::Enclose, Form::Name, ENCLOSE, &[])),
     ("audit", (Verb::Audit, Form::Name, AUDIT, &[DEPTH])),
     ("tally", (Verb::Tally, Form::Name, TALLY, &[SEED, FROM, TO])),

@@ -15,7 +15,7 @@ use crate::writing::{put_text, put_topic};
 use dice_roll::Roll;
 use gcl_core::refusals::{BAD_WORDS, TOO_FINE};
 use gcl_core::{Answer, Outcome};
-use report_text::{Refusal, check_line, cost_line, fault_line, roll_line, sample_line};
+use report_text::{Refusal, check_line, fault_line, roll_line, sample_line};
 use std::alloc::{AllocError, Global};
 use std::thread::Threads;
 use zar_io::{Failed, Gate, Sink};
@@ -54,7 +54,6 @@ fn said_status(said: &Said) -> u8
     match said {
         Said::Answered(answer) => answer_status(answer),
         Said::Accepted(_, _) => DONE,
-        Said::Costed(_) => DONE,
         Said::Shown(_) => DONE,
         Said::Drawn(_) => DONE,
         Said::Rolled(roll) => roll_status(roll),
@@ -111,7 +110,6 @@ fn put_said<R: Threads + Sync, S: Sink, G: Gate>(
             sink,
             check_line(*statements, *names).bytes(),
         )),
-        Said::Costed(bits) => Ok(put_text(sink, cost_line(bits).bytes())),
         Said::Shown(text) => Ok(put_text(sink, text.bytes())),
         Said::Drawn(drawn) => drawn.write(rt, alloc, sink, gate),
         Said::Rolled(roll) => Ok(put_text(sink, roll_line(roll).bytes())),

@@ -8,12 +8,11 @@ ghost use Rattle.mass_fold.specs.Refused.{IsLimit};
 ghost use Rattle.zar_cli.specs.declared.command.Work.TheVariants.{Cost, Mass};
 ghost use Rattle.zar_cli.specs.inner.Works.{WorksAlone};
 
-use crate::refusing::mass_refusal;
+use crate::refusing::{cost_refusal, mass_refusal};
 use crate::said::Said;
-use cost_fold::{CostError, cost};
-use gcl_core::{Checked, Limits, refusals};
-use mass_lines::{is_narrow, masses_text};
-use report_text::Refusal;
+use gcl_core::{Checked, Limits};
+use mass_lines::{bits_text, masses_text};
+use report_text::{Decimals, Refusal};
 use std::alloc::Global;
 
 /// The lines of a program's masses.
@@ -23,30 +22,31 @@ pub fn masses_of(
     turns: u64,
     attempts: Option<u64>,
     rounds: Option<u64>,
+    decimals: Decimals,
 ) -> Result<Said, Refusal>
     requires turns { turns ≤ MOST_LIMIT }
     requires attempts { IfSome attempts IsLimit }
     requires rounds { IfSome rounds IsLimit }
-    ensures { WorksAlone (Mass turns attempts rounds) (source_of program.now) result }
+    ensures { WorksAlone (Mass turns attempts rounds decimals) (source_of program.now) result }
 {
-    match masses_text(alloc, program, turns, attempts, rounds) {
+    match masses_text(alloc, program, turns, attempts, rounds, decimals) {
         Ok(lines) => Ok(Said::Shown(lines)),
         Err(error) => Err(mass_refusal(error)),
     }
 }
 
-/// The bits that a run of a program reads on average.
-pub fn bits_of(alloc: Global, program: &Checked, limits: &Limits) -> Result<Said, Refusal>
+/// The line of the bits that a run of a program reads on average.
+pub fn bits_of(
+    alloc: Global,
+    program: &Checked,
+    limits: &Limits,
+    decimals: Decimals,
+) -> Result<Said, Refusal>
     requires { InRange limits.now }
-    ensures { WorksAlone (Cost limits.now) (source_of program.now) result }
+    ensures { WorksAlone (Cost limits.now decimals) (source_of program.now) result }
 {
-    match cost(alloc, program, limits) {
-        Ok(bits) => {
-            is_narrow(&bits);
-            Ok(Said::Costed(bits))
-        }
-        Err(CostError::TooWide) => Err(Refusal::Coded(refusals::TOO_WIDE, None)),
-        Err(CostError::TooManyStates) => Err(Refusal::Coded(refusals::TOO_MANY_STATES, None)),
-        Err(CostError::OutOfMemory) => Err(Refusal::Memory),
+    match bits_text(alloc, program, limits, decimals) {
+        Ok(line) => Ok(Said::Shown(line)),
+        Err(error) => Err(cost_refusal(error)),
     }
 }

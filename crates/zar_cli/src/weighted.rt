@@ -17,7 +17,7 @@ use dice_roll::Roll;
 use gcl_core::Outcome;
 use gcl_print::Text;
 use numbers::Frac;
-use report_text::{Refusal, cost_line, flips_line, mass_line};
+use report_text::{Decimals, Refusal, cost_line, flips_line, mass_line};
 use std::alloc::{AllocError, Global};
 use weighted_roll::{Shares, roll, weigh_labels};
 use zar_io::{Failed, FileBits, Files, StreamBits};
@@ -70,39 +70,44 @@ pub fn weighted_on_stream(
 }
 
 // The lines of the labels, each where its share is above 0.
-fn label_lines(alloc: Global, shares: &[Frac]) -> Result<Text, AllocError>
-    ensures { IfOk result (λ text. text ≡ label_lines 0 shares.now) }
+fn label_lines(alloc: Global, shares: &[Frac], decimals: Decimals) -> Result<Text, AllocError>
+    ensures { IfOk result (λ text. text ≡ label_lines decimals 0 shares.now) }
 {
     let mut text = Text::new(alloc);
     for label in 0..shares.len() {
         let share = &shares[label];
         if share.num() > 0 {
-            text.push(mass_line(&Outcome::Value(label as i64), share).bytes())?;
+            text.push(mass_line(&Outcome::Value(label as i64), share, decimals).bytes())?;
         }
     }
     Ok(text)
 }
 
 // The lines of the labels, of what is left where that is above 0, and of the expected flips.
-fn shares_text(alloc: Global, shares: &Shares) -> Result<Text, AllocError>
-    ensures { IfOk result (λ text. text ≡ shares_text (shares.now.labels.items, shares.now.left, shares.now.flips)) }
+fn shares_text(alloc: Global, shares: &Shares, decimals: Decimals) -> Result<Text, AllocError>
+    ensures { IfOk result (λ text. text ≡ shares_text decimals (shares.now.labels.items, shares.now.left, shares.now.flips)) }
 {
-    let mut text = label_lines(alloc, shares.labels.as_slice())?;
+    let mut text = label_lines(alloc, shares.labels.as_slice(), decimals)?;
     if shares.left.num() > 0 {
-        text.push(flips_line(&shares.left).bytes())?;
+        text.push(flips_line(&shares.left, decimals).bytes())?;
     }
-    text.push(cost_line(&shares.flips).bytes())?;
+    text.push(cost_line(&shares.flips, decimals).bytes())?;
     Ok(text)
 }
 
 /// What labels by these weights weigh, and how many flips a roll makes on average, as lines, where the fractions are not too wide.
 /// An error comes only where memory runs out.
-pub fn labels_text(alloc: Global, weights: &[u64], flips: u64) -> Result<Option<Text>, AllocError>
+pub fn labels_text(
+    alloc: Global,
+    weights: &[u64],
+    flips: u64,
+    decimals: Decimals,
+) -> Result<Option<Text>, AllocError>
     requires weights { AreWeights weights.now }
-    ensures { IfOk result (λ text. text ≡ labels_text weights.now flips) }
+    ensures { IfOk result (λ text. text ≡ labels_text weights.now flips decimals) }
 {
     match weigh_labels(alloc, weights, flips)? {
-        Some(shares) => Ok(Some(shares_text(alloc, &shares)?)),
+        Some(shares) => Ok(Some(shares_text(alloc, &shares, decimals)?)),
         None => Ok(None),
     }
 }

@@ -92,16 +92,18 @@ pub fn work_on<R: Threads + Sync, F: Files, G: Gate>(
 {
     match work {
         Work::Sample(source, limits) => run_of(alloc, files, &program, limits, source),
-        Work::Mass(turns, attempts, rounds) => {
-            masses_of(alloc, &program, *turns, *attempts, *rounds)
+        Work::Mass(turns, attempts, rounds, decimals) => {
+            masses_of(alloc, &program, *turns, *attempts, *rounds, *decimals)
         }
-        Work::Cost(limits) => bits_of(alloc, &program, limits),
-        Work::Posterior(turns) => bounds_of(alloc, &program, *turns),
-        Work::Exact => exact_masses_of(alloc, &program),
-        Work::Enclose(turns, attempts, rounds, all_turns) => {
-            enclosed_of(alloc, &program, *turns, *attempts, *rounds, *all_turns)
+        Work::Cost(limits, decimals) => bits_of(alloc, &program, limits, *decimals),
+        Work::Posterior(turns, decimals) => bounds_of(alloc, &program, *turns, *decimals),
+        Work::Exact(decimals) => exact_masses_of(alloc, &program, *decimals),
+        Work::Enclose(turns, attempts, rounds, all_turns, decimals) => enclosed_of(
+            alloc, &program, *turns, *attempts, *rounds, *all_turns, *decimals,
+        ),
+        Work::Audit(depth, limits, decimals) => {
+            audit_of(rt, alloc, &program, *depth, limits, *decimals)
         }
-        Work::Audit(depth, limits) => audit_of(rt, alloc, &program, *depth, limits),
         Work::Tally(range, limits, named) => {
             tally_of(rt, alloc, &program, range, limits, *named, gate)
         }

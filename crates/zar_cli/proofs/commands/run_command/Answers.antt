@@ -32,28 +32,36 @@ returns-in_ok-generated_text-in-Gen g c =
     let is : IsGeneratedText k text = c.in_ok-generated_text-in-Gen.ensures in
     said_alone c.args.command.now (Gen k) _ (Shown text) (search rules) (λ file. (text, is, refl))
 
-pub returns-in-Fast-default-default-Some-Stream : goal.returns-in-Fast-default-default-Some-Stream
-returns-in-Fast-default-default-Some-Stream g c =
-    let a = c.in-Fast-default-default-Some-Stream in
+pub returns-in-Fast-default-default-Some-Stream-default : goal.returns-in-Fast-default-default-Some-Stream-default
+returns-in-Fast-default-default-Some-Stream-default g c =
+    let a = c.in-Fast-default-default-Some-Stream-default in
     let is : c.roll_on_stream.result ≡ fast_roll a.labels a.flips (stream_bits a.seed a.stream a.budget) = search rules in
-    said_alone c.args.command.now (Fast a.labels a.flips (Some (Stream a.seed a.stream a.budget))) _ (Rolled c.roll_on_stream.result) (search rules)
+    said_alone c.args.command.now (Fast a.labels a.flips (Some (Stream a.seed a.stream a.budget)) a.field-3) _ (Rolled c.roll_on_stream.result) (search rules)
     (λ file. ap (λ roll. Ok (Rolled roll)) is)
 
-pub returns-in-Roll-default-default-Some-Stream : goal.returns-in-Roll-default-default-Some-Stream
-returns-in-Roll-default-default-Some-Stream g c =
-    let a = c.in-Roll-default-default-Some-Stream in
-    said_or_memory c.args.command.now (Roll a.list a.flips (Some (Stream a.seed a.stream a.budget))) _ c.weighted_stream.result
+pub returns-in-Roll-default-default-Some-Stream-default : goal.returns-in-Roll-default-default-Some-Stream-default
+returns-in-Roll-default-default-Some-Stream-default g c =
+    let a = c.in-Roll-default-default-Some-Stream-default in
+    said_or_memory c.args.command.now (Roll a.list a.flips (Some (Stream a.seed a.stream a.budget)) a.field-3) _ c.weighted_stream.result
     (Rolled (weighted_roll a.list a.flips (stream_bits a.seed a.stream a.budget))) (search rules) refl (λ file. refl) (search rules)
 
 pub returns-in-Help : goal.returns-in-Help
 returns-in-Help g c = said_alone c.args.command.now (Help c.in-Help.topic) _ (Helped c.in-Help.topic) c.in-Help.is (λ file. refl)
 
-pub returns-in-Fast-default-default-None : goal.returns-in-Fast-default-default-None
-returns-in-Fast-default-default-None g c =
-    let a = c.in-Fast-default-default-None in
-    weights_fit c.args.command.now (Fast a.labels a.flips None) (weights_text a.labels a.flips) _ _ (search rules) refl (λ file output is. is) (search rules)
+pub returns-in-Fast-default-default-None-default : goal.returns-in-Fast-default-default-None-default
+returns-in-Fast-default-default-None-default g c =
+    let a = c.in-Fast-default-default-None-default in
+    weights_fit c.args.command.now (Fast a.labels a.flips None a.decimals) (weights_text a.labels a.flips a.decimals) _ _ (search rules) refl (λ file output is. is) (search rules)
 
-pub returns-in-Roll-default-default-None : goal.returns-in-Roll-default-default-None
-returns-in-Roll-default-default-None g c =
-    let a = c.in-Roll-default-default-None in
-    weights_fit c.args.command.now (Roll a.list a.flips None) (labels_text a.list a.flips) _ _ (search rules) refl (λ file output is. is) (search rules)
+pub returns-in-Roll-default-default-None-default : goal.returns-in-Roll-default-default-None-default
+returns-in-Roll-default-default-None-default g c =
+    let a = c.in-Roll-default-default-None-default in
+    weights_fit c.args.command.now (Roll a.list a.flips None a.decimals) (labels_text a.list a.flips a.decimals) _ _ (search rules) refl (λ file output is. is) (search rules)
+
+pub returns-in-Fast-default-default-Some-File-default : goal.returns-in-Fast-default-default-Some-File-default
+returns-in-Fast-default-default-Some-File-default g c =
+    let said = c.fast_file.ensures c.in-Fast-default-default-Some-File-default.field-3 in search rules
+
+pub returns-in-Roll-default-default-Some-File-default : goal.returns-in-Roll-default-default-Some-File-default
+returns-in-Roll-default-default-Some-File-default g c =
+    let said = c.weighted_file.ensures c.in-Roll-default-default-Some-File-default.field-3 in search rules

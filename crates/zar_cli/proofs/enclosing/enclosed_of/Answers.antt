@@ -12,6 +12,6 @@ pub returns-in-Err : goal.returns-in-Err
 returns-in-Err c =
     let a = c.args in
     record {
-      gives = λ file. subst (λ e. Gives (SaysEnclosure (source_of a.program.now) a.turns a.attempts a.rounds a.all_turns) (Err e)) (sym c.enclose_refusal.ensures)
-          (enclosure_refused (source_of a.program.now) a.turns a.attempts a.rounds a.all_turns c.in-Err.error c.in-Err.ensures.refused);
+      gives = λ file. subst (λ e. Gives (SaysEnclosure (source_of a.program.now) a.turns a.attempts a.rounds a.all_turns a.decimals) (Err e)) (sym c.enclose_refusal.ensures)
+          (enclosure_refused (source_of a.program.now) a.turns a.attempts a.rounds a.all_turns a.decimals c.in-Err.error c.in-Err.ensures.refused);
     }

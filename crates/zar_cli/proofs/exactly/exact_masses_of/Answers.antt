@@ -10,6 +10,6 @@ returns-in-Ok c = record { gives = λ file. exact c.in-Ok.lines c.in-Ok.ensures.
 
 pub returns-in-Err : goal.returns-in-Err
 returns-in-Err c = record {
-  gives = λ file. subst (λ e. Gives (SaysExact (source_of c.args.program.now)) (Err e)) (sym c.exact_refusal.ensures)
-      (exact_refused (source_of c.args.program.now) c.in-Err.error c.in-Err.ensures.refused);
+  gives = λ file. subst (λ e. Gives (SaysExact (source_of c.args.program.now) c.args.decimals) (Err e)) (sym c.exact_refusal.ensures)
+      (exact_refused (source_of c.args.program.now) c.args.decimals c.in-Err.error c.in-Err.ensures.refused);
 }

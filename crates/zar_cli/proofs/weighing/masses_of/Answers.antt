@@ -10,6 +10,6 @@ returns-in-Ok c = record { gives = λ file. exact c.in-Ok.lines c.in-Ok.ensures.
 
 pub returns-in-Err : goal.returns-in-Err
 returns-in-Err c = record {
-  gives = λ file. subst (λ e. Gives (SaysMasses (source_of c.args.program.now) c.args.turns c.args.attempts c.args.rounds) (Err e)) (sym c.mass_refusal.ensures)
-      (masses_refused (source_of c.args.program.now) c.args.turns c.args.attempts c.args.rounds c.in-Err.error c.in-Err.ensures.refused);
+  gives = λ file. subst (λ e. Gives (SaysMasses (source_of c.args.program.now) c.args.turns c.args.attempts c.args.rounds c.args.decimals) (Err e)) (sym c.mass_refusal.ensures)
+      (masses_refused (source_of c.args.program.now) c.args.turns c.args.attempts c.args.rounds c.args.decimals c.in-Err.error c.in-Err.ensures.refused);
 }

@@ -3,7 +3,7 @@ use Rattle.std.specs.Str.Parse.{digits_value}
 use Rattle.zar_cli.specs.OptionWords.{of_code, is_given}
 use Rattle.zar_cli.specs.Spelling.{KeepsWords}
 use Rattle.zar_cli.specs.declared.settings.TheConstants.{FORGETFUL}
-use Rattle.zar_cli.specs.Words.{command, flips_of, roll_source}
+use Rattle.zar_cli.specs.Words.{command, decimals_of, flips_of, roll_source}
 use Rattle.zar_cli.specs.inner.OptionsView.{options_of}
 use Rattle.zar_cli.proofs.Named.{refused_with, keeps_bits, keeps_file}
 use Rattle.zar_cli.proofs.words.command.Goals as goal
@@ -15,7 +15,7 @@ returns-in_err-source-in-Fast-clause-spelled c =
     let e = c.in_err-source-in-Fast.field-0.0 in
     let out : c.from_residual-in_err-source-in-Fast.result ≡ Err e = grind arith in
     refused_with (λ d. d ≡ command c.args.verb first o) (λ _. KeepsWords (command c.args.verb first o)) c.from_residual-in_err-source-in-Fast.result e out
-    (subst (λ v. KeepsWords (command v first o)) (sym c.in-Fast.is) (keeps_bits (digits_value 10 first) (flips_of o) (roll_source o) c.in_err-source-in-Fast.ensures.source))
+    (subst (λ v. KeepsWords (command v first o)) (sym c.in-Fast.is) (keeps_bits (digits_value 10 first) (flips_of o) (roll_source o) (decimals_of o) c.in_err-source-in-Fast.ensures.source))
 
 pub returns-in_err-program-in-Show-clause-spelled : goal.returns-in_err-program-in-Show-clause-spelled
 returns-in_err-program-in-Show-clause-spelled c =

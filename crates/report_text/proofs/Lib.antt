@@ -1,0 +1,3 @@
+mod LongDivision
+mod Rounded
+mod Digits
