@@ -16,13 +16,14 @@ def received(terminal, breaks):
     return data.decode()
 
 
-def on_terminal(zar, words, out=None, breaks=False, folder=None, given=None):
+def on_terminal(zar, words, out=None, breaks=False, folder=None, given=None, kind="xterm"):
     """What the terminal got that is the standard error, and the standard output too where no file is given; and the status. Of the file
     this run's bytes are left alone. Each write to a terminal that breaks fails after its first line."""
     terminal, side = pty.openpty()
     if out:
         out.seek(0)
         out.truncate()
-    with subprocess.Popen([zar, *words], cwd=folder, stdin=given or subprocess.DEVNULL, stdout=out or side, stderr=side) as run:
+    env = {**os.environ, "TERM": kind}
+    with subprocess.Popen([zar, *words], cwd=folder, env=env, stdin=given or subprocess.DEVNULL, stdout=out or side, stderr=side) as run:
         os.close(side)
         return received(terminal, breaks), run.wait(timeout=60)

@@ -14,7 +14,7 @@ ghost use Rattle.zar_io.specs.Visits.{blocks_told};
 
 use crate::batch::{Batch, STREAMS_OF_A_BATCH};
 use crate::worker::Worker;
-use report_text::sample_line;
+use report_text::Line;
 use sampler_run::State;
 use std::alloc::{AllocError, Global};
 use std::thread::{Threads, for_each_mut};
@@ -88,11 +88,13 @@ fn fill<'s, G: Gate>(
 {
     batch.clear();
     let mut bits = StreamBits::new(job.range.seed, first, job.range.budget);
+    let mut line = Line::new();
     let mut at = first;
     while at < end {
         enter(job, visits, at);
         let answer = answer_on_stream(state, home, &mut bits, job.range.seed, at, job.range.budget);
-        batch.push(sample_line(&answer).bytes());
+        line.set_sample(&answer);
+        batch.push(line.bytes());
         at += 1;
     }
 }

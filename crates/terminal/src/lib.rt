@@ -1,4 +1,4 @@
-//! What the program shows a person at a terminal: how far a count is, the place of a refusal in a text, and what may have been
+//! What the program shows a person at a terminal: how far a command is, the place of a refusal in a text, and what may have been
 //! meant.
 //!
 //! Proved: the sinks that stand before the real ones, `WipingSink` and `KeepingSink`, have the record of the sink that they write
@@ -20,11 +20,12 @@ mod nearest;
 mod progress;
 mod repairs;
 mod tokens;
+mod told;
 mod unexpected;
 mod wiping;
 
 pub use keeping::KeepingSink;
 pub use nearest::Nearest;
-pub use progress::Progress;
+pub use progress::{Progress, Task};
 pub use repairs::{Finding, find_wrong};
 pub use wiping::WipingSink;

@@ -25,7 +25,7 @@ pub fn on_host<
     call: &Call<'_>,
     out: O,
     err: E,
-    progress: &'p Progress<'p, R>,
+    progress: &'p Progress,
     out_is_seen: bool,
 ) -> (
     u8,
@@ -44,8 +44,8 @@ pub fn on_host<
         [] (⟦<KeepingSink<WipingSink<'p, HostSink<E>, R>> as Sink>⟧.answered result.3) }
 {
     let mut files = HostFiles::new(rt);
-    let mut out = WipingSink::new(HostSink::new(out), progress, out_is_seen);
-    let mut err = KeepingSink::new(WipingSink::new(HostSink::new(err), progress, true));
+    let mut out = WipingSink::new(HostSink::new(out), rt, progress, out_is_seen);
+    let mut err = KeepingSink::new(WipingSink::new(HostSink::new(err), rt, progress, true));
     let status = zar(rt, alloc, call, &mut files, &mut out, &mut err, progress);
     (status, files, out, err)
 }

@@ -21,7 +21,7 @@ loop-at-preserved g c =
       omega (arith, long, i.0, i.3, c.bytes.ensures.within),
       λ run is.
           let line : c.bytes.result.now ≡ line_on run r.seed r.budget at =
-          c.bytes.ensures.text ∙ c.sample_line.ensures ∙ ap answer_text (c.answer_on_stream-answer.ensures.answer run (subst (λ (s : Held). IsRestOf s run) (sym i.2) is)) in
+          c.bytes.ensures.text ∙ c.set_sample.ensures ∙ ap answer_text (c.answer_on_stream-answer.ensures.answer run (subst (λ (s : Held). IsRestOf s run) (sym i.2) is)) in
           c.push.ensures ∙ ap (λ w. w ++ c.bytes.result.now) (i.4 run is) ∙ ap (λ w. lines_over run r.seed r.budget first at ++ w) line
           ∙ sym (texts_more (line_on run r.seed r.budget) first at i.0),
       let told : List ℕ = blocks_told c.args.visits.now in
