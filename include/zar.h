@@ -113,6 +113,18 @@ zar_said zar_draws(const uint8_t *text, size_t text_length, uint64_t seed, uint6
 zar_said zar_tally(const uint8_t *text, size_t text_length, uint64_t seed, uint64_t from, uint64_t to, const zar_limits *limits,
                    uint8_t *lines, size_t capacity);
 
+/* A stream that was found, or 0 and that there is none. */
+typedef struct {
+    uint64_t stream;
+    bool found;
+} zar_found;
+
+/* A hunt, as `zar hunt`: it writes which is the least stream, from `from` on and below `to`, whose run zar_draws would tell by this end and
+ * this value, or that there is none. The value is looked at where the end is ZAR_VALUE alone; the end is none of a roll. It runs in the
+ * caller's thread, and stops at the first such stream. The streams are those of zar_tally. */
+zar_said zar_hunt(const uint8_t *text, size_t text_length, uint64_t seed, uint64_t from, uint64_t to, const zar_limits *limits,
+                  int64_t value, uint8_t end, zar_found *found);
+
 /* How a run ended: its value, or 0 where it has none; how many bits it read; and which end it is. */
 typedef struct {
     int64_t value;
@@ -171,6 +183,11 @@ zar_said zar_exact(const uint8_t *text, size_t text_length, uint8_t *lines, size
  * ZAR_MASS_REFUSED are 13 and 14. */
 zar_said zar_cost(const uint8_t *text, size_t text_length, uint64_t turns, uint64_t attempts, uint64_t rounds,
                   uint8_t *lines, size_t capacity);
+
+/* The lines of `zar audit`: for each outcome the share of all strings of `depth` bits, 0 to 20, on which the run ends in it, and the share
+ * of those on which it needs more. The limits have the ranges of `zar_limits`. The time may double with each bit. */
+zar_said zar_audit(const uint8_t *text, size_t text_length, uint32_t depth, uint64_t turns, uint64_t attempts, uint64_t rounds,
+                   uint8_t *lines, size_t capacity);
 
 #ifdef __cplusplus
 }

@@ -21,9 +21,9 @@ from .printed import Bounds, Fault, Limit, Outcome, Rest
 from .programs import Program
 from .refusals import NoValue, Refused
 from .samples import Sample
-from .streams import Ends, Row, Runs
+from .streams import Draws, Ends, Row, Runs
 
-__all__ = ["Bounds", "Die", "Ends", "Fault", "Limit", "Masses", "NoValue", "Outcome", "Program", "Refused", "Rest", "Row", "Runs", "Sample", "version"]
+__all__ = ["Bounds", "Die", "Draws", "Ends", "Fault", "Limit", "Masses", "NoValue", "Outcome", "Program", "Refused", "Rest", "Row", "Runs", "Sample", "version"]
 
 
 def version() -> str:

@@ -10,7 +10,7 @@ from fractions import Fraction
 from . import library, shown
 from .masses import Masses
 from .printed import Outcome
-from .streams import BLOCK, Runs, Streams, streams
+from .streams import BLOCK, Draws, Runs, Streams, drawn, seeded, streams
 
 # The greatest sum of the weights.
 GREATEST_SUM = 2**62
@@ -58,14 +58,15 @@ class Die:
         return self._streams(count, seed, first, budget, flips).run(threads)
 
     def draws(
-        self, count: int, *, seed: int, first: int = 0, threads: int = 1, budget: int = BUDGET, flips: int = FLIPS
-    ) -> array.array[int]:
+        self, count: int, *, seed: int | None = None, first: int = 0, threads: int = 1, budget: int = BUDGET, flips: int = FLIPS
+    ) -> Draws:
         """The faces of these rolls, as an array of 64-bit numbers, which numpy.asarray takes without a copy.
 
-        The limits of a roll: `budget` 65536 bits, `flips` 1000. The first roll that ends without a face is NoValue. Under these limits
+        Where no seed is given it is one of the system, which stands in the `seed` of the answer. The limits of a roll: `budget` 65536 bits, `flips` 1000. The first roll that ends without a face is NoValue. Under these limits
         that is to be expected of none: of all 2^1000 strings of flips fewer give no face than there are faces.
         """
-        return self._streams(count, seed, first, budget, flips).values(threads)
+        own = seeded(seed)
+        return drawn(self._streams(count, own, first, budget, flips).values(threads), own)
 
     def tally(
         self, count: int, *, seed: int, first: int = 0, threads: int = 1, budget: int = BUDGET, flips: int = FLIPS

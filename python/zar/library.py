@@ -29,6 +29,12 @@ class Limits(ctypes.Structure):
     _fields_ = [(name, NUMBER) for name in ("budget", "turns", "attempts", "rounds")]
 
 
+class Found(ctypes.Structure):
+    """`zar_found`."""
+
+    _fields_ = [("stream", NUMBER), ("found", ctypes.c_bool)]
+
+
 class Ran(ctypes.Structure):
     """`zar_ran`."""
 
@@ -67,6 +73,8 @@ CALLS = {
     "zar_cost": (*TEXT, NUMBER, NUMBER, NUMBER, *ARRAY),
     "zar_draws": (*TEXT, NUMBER, NUMBER, ctypes.POINTER(Limits), *ARRAY, *ARRAY),
     "zar_tally": (*TEXT, NUMBER, NUMBER, NUMBER, ctypes.POINTER(Limits), *ARRAY),
+    "zar_hunt": (*TEXT, NUMBER, NUMBER, NUMBER, ctypes.POINTER(Limits), ctypes.c_int64, ctypes.c_uint8, ctypes.POINTER(Found)),
+    "zar_audit": (*TEXT, ctypes.c_uint32, NUMBER, NUMBER, NUMBER, *ARRAY),
     "zar_run": (*TEXT, *TEXT, NUMBER, NUMBER, NUMBER, ctypes.POINTER(Ran)),
     "zar_draws_in_a_row": (*TEXT, NUMBER, NUMBER, ctypes.POINTER(Limits), *ARRAY, *ARRAY, ctypes.POINTER(NUMBER)),
     "zar_roll": (*ARRAY, NUMBER, NUMBER, ctypes.POINTER(RollLimits), *ARRAY, *ARRAY),
@@ -160,6 +168,14 @@ def draws(text: bytes, seed: int, first: int, limits: Limits, places: Places) ->
     """Draws into places."""
     said = loaded().zar_draws(text, len(text), seed, first, limits, *places.pairs())
     taken(said, **numbers(limits, seed=seed, first=first, count=places.count))
+
+
+def hunt(text: bytes, seed: int, streams: range, limits: Limits, value: int, end: int) -> int | None:
+    """The first of the streams whose run has this value and this end, if there is one."""
+    found = Found()
+    said = loaded().zar_hunt(text, len(text), seed, streams.start, streams.stop, limits, value, end, found)
+    taken(said, **numbers(limits, seed=seed, first=streams.start, count=len(streams)))
+    return found.stream if found.found else None
 
 
 def run(text: bytes, bits: bytes, **limits: int) -> Ran:

@@ -1,7 +1,6 @@
 """Programs, and what is asked of them."""
 from __future__ import annotations
 
-import array
 import operator
 import os
 import pathlib
@@ -15,7 +14,7 @@ from .masses import Masses
 from .printed import Bounds, Outcome
 from .refusals import REASONS, Refused
 from .samples import Bits, Sample, sample
-from .streams import Row, Runs, Streams, row, streams
+from .streams import Draws, Row, Runs, Streams, drawn, ended, row, seeded, streams
 
 Text = typing.Union[str, bytes]
 Path = typing.Union[str, os.PathLike[str]]
@@ -25,6 +24,8 @@ BUDGET, TURNS, ATTEMPTS, ROUNDS = 65536, 1000, 1000, 1000
 # The bits of a stream that runs in a row may read together.
 ROW_BUDGET = 10**9
 WEIGHED_TURNS = 30
+# The most bits of the strings of an audit.
+DEEPEST = 20
 
 
 class Program:
@@ -159,15 +160,16 @@ class Program:
         return self._streams(count, seed, first, budget, turns, attempts, rounds).run(threads)
 
     def draws(
-        self, count: int, *, seed: int, first: int = 0, threads: int = 1,
+        self, count: int, *, seed: int | None = None, first: int = 0, threads: int = 1,
         budget: int = BUDGET, turns: int = TURNS, attempts: int = ATTEMPTS, rounds: int = ROUNDS,
-    ) -> array.array[int]:
+    ) -> Draws:
         """The values of these runs, as an array of 64-bit numbers, which numpy.asarray takes without a copy.
 
-        The limits of a run: `budget` 65536 bits, `turns` 1000 of each entry of a loop, `attempts` 1000 of each draw, `rounds` 1000. The
+        Where no seed is given it is one of the system, which stands in the `seed` of the answer. The limits of a run: `budget` 65536 bits, `turns` 1000 of each entry of a loop, `attempts` 1000 of each draw, `rounds` 1000. The
         first run that ends without a value is NoValue: to leave it out would be to condition on its not coming.
         """
-        return self._streams(count, seed, first, budget, turns, attempts, rounds).values(threads)
+        own = seeded(seed)
+        return drawn(self._streams(count, own, first, budget, turns, attempts, rounds).values(threads), own)
 
     def tally(
         self, count: int, *, seed: int, first: int = 0, threads: int = 1,
@@ -185,9 +187,24 @@ class Program:
     ) -> int | None:
         """The first of these streams whose run ends in the outcome, or None where none does.
 
-        The limits of a run: `budget` 65536 bits, `turns` 1000 of each entry of a loop, `attempts` 1000 of each draw, `rounds` 1000.
+        The limits of a run: `budget` 65536 bits, `turns` 1000 of each entry of a loop, `attempts` 1000 of each draw, `rounds` 1000. The
+        last of all streams, 2^64 - 1, is not hunted through. What no run ends in is a ValueError.
         """
-        return self._streams(count, seed, first, budget, turns, attempts, rounds).hunt(outcome, threads)
+        own, (value, end) = library.whole("seed", seed), ended(outcome)
+        library.whole("the end of the streams", library.whole("first", first) + library.whole("count", count))
+        limits = library.limits(budget=budget, turns=turns, attempts=attempts, rounds=rounds)
+        of = self._streams(count, seed, first, budget, turns, attempts, rounds)
+        return of.hunt(lambda part: library.hunt(self._text, own, part, limits, value, end), threads)
+
+    def audit(self, depth: int, *, turns: int = TURNS, attempts: int = ATTEMPTS, rounds: int = ROUNDS) -> Masses:
+        """For each outcome the share of all strings of `depth` bits, 0 to 20, on which the run ends in it, and of Rest.UNDECIDED, on which it
+        needs more. So each outcome has at least this probability, and exactly this where nothing is undecided.
+
+        The limits: `turns` 1000 of each entry of a loop, `attempts` 1000 of each draw, `rounds` 1000. The time may double with each bit.
+        """
+        if not 0 <= operator.index(depth) <= DEEPEST:
+            raise ValueError(f"depth is {depth}, which is not from 0 to {DEEPEST}")
+        return Masses(printed.rows(library.lines("zar_audit", self._text, depth=depth, turns=turns, attempts=attempts, rounds=rounds), "mass"))
 
     def _streams(self, count: int, seed: int, first: int, budget: int, turns: int, attempts: int, rounds: int) -> Streams:
         seed, limits = library.whole("seed", seed), library.limits(budget=budget, turns=turns, attempts=attempts, rounds=rounds)
@@ -221,11 +238,6 @@ def refusal(code: int, place: int | None, before: bytes, own: bytes) -> ValueErr
         return why
     name = before[:place].decode().rpartition("\n")[2] or before[place:].decode().partition(" ")[0]
     return ValueError(f"{name.partition(' ')[0]} is no name of a parameter: {REASONS[code]}")
-
-
-def seeded(seed: int | None) -> int:
-    """The seed, or one of the system."""
-    return int.from_bytes(os.urandom(8), "big") if seed is None else library.whole("seed", seed)
 
 
 def or_none(name: str, limit: int | None) -> int:

@@ -8,11 +8,12 @@ import concurrent.futures
 import ctypes
 import dataclasses
 import itertools
+import os
 import sys
 import typing
 
 from . import library, shown
-from .printed import Fault, Limit, Outcome, Rest
+from .printed import Fault, Limit, Outcome, Rest, words
 from .refusals import NoValue
 
 # The ends of runs and of rolls, as the library numbers them: 0 is a value.
@@ -23,6 +24,11 @@ BLOCK = 1 << 16
 # So many blocks for each thread are handed out and not yet taken back.
 AHEAD = 2
 Part = typing.TypeVar("Part")
+# An array of numbers, which takes a parameter where types are read, and from Python 3.12 on elsewhere.
+if typing.TYPE_CHECKING:
+    Numbers = array.array[int]
+else:
+    Numbers = array.array
 # The numbers of `values`, in the words of numpy.
 NUMBERS = "<i8" if sys.byteorder == "little" else ">i8"
 
@@ -110,6 +116,36 @@ class Row(Ends):
     bits: int
 
 
+class Draws(Numbers):
+    """The values of runs on the streams of a `seed`, an array of 64-bit numbers, which numpy.asarray takes without a copy."""
+
+    seed: int
+
+    def __repr__(self) -> str:
+        return repr(array.array("q", self))
+
+
+def seeded(seed: int | None) -> int:
+    """The seed, or one of the system."""
+    return int.from_bytes(os.urandom(8), "big") if seed is None else library.whole("seed", seed)
+
+
+def drawn(values: array.array[int], seed: int) -> Draws:
+    """The values with the seed of their streams."""
+    draws = Draws("q", values)
+    draws.seed = seed
+    return draws
+
+
+def ended(outcome: Outcome) -> tuple[int, int]:
+    """The value, or 0, and the end by which the library tells that a run ends so. A ValueError where none does."""
+    if isinstance(outcome, int) and -(2**63) <= outcome < 2**63:
+        return outcome, 0
+    if isinstance(outcome, int) or outcome not in ENDS or outcome is Limit.FLIPS:
+        raise ValueError(f"no run ends in {words(outcome)}")
+    return 0, ENDS.index(outcome)
+
+
 def row(draw: typing.Callable[[library.Places], int], seed: int, stream: int, count: int) -> Row:
     """So many runs in a row, by a call that draws into places and says how many bits it read."""
     values, ends = array.array("q", [0]) * library.whole("count", count), bytearray(count)
@@ -167,14 +203,9 @@ class Streams:
             whole.update(part)
         return whole
 
-    def hunt(self, wanted: Outcome, threads: int) -> int | None:
-        """The first of the streams whose run ends so, if there is one."""
-
-        def sought(part: range) -> int | None:
-            runs = self._of(part).run(1)
-            return next((stream for stream, outcome in zip(runs.streams, runs) if outcome == wanted), None)
-
-        found = side_by_side(sought, self._parts(), threads)
+    def hunt(self, seek: typing.Callable[[range], int | None], threads: int) -> int | None:
+        """The first of the streams that a search through some of them finds, if there is one."""
+        found = side_by_side(lambda part: seek(range(self.first + part.start, self.first + part.stop)), self._parts(), threads)
         return next((stream for stream in found if stream is not None), None)
 
     def _of(self, part: range) -> Streams:

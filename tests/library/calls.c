@@ -1,5 +1,5 @@
 /* calls FILE SEED COUNT: all calls of the library on the text of a file, by C and by C++. It prints the line of the version, the
- * lines of show, code, mass, exact, posterior, enclose, cost and tally, or status and code, and the outcomes of the first streams of the seed in the words of the program;
+ * lines of show, code, mass, exact, posterior, enclose, cost, tally, audit and hunt, or status and code, and the outcomes of the first streams of the seed in the words of the program;
  * those of draws in a row on the stream 0, and how many bits they read; and those of rolls by the weights 3, 2 and 1 on these streams. With no words it prints the version of the header, and the words of
  * each code. */
 #include "zar.h"
@@ -57,6 +57,17 @@ static void roll(uint64_t seed, size_t count) {
     free(ends);
 }
 
+/* The first stream with the value 1, in the words of the program. */
+static void hunt(uint64_t seed, uint64_t count, const zar_limits *limits) {
+    zar_found found;
+    if (zar_hunt(text, text_length, seed, 0, count, limits, 1, ZAR_VALUE, &found).status != ZAR_DONE)
+        exit(2);
+    if (found.found)
+        printf("stream %" PRIu64 "\n", found.stream);
+    else
+        printf("stream none\n");
+}
+
 static int tell_words(void) {
     printf("%d.%d.%d\n", ZAR_VERSION / 10000, ZAR_VERSION / 100 % 100, ZAR_VERSION % 100);
     for (int code = 0; code < 256; code++)
@@ -85,6 +96,8 @@ int main(int count, char **words) {
     tell(zar_cost(text, text_length, 9, 3, 2, lines, sizeof lines));
     const zar_limits limits = {65536, 9, 3, 2};
     tell(zar_tally(text, text_length, strtoull(words[2], NULL, 10), 0, strtoull(words[3], NULL, 10), &limits, lines, sizeof lines));
+    tell(zar_audit(text, text_length, 5, 9, 3, 2, lines, sizeof lines));
+    hunt(strtoull(words[2], NULL, 10), strtoull(words[3], NULL, 10), &limits);
     draw(strtoull(words[2], NULL, 10), (size_t)strtoull(words[3], NULL, 10), false);
     draw(strtoull(words[2], NULL, 10), (size_t)strtoull(words[3], NULL, 10), true);
     roll(strtoull(words[2], NULL, 10), (size_t)strtoull(words[3], NULL, 10));

@@ -97,7 +97,7 @@ def line_calls(library, text, rng):
     """Calls about a text that write lines, each with the words of the command that it stands for."""
     turns, attempts, rounds = rng.choice([0, 1, 3, 10, 30]), rng.choice([0, 1, 2, 5]), rng.choice([0, 1, 2, 3])
     limits = [word for name, n in (("attempts", attempts), ("rounds", rounds)) if n for word in (f"--{name}", str(n))]
-    all_turns = rng.random() < 0.5
+    all_turns, depth = rng.random() < 0.5, rng.choice([0, 1, 4, 7])
     all_limits = ["--turns", str(turns), "--attempts", str(attempts or 1), "--rounds", str(rounds or 1)]
     given = (text, len(text))
     seed, first, budget = rng.randrange(2**64), rng.choice([0, 17, 2**64 - 71]), rng.choice([0, 5, 65536])
@@ -112,6 +112,7 @@ def line_calls(library, text, rng):
         (library.zar_posterior, (*given, turns), ["posterior", "p.gcl", "--turns", str(turns)]),
         (library.zar_enclose, (*given, turns, attempts, rounds, all_turns), ["enclose", "p.gcl", "--turns", str(turns), *limits, *["--all-turns"] * all_turns]),
         (library.zar_cost, (*given, turns, attempts or 1, rounds or 1), ["cost", "p.gcl", *all_limits]),
+        (library.zar_audit, (*given, depth, turns, attempts or 1, rounds or 1), ["audit", "p.gcl", "--depth", str(depth), *all_limits]),
     ]
 
 
@@ -136,6 +137,23 @@ def rolls_of(zar, weights, seed, streams, budget, flips):
     listed, numbers = ",".join(map(str, weights)), ["--seed", str(seed), "--budget", str(budget), "--flips", str(flips)]
     said = (calling.call(zar, "/", ["roll", listed, *numbers, "--stream", str(stream)]).out.decode() for stream in streams)
     return [re.match(r"more bits|.*(?= bits)", line)[0] for line in said]
+
+
+def hunts_are_told_alike(zar, library, folder, text, rng, checked):
+    """What differs between a hunt for a way to end and what `hunt` says of it."""
+    seed, first, budget = rng.randrange(2**64), rng.choice([0, 17, 2**64 - 71]), rng.choice([0, 5, 65536])
+    turns, attempts, rounds = rng.randrange(9), rng.randrange(1, 5), rng.randrange(1, 5)
+    end, value = rng.choice([0, 0, *range(8)]), rng.choice([0, 1, 2, 77])
+    limits = ["--budget", str(budget), "--turns", str(turns), "--attempts", str(attempts), "--rounds", str(rounds)]
+    wanted = str(value) if end == 0 else re.sub("^(fault|limit) ", "", ENDS[end]).replace(" ", "-")
+    found = library.Found(GUARD, True)
+    said = library.zar_hunt(text, len(text), seed, first, first + 70, library.Limits(budget, turns, attempts, rounds), value, end, found)
+    if told(said) != checked or not silent(said):
+        yield f"zar_hunt {told(said)}, check {checked}"
+    words = ["hunt", "p.gcl", "--seed", str(seed), "--from", str(first), "--to", str(first + 70), "--want", wanted, *limits]
+    line = f"stream {found.stream if found.found else 'none'}\n".encode() if said.status == 0 else b""
+    if line != commanded(zar, folder, words)[3] or (found.stream != (GUARD if said.status else 0) and not (found.found and not said.status)):
+        yield f"zar_hunt, {words}: {found.stream} {found.found}"
 
 
 def rolls_are_told_alike(zar, library, rng):
@@ -240,6 +258,7 @@ def text_is_told_alike(zar, library, text, rng):
         if not said.status and draws.outcomes() != outcomes_of(zar, folder, seed, first, count, limits):
             wrong.append(f"zar_draws from {first} of {seed}: {draws.outcomes()}")
         wrong += bits_are_told_alike(zar, library, folder, text, rng, checked)
+        wrong += hunts_are_told_alike(zar, library, folder, text, rng, checked)
     return [f"{it}, of {text[:400]!r}" for it in wrong]
 
 

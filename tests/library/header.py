@@ -15,8 +15,10 @@ PARAMETERS = {
     "u8": ["uint8_t {}"],
     "u32": ["uint32_t {}"],
     "u64": ["uint64_t {}"],
+    "i64": ["int64_t {}"],
     "bool": ["bool {}"],
     "&mut u64": ["uint64_t *{}"],
+    "&mut ZarFound": ["zar_found *{}"],
     "&mut ZarRan": ["zar_ran *{}"],
     "&ZarLimits": ["const zar_limits *{}"],
     "&ZarRollLimits": ["const zar_roll_limits *{}"],
@@ -26,7 +28,7 @@ PARAMETERS = {
     "&mut [u8]": ["uint8_t *{}", "size_t {}_length"],
     "&mut [i64]": ["int64_t *{}", "size_t {}_length"],
 }
-STRUCTURES = {"ZarSaid": "zar_said", "ZarLimits": "zar_limits", "ZarRan": "zar_ran", "ZarRollLimits": "zar_roll_limits"}
+STRUCTURES = {"ZarSaid": "zar_said", "ZarLimits": "zar_limits", "ZarFound": "zar_found", "ZarRan": "zar_ran", "ZarRollLimits": "zar_roll_limits"}
 
 
 def parts(text):
@@ -79,11 +81,11 @@ class Library:
             name: type(name, (ctypes.Structure,), {"_fields_": [(field.split()[1], numbers[field.split()[0]]) for field in fields]})
             for name, fields in structures.items()
         }
-        self.Said, self.Limits, self.Ran, self.RollLimits = (made[name] for name in STRUCTURES.values())
+        self.Said, self.Limits, self.Found, self.Ran, self.RollLimits = (made[name] for name in STRUCTURES.values())
         kinds = {
             "uint8_t ": ctypes.c_uint8, "uint32_t ": ctypes.c_uint32, "uint64_t ": ctypes.c_uint64, "bool ": ctypes.c_bool, "size_t ": ctypes.c_size_t, "const uint8_t *": ctypes.c_char_p, "uint8_t *": ctypes.c_void_p,
-            "int64_t *": ctypes.c_void_p, "const uint64_t *": ctypes.c_void_p, "uint64_t *": ctypes.c_void_p,
-            "zar_ran *": ctypes.POINTER(self.Ran), "const zar_limits *": ctypes.POINTER(self.Limits), "const zar_roll_limits *": ctypes.POINTER(self.RollLimits),
+            "int64_t ": ctypes.c_int64, "int64_t *": ctypes.c_void_p, "const uint64_t *": ctypes.c_void_p, "uint64_t *": ctypes.c_void_p,
+            "zar_found *": ctypes.POINTER(self.Found), "zar_ran *": ctypes.POINTER(self.Ran), "const zar_limits *": ctypes.POINTER(self.Limits), "const zar_roll_limits *": ctypes.POINTER(self.RollLimits),
         }
         library = ctypes.CDLL(str(path))
         for name, parameters in functions.items():

@@ -13,7 +13,8 @@ bytes_of <- function(text) {
     charToRaw(enc2utf8(text))
 }
 
-# An error of the class zar_refused, with its code, and its line and column where it has a place in the text.
+# An error of the class zar_refused, with its code, its line and column where it has a place in the text, and a sentence that says what is wrong
+# there, where the library finds it.
 refused <- function(code, place, text) {
     line <- column <- NA
     where <- ""
@@ -24,8 +25,12 @@ refused <- function(code, place, text) {
         column <- nchar(iconv(rawToChar(before[seq_len(place) > start]), "UTF-8", "UTF-8", sub = "?")) + 1
         where <- sprintf(", line %d, column %d", line, column)
     }
-    told <- sprintf("E%d %s%s", code, .Call(call_reason, code), where)
-    structure(class = c("zar_refused", "error", "condition"), list(message = told, call = NULL, code = code, line = line, column = column))
+    hint <- if (is.na(place)) NA else .Call(call_explain, text, code, place)
+    told <- sprintf("E%d %s%s%s", code, .Call(call_reason, code), where, if (is.na(hint)) "" else paste0(": ", hint))
+    structure(
+        class = c("zar_refused", "error", "condition"),
+        list(message = told, call = NULL, code = code, line = line, column = column, hint = hint)
+    )
 }
 
 # What a call answers, where its status is 0.
@@ -41,5 +46,5 @@ taken <- function(said, text = raw()) {
 
 lines_of <- function(ask, text, limits = 0) {
     text <- bytes_of(text)
-    taken(.Call(call_lines, ask, text, as.double(limits)), text)$first
+    taken(.Call(call_lines, ask, text, c(as.double(limits), -1)), text)$first
 }

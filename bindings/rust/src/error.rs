@@ -1,4 +1,5 @@
 //! Why there is no answer.
+use crate::library::explained;
 use crate::Outcome;
 
 /// Why a call has no answer.
@@ -23,14 +24,16 @@ pub enum Error {
     },
 }
 
-/// A refusal: its code, and its place where it has one in the text.
+/// A refusal: its code, its place where it has one in the text, and what is wrong there where the library finds it.
 #[derive(Clone, Debug, Eq, PartialEq, thiserror::Error)]
-#[error("E{code} {}{}", self.reason(), place.map_or(String::new(), |(line, column)| format!(", line {line}, column {column}")))]
+#[error("E{code} {}{}{}", self.reason(), self.where_it_is(), hint.as_ref().map_or(String::new(), |it| format!(": {it}")))]
 pub struct Refused {
     /// The code, as 5 for E5.
     pub code: u8,
     /// Line and column in characters, both from 1 on.
     pub place: Option<(usize, usize)>,
+    /// A sentence that says what is wrong, as a terminal shows it.
+    pub hint: Option<String>,
 }
 
 /// The words of the codes, from 1 on.
@@ -57,12 +60,17 @@ const REASONS: [&str; 17] = [
 impl Refused {
     /// The refusal at a place of a text, in bytes.
     pub(crate) fn of(code: u8, place: Option<usize>, text: &str) -> Self {
+        let hint = place.and_then(|at| explained(text, code, at));
         let place = place.map(|at| {
             let before = String::from_utf8_lossy(&text.as_bytes()[..at]);
             let line = before.rsplit('\n').next().unwrap_or_default();
             (before.matches('\n').count() + 1, line.chars().count() + 1)
         });
-        Refused { code, place }
+        Refused { code, place, hint }
+    }
+
+    fn where_it_is(&self) -> String {
+        self.place.map_or(String::new(), |(line, column)| format!(", line {line}, column {column}"))
     }
 
     /// The words of the code.

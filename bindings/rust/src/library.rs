@@ -1,5 +1,6 @@
 //! The calls of the library, by the types of its header `zar.h`, and what they answer.
 use crate::error::{Error, Refused};
+use std::ops::Range;
 
 /// `zar_said`.
 #[repr(C)]
@@ -23,6 +24,13 @@ struct Ran {
     end: u8,
 }
 
+/// `zar_found`.
+#[repr(C)]
+struct Found {
+    stream: u64,
+    found: bool,
+}
+
 extern "C" {
     fn zar_version(lines: *mut u8, capacity: usize) -> Said;
     fn zar_check(text: *const u8, length: usize) -> Said;
@@ -43,6 +51,41 @@ extern "C" {
     ) -> Said;
     fn zar_exact(text: *const u8, length: usize, lines: *mut u8, capacity: usize) -> Said;
     fn zar_cost(text: *const u8, length: usize, turns: u64, attempts: u64, rounds: u64, lines: *mut u8, capacity: usize) -> Said;
+    #[rustfmt::skip]
+    fn zar_audit(
+        text: *const u8,
+        length: usize,
+        depth: u32,
+        turns: u64,
+        attempts: u64,
+        rounds: u64,
+        lines: *mut u8,
+        capacity: usize,
+    ) -> Said;
+    fn zar_explain(text: *const u8, length: usize, code: u8, place: u32, lines: *mut u8, capacity: usize) -> Said;
+    #[rustfmt::skip]
+    fn zar_tally(
+        text: *const u8,
+        length: usize,
+        seed: u64,
+        from: u64,
+        to: u64,
+        limits: *const Four,
+        lines: *mut u8,
+        capacity: usize,
+    ) -> Said;
+    #[rustfmt::skip]
+    fn zar_hunt(
+        text: *const u8,
+        length: usize,
+        seed: u64,
+        from: u64,
+        to: u64,
+        limits: *const Four,
+        value: i64,
+        end: u8,
+        found: *mut Found,
+    ) -> Said;
     #[rustfmt::skip]
     fn zar_draws(
         text: *const u8,
@@ -94,7 +137,7 @@ extern "C" {
 }
 
 /// A call that writes lines about a text.
-pub(crate) enum Ask {
+pub(crate) enum Ask<'a> {
     Show,
     Code,
     Mass(u64, u64, u64),
@@ -102,6 +145,8 @@ pub(crate) enum Ask {
     Enclose(u64, u64, u64, bool),
     Exact,
     Cost(u64, u64, u64),
+    Audit(u32, &'a Four),
+    Tally(u64, &'a Range<u64>, &'a Four),
 }
 
 /// What a call said of a text, where that is an answer.
@@ -134,9 +179,21 @@ pub(crate) fn lines(text: &str, ask: &Ask) -> Result<String, Error> {
                 Ask::Enclose(turns, attempts, rounds, all) => zar_enclose(from, length, turns, attempts, rounds, all, to, room),
                 Ask::Exact => zar_exact(from, length, to, room),
                 Ask::Cost(turns, attempts, rounds) => zar_cost(from, length, turns, attempts, rounds, to, room),
+                Ask::Audit(depth, Four(_, turns, attempts, rounds)) => zar_audit(from, length, depth, *turns, *attempts, *rounds, to, room),
+                Ask::Tally(seed, streams, limits) => zar_tally(from, length, seed, streams.start, streams.end, limits, to, room),
             }
         }
     })
+}
+
+/// What is found wrong with a text that is refused, if it is found.
+pub(crate) fn explained(text: &str, code: u8, place: usize) -> Option<String> {
+    let call = |to, room| {
+        // SAFETY: as in `lines`.
+        unsafe { zar_explain(text.as_ptr(), text.len(), code, place as u32, to, room) }
+    };
+    let line = written(text, call).ok()?;
+    Some(line.trim_end().to_owned()).filter(|it| !it.is_empty())
 }
 
 /// The version of the library.
@@ -197,6 +254,14 @@ pub(crate) fn run(text: &str, bits: &[u8], limits: &Four) -> Result<(i64, u8, u6
     // SAFETY: the pointers and the lengths are those of what is borrowed, which nothing writes, and of a place of its own.
     let said = unsafe { zar_run(text.as_ptr(), text.len(), bits.as_ptr(), bits.len(), turns, attempts, rounds, &mut ran) };
     taken(said, "").map(|_| (ran.value, ran.end, ran.read))
+}
+
+/// The first of some streams of a seed whose run has this value and this end, if there is one.
+pub(crate) fn hunt(text: &str, seed: u64, streams: &Range<u64>, limits: &Four, value: i64, end: u8) -> Result<Option<u64>, Error> {
+    let mut it = Found { stream: 0, found: false };
+    // SAFETY: as in `run`.
+    let said = unsafe { zar_hunt(text.as_ptr(), text.len(), seed, streams.start, streams.end, limits, value, end, &mut it) };
+    taken(said, "").map(|_| it.found.then_some(it.stream))
 }
 
 /// How so many runs in a row on a stream of a seed end: the values, the numbers of the ends, and how many bits they read.

@@ -36,6 +36,8 @@ pub enum Outcome {
     Limit(Limit),
     /// The run needs more bits than its budget has.
     MoreBits,
+    /// Of audits alone: the run needs more bits than the strings have.
+    Undecided,
     /// Of masses alone: the run never ends.
     Endless,
     /// Of bounds alone: all that has none of its own.
@@ -43,7 +45,7 @@ pub enum Outcome {
 }
 
 /// The outcomes without a value, each with its words. The first eight are the ends of the library, from 1 on.
-const NAMED: [(Outcome, &str); 10] = [
+const NAMED: [(Outcome, &str); 11] = [
     (Outcome::Fault(Fault::Overflow), "fault overflow"),
     (Outcome::Fault(Fault::ZeroDivisor), "fault zero divisor"),
     (Outcome::Fault(Fault::BadBound), "fault bad bound"),
@@ -52,6 +54,7 @@ const NAMED: [(Outcome, &str); 10] = [
     (Outcome::Limit(Limit::Rounds), "limit rounds"),
     (Outcome::MoreBits, "more bits"),
     (Outcome::Limit(Limit::Flips), "limit flips"),
+    (Outcome::Undecided, "undecided"),
     (Outcome::Endless, "endless"),
     (Outcome::Other, "other"),
 ];
@@ -68,6 +71,14 @@ impl Outcome {
     /// The outcome of an end as the library numbers it, and of the value beside it.
     pub(crate) fn of_end(end: u8, value: i64) -> Self {
         end.checked_sub(1).map_or(Outcome::Value(value), |it| NAMED[it as usize].0)
+    }
+
+    /// The value, or 0, and the end by which the library tells it; an end that there is not, where no run ends so.
+    pub(crate) fn to_end(self) -> (i64, u8) {
+        match self {
+            Outcome::Value(value) => (value, 0),
+            _ => (0, NAMED[..7].iter().position(|(it, _)| *it == self).map_or(u8::MAX, |place| place as u8 + 1)),
+        }
     }
 
     /// The outcome of these words.

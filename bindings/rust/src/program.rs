@@ -1,5 +1,5 @@
 //! Programs, and what is asked of them.
-use crate::library::{check, lines, row, run, Ask, Source};
+use crate::library::{check, hunt, lines, row, run, Ask, Source};
 use crate::{runs, Bounds, Error, Fraction, Limits, Outcome};
 use std::ops::Range;
 
@@ -92,6 +92,24 @@ impl Program {
     /// How the runs on these streams of the seed end.
     pub fn runs(&self, seed: u64, streams: Range<u64>, limits: &Limits) -> Result<Vec<Outcome>, Error> {
         runs::outcomes(&Source::Text(&self.text), seed, streams, &limits.four())
+    }
+
+    /// How many of these runs end in each outcome that comes. Memory does not grow with the streams, which are at most 2^40.
+    pub fn tally(&self, seed: u64, streams: Range<u64>, limits: &Limits) -> Result<Vec<(Outcome, u64)>, Error> {
+        let told = lines(&self.text, &Ask::Tally(seed, &streams, &limits.four()))?;
+        Ok(rows(&told, " count ", |count| count.parse().expect("a count of the library")))
+    }
+
+    /// The first of these streams, at most 2^40, whose run ends in the outcome, if there is one. What no run ends in is `OutOfRange`.
+    pub fn hunt(&self, outcome: Outcome, seed: u64, streams: Range<u64>, limits: &Limits) -> Result<Option<u64>, Error> {
+        let (value, end) = outcome.to_end();
+        hunt(&self.text, seed, &streams, &limits.four(), value, end)
+    }
+
+    /// For each outcome the share of all strings of `depth` bits, 0 to 20, on which the run ends in it, and of `Undecided`, whatever the
+    /// budget. So the probability of an outcome is at least this, and exactly this where nothing is undecided.
+    pub fn audit(&self, depth: u32, limits: &Limits) -> Result<Vec<(Outcome, Fraction)>, Error> {
+        Ok(rows(&lines(&self.text, &Ask::Audit(depth, &limits.four()))?, " mass ", fraction))
     }
 
     /// The values of these runs. The first run without one is `NoValue`.

@@ -14,7 +14,7 @@ fn over(numerator: u128, denominator: u128) -> Fraction {
 }
 
 fn refused(code: u8) -> Error {
-    Refused { code, place: None }.into()
+    Refused { code, place: None, hint: None }.into()
 }
 
 #[test]
@@ -63,6 +63,35 @@ fn bounds_enclose() {
     assert_eq!(program("observe false; return 1;").enclose(30, None, None, false), Err(refused(15)));
 }
 
+// A choice of 2/3 by three bits, as the documents have it.
+#[test]
+fn strings_are_audited() {
+    let coin = program("choice 2/3 { x := 1; } or { x := 2; } return x;");
+    let half = [(Outcome::Value(1), over(1, 2)), (Outcome::Undecided, over(1, 2))];
+    assert_eq!(coin.audit(1, &USUAL), Ok(half.to_vec()));
+    let shares = coin.audit(3, &USUAL).unwrap();
+    assert_eq!(shares, [(Outcome::Value(1), over(5, 8)), (Outcome::Value(2), over(1, 4)), (Outcome::Undecided, over(1, 8))]);
+    assert_eq!(coin.audit(21, &USUAL), Err(Error::OutOfRange));
+}
+
+#[test]
+fn streams_are_counted_and_sought() {
+    let coin = program("x ~ uniform(2); return x;");
+    let runs = coin.runs(7, 5..1005, &USUAL).unwrap();
+    let ones = runs.iter().filter(|it| **it == Outcome::Value(1)).count() as u64;
+    assert_eq!(coin.tally(7, 5..1005, &USUAL), Ok(vec![(Outcome::Value(0), 1000 - ones), (Outcome::Value(1), ones)]));
+    let first = runs.iter().position(|it| *it == Outcome::Value(1)).map(|place| 5 + place as u64);
+    assert_eq!(coin.hunt(Outcome::Value(1), 7, 5..1005, &USUAL), Ok(first));
+    assert_eq!(coin.hunt(Outcome::Value(2), 7, 5..1005, &USUAL), Ok(None));
+    let empty = Limits { budget: 0, ..USUAL };
+    assert_eq!(coin.tally(7, 5..9, &empty), Ok(vec![(Outcome::MoreBits, 4)]));
+    assert_eq!(coin.hunt(Outcome::MoreBits, 7, 5..9, &empty), Ok(Some(5)));
+    for it in [Outcome::Limit(Limit::Flips), Outcome::Undecided, Outcome::Endless, Outcome::Other] {
+        assert_eq!(coin.hunt(it, 7, 5..9, &USUAL), Err(Error::OutOfRange));
+    }
+    assert_eq!(coin.tally(7, 0..(1 << 40) + 1, &USUAL), Err(Error::OutOfRange));
+}
+
 #[test]
 fn texts_are_laid_out() {
     let laid_out = program("x:=1;return x;").show().unwrap();
@@ -73,8 +102,10 @@ fn texts_are_laid_out() {
 #[test]
 fn refusals_have_places() {
     let why = Program::new("x := 1;\n\t# é\n\ty := x +;\nreturn y;").unwrap_err();
-    assert_eq!(why, Refused { code: 5, place: Some((3, 10)) }.into());
-    assert_eq!(why.to_string(), "E5 unexpected, line 3, column 10");
+    let hint = "a number or a name is missing before this";
+    assert_eq!(why, Refused { code: 5, place: Some((3, 10)), hint: Some(hint.into()) }.into());
+    assert_eq!(why.to_string(), format!("E5 unexpected, line 3, column 10: {hint}"));
+    assert_eq!(Program::new("return y;").unwrap_err().to_string(), "E8 unknown name, line 1, column 1: 'y' is never set");
     assert_eq!(Program::new("#".repeat(70_000)).unwrap_err().to_string(), "E1 text too long");
     assert_eq!(program("observe false; return 1;").mass(30, None, None), Err(refused(15)));
     assert_eq!(program("x ~ uniform(300); y ~ uniform(300); return x * 300 + y;").exact(), Err(refused(14)));

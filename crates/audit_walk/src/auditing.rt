@@ -8,7 +8,7 @@ ghost use Rattle.audit_walk.specs.Audited.{IsAuditOf};
 ghost use Rattle.audit_walk.specs.Rows.{sum_of_counts};
 
 use crate::audits::Audit;
-use crate::walking::spread;
+use crate::walking::{spread, walk};
 use gcl_core::Limits;
 use sampler_run::Sampler;
 use std::alloc::{AllocError, Global};
@@ -40,6 +40,21 @@ pub fn audit<R: Threads + Sync>(
 {
     let state = s.start(alloc, l)?;
     let audit = spread(rt, alloc, &state, depth, FORKS)?;
+    audit.rows.are_kept();
+    Ok(audit)
+}
+
+/// The same by the caller's thread alone, for who may not start others.
+pub fn audit_alone(alloc: Global, s: &Sampler, l: &Limits, depth: u32) -> Result<Audit, AllocError>
+    requires limits { InRange l.now }
+    requires depth { depth ≤ MOST_DEPTH }
+    ensures runs { IfOk result
+        (λ a. (run : List Bool → Answer) → IsRunOf s.now l.now run → IsAuditOf run depth a.rows a.undecided) }
+    ensures all { IfOk result (λ a. sum_of_counts a.rows + a.undecided ≡ 2 ^ depth) }
+{
+    let mut state = s.start(alloc, l)?;
+    let mut spare = Vec::new(alloc);
+    let audit = walk(alloc, &mut state, &mut spare, depth)?;
     audit.rows.are_kept();
     Ok(audit)
 }

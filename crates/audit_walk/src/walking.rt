@@ -50,7 +50,7 @@ fn forked<'s>(
 
 // The audit of a run over the strings of `left` further bits. Where the run needs a bit it is forked, and the fork is spare again
 // once it was walked; where the run has ended it is not continued.
-fn walk<'s>(
+pub(crate) fn walk<'s>(
     alloc: Global,
     state: &mut State<'s>,
     spare: &mut Vec<State<'s>>,

@@ -4,7 +4,7 @@ use Rattle.gcl_core.specs.meaning.Syntax.{SourceProgram}
 use Rattle.zar_c.specs.Answered.{IsAnswer}
 use Rattle.zar_c.specs.Said.{place_of, bare, done, text_refused, mass_refused}
 use Rattle.zar_c.specs.declared.said.ZarSaid.{ZarSaid}
-use Rattle.zar_c.specs.declared.statuses.TheConstants.{DONE, TEXT_REFUSED, NUMBERS_REFUSED, OUT_OF_MEMORY, MASS_REFUSED}
+use Rattle.zar_c.specs.declared.statuses.TheConstants.{DONE, NUMBERS_REFUSED, OUT_OF_MEMORY, MASS_REFUSED}
 use Rattle.zar_c.specs.inner.Refusing.{IsRefusal}
 
 module _ (Has : SourceProgram → Type 0) (HasNone : ℕ → Option ℕ → Type 0) (Can : Type 0) (Are : SourceProgram → List ℕ → Type 0)

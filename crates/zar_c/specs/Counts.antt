@@ -1,15 +1,11 @@
--- What a call that counts over a range of streams is asked, and the lines of a tally.
-use Rattle.std.specs.Prelude.{◌≡◌, ℕ, ◌-◌, ◌≤◌, List}
-use Rattle.gcl_core.specs.declared.answers.Limits.{Limits}
+-- What a call is asked that counts or seeks runs over a range of streams, or counts those on all strings of one length.
+use Rattle.std.specs.Prelude.{ℕ, ◌-◌, ◌≤◌}
+use Rattle.audit_walk.specs.declared.auditing.TheConstants.{MOST_DEPTH}
 use Rattle.gcl_core.specs.meaning.LimitRange.{InRange}
-use Rattle.gcl_core.specs.meaning.Syntax.{SourceProgram}
-use Rattle.mass_lines.specs.RowLines.{rows_text}
-use Rattle.report_text.specs.Lines.{tally_text}
 use Rattle.stream_runs.specs.declared.range.SeedRange.{SeedRange}
 use Rattle.stream_runs.specs.declared.range.TheConstants.{MOST_STREAMS}
-use Rattle.tally_range.specs.Counts.{count_on}
-use Rattle.tally_range.specs.Rows.{Rows, IsTallyOf}
 use Rattle.zar_c.specs.Draws.{limits_of}
+use Rattle.zar_c.specs.Masses.{limits_by}
 use Rattle.zar_c.specs.declared.asking.ZarLimits.{ZarLimits}
 use Rattle.zar_io.specs.declared.stream_bits.TheConstants.{MOST_BUDGET}
 
@@ -24,11 +20,7 @@ pub record CanCount (l : ZarLimits) (from to : ℕ) : Type 0 where
   pub few : to - from ≤ MOST_STREAMS
   pub budget_in : l.budget ≤ MOST_BUDGET
 
--- each key with how many streams have it
-abbrev pub tally_lines : Rows → List ℕ
-tally_lines rows = rows_text (λ row. tally_text row.0 row.1) rows
-
-pub record AreTallyLines (p : SourceProgram) (range : SeedRange) (l : Limits) (text : List ℕ) : Type 0 where
-  pub rows : Rows
-  pub counted : IsTallyOf (count_on p l range) rows
-  pub lines : text ≡ tally_lines rows
+-- the strings are not too long, and the limits are in range
+pub record CanAudit (depth turns attempts rounds : ℕ) : Type 0 where
+  pub depth_in : depth ≤ MOST_DEPTH
+  pub limits : InRange (limits_by turns attempts rounds)

@@ -1,9 +1,10 @@
 pub mod Places
 pub mod Draws
-pub mod Counts
 pub mod Rolls
 pub mod Runs
 pub mod Said
 pub mod Masses
+pub mod Counts
+pub mod Hunts
 pub mod Answered
 pub mod inner

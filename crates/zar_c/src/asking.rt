@@ -2,15 +2,17 @@
 
 ghost use Rattle.std.specs.Prelude.{◌≡◌, ◌↔◌, IsTrue};
 ghost use Rattle.gcl_core.specs.meaning.LimitRange.{InRange};
-ghost use Rattle.zar_c.specs.Counts.{CanCount};
+ghost use Rattle.zar_c.specs.Counts.{CanAudit, CanCount};
 ghost use Rattle.zar_c.specs.Draws.{CanDraw, CanDrawInARow, limits_of};
+ghost use Rattle.zar_c.specs.Hunts.{CanHunt};
 ghost use Rattle.zar_c.specs.Places.{CanFill};
 ghost use Rattle.zar_c.specs.Rolls.{CanRoll};
 
+use audit_walk::MOST_DEPTH;
 use dice_roll::MOST_FLIPS;
 use gcl_core::Limits;
 use gcl_core::rules::MOST_LIMIT;
-use stream_runs::MOST_STREAMS;
+use stream_runs::{MORE_BITS, MOST_STREAMS};
 use weighted_roll::are_weights;
 use zar_io::MOST_BUDGET;
 
@@ -83,6 +85,20 @@ pub(crate) fn can_count(limits: &ZarLimits, from: u64, to: u64) -> bool
         && from <= to
         && to - from <= MOST_STREAMS
         && limits.budget <= MOST_BUDGET
+}
+
+// Whether they can be sought: they can be counted, and a run may end so.
+pub(crate) fn can_hunt(limits: &ZarLimits, from: u64, to: u64, end: u8) -> bool
+    ensures { IsTrue result ↔ CanHunt limits.now from to end }
+{
+    can_count(limits, from, to) && end <= MORE_BITS
+}
+
+// Whether the runs on all strings of a length can be counted: these are not too long, and the limits are in range.
+pub(crate) fn can_audit(depth: u32, l: &Limits) -> bool
+    ensures { IsTrue result ↔ CanAudit depth l.now.turns l.now.attempts l.now.rounds }
+{
+    depth <= MOST_DEPTH && is_in_range(l)
 }
 
 // Whether rolls can be made: a roll may have the weights, the flips are in range, and the places can be filled.

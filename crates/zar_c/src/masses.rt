@@ -35,7 +35,7 @@ pub extern "C" fn zar_mass(
     lines: &mut [u8],
 ) -> ZarSaid
     ensures { IsAnswer (Spells text.now) (SpellsNone text.now) (CanWeigh turns attempts rounds)
-        (λ p. AreMassLines p turns (limit_of attempts) (limit_of rounds))
+        (λ p. AreMassLines p turns (limit_of attempts) (limit_of rounds) 0)
         (λ p. IsMassRefused p turns (limit_of attempts) (limit_of rounds)) lines.old lines.new result }
 {
     if !can_weigh(turns, attempts, rounds) {
@@ -51,7 +51,7 @@ pub extern "C" fn zar_mass(
 #[unsafe(no_mangle)]
 pub extern "C" fn zar_posterior(alloc: Global, text: &[u8], turns: u64, lines: &mut [u8]) -> ZarSaid
     ensures { IsAnswer (Spells text.now) (SpellsNone text.now) (turns ≤ MOST_LIMIT)
-        (λ p. AreBoundLines p turns) (λ p. IsMassRefused p turns None None) lines.old lines.new result }
+        (λ p. AreBoundLines p turns 0) (λ p. IsMassRefused p turns None None) lines.old lines.new result }
 {
     if turns > MOST_LIMIT {
         return said(NUMBERS_REFUSED);
@@ -74,7 +74,7 @@ pub extern "C" fn zar_enclose(
     lines: &mut [u8],
 ) -> ZarSaid
     ensures { IsAnswer (Spells text.now) (SpellsNone text.now) (CanWeigh turns attempts rounds)
-        (λ p. AreEnclosedLines p turns (limit_of attempts) (limit_of rounds) all_turns)
+        (λ p. AreEnclosedLines p turns (limit_of attempts) (limit_of rounds) all_turns 0)
         (λ p. IsEncloseRefused p turns (limit_of attempts) (limit_of rounds)) lines.old lines.new result }
 {
     if !can_weigh(turns, attempts, rounds) {
@@ -96,7 +96,7 @@ pub extern "C" fn zar_enclose(
 /// The same of the program's masses where nothing is limited, and of what never ends.
 #[unsafe(no_mangle)]
 pub extern "C" fn zar_exact(alloc: Global, text: &[u8], lines: &mut [u8]) -> ZarSaid
-    ensures { IsAnswer (Spells text.now) (SpellsNone text.now) NoNumbers AreExactLines IsExactRefused lines.old lines.new result }
+    ensures { IsAnswer (Spells text.now) (SpellsNone text.now) NoNumbers (λ p. AreExactLines p 0) IsExactRefused lines.old lines.new result }
 {
     match exact_of(alloc, text) {
         Ok(told) => written(told.bytes(), lines),
@@ -115,7 +115,7 @@ pub extern "C" fn zar_cost(
     lines: &mut [u8],
 ) -> ZarSaid
     ensures { IsAnswer (Spells text.now) (SpellsNone text.now) (InRange (limits_by turns attempts rounds))
-        (λ p. IsBitLine p (limits_by turns attempts rounds))
+        (λ p. IsBitLine p (limits_by turns attempts rounds) 0)
         (λ p. IsCostRefused p (limits_by turns attempts rounds)) lines.old lines.new result }
 {
     let l = Limits {

@@ -1,9 +1,10 @@
 // Calls of the exports, with answers that the documents have.
 
 use crate::{
-    DONE, MASS_REFUSED, NUMBERS_REFUSED, TEXT_REFUSED, ZarLimits, ZarRan, ZarRollLimits, zar_check,
-    zar_code, zar_cost, zar_draws, zar_draws_in_a_row, zar_enclose, zar_explain, zar_mass,
-    zar_posterior, zar_roll, zar_run, zar_show, zar_tally, zar_version,
+    DONE, MASS_REFUSED, NUMBERS_REFUSED, TEXT_REFUSED, ZarFound, ZarLimits, ZarRan, ZarRollLimits,
+    zar_audit, zar_check, zar_code, zar_cost, zar_draws, zar_draws_in_a_row, zar_enclose,
+    zar_explain, zar_hunt, zar_mass, zar_posterior, zar_roll, zar_run, zar_show, zar_tally,
+    zar_version,
 };
 use std::test::Fail;
 
@@ -145,6 +146,43 @@ fn tallies(rt: HostRuntime) -> Result<(), Fail> {
     assert_eq!(rt; said.status, DONE);
     assert_eq!(rt; lines, *b"value 1 count 1\nvalue 4 count 2\n\0\0\0\0");
     let said = zar_tally(rt.alloc(), DIE, 1, 3, 2, &USUAL, &mut lines);
+    assert_eq!(rt; said.status, NUMBERS_REFUSED);
+    Ok(())
+}
+
+// Its first faces are 4, 1 and 4.
+#[test]
+fn hunts(rt: HostRuntime) -> Result<(), Fail> {
+    let mut found = ZarFound {
+        stream: 7,
+        found: false,
+    };
+    let said = zar_hunt(rt.alloc(), DIE, 1, 0, 3, &USUAL, 1, 0, &mut found);
+    assert_eq!(rt; said.status, DONE);
+    assert_eq!(rt; found.found, true);
+    assert_eq!(rt; found.stream, 1);
+    let said = zar_hunt(rt.alloc(), DIE, 1, 0, 3, &USUAL, 1, 8, &mut found);
+    assert_eq!(rt; said.status, NUMBERS_REFUSED);
+    assert_eq!(rt; found.stream, 1);
+    let said = zar_hunt(rt.alloc(), DIE, 1, 0, 3, &USUAL, 0, 7, &mut found);
+    assert_eq!(rt; said.status, DONE);
+    assert_eq!(rt; found.found, false);
+    assert_eq!(rt; found.stream, 0);
+    Ok(())
+}
+
+// A choice of 2/3 by three bits, as the documents have it.
+#[test]
+fn audits(rt: HostRuntime) -> Result<(), Fail> {
+    let mut lines = [0u8; 55];
+    let coin = b"choice 2/3 { x := 1; } or { x := 2; } return x;";
+    let said = zar_audit(rt.alloc(), coin, 3, 0, 9, 1, &mut lines);
+    assert_eq!(rt; said.status, DONE);
+    assert_eq!(rt;
+        lines,
+        *b"value 1 mass 5/8\nvalue 2 mass 1/4\nundecided mass 1/8\n\0\0"
+    );
+    let said = zar_audit(rt.alloc(), coin, 21, 0, 9, 1, &mut lines);
     assert_eq!(rt; said.status, NUMBERS_REFUSED);
     Ok(())
 }

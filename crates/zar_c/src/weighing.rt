@@ -26,6 +26,7 @@ use gcl_print::Text;
 use gcl_text::check_text;
 use mass_fold::MassError;
 use mass_lines::{bits_text, bounds_text, enclosed_text, exact_text, masses_text};
+use report_text::Decimals;
 use std::alloc::Global;
 
 // Whether masses can be worked out under these limits.
@@ -98,7 +99,7 @@ pub(crate) fn masses_of(
     requires turns { turns ≤ MOST_LIMIT }
     requires attempts { IfSome attempts IsLimit }
     requires rounds { IfSome rounds IsLimit }
-    ensures lines { IfOk result (λ lines. (p : SourceProgram) → Spells text.now p → AreMassLines p turns attempts rounds lines) }
+    ensures lines { IfOk result (λ lines. (p : SourceProgram) → Spells text.now p → AreMassLines p turns attempts rounds 0 lines) }
     ensures there { IfOk result (λ _. (p : SourceProgram) × Spells text.now p) }
     ensures refused { IfErr result
         (IsRefusal (Spells text.now) (SpellsNone text.now) (λ p. IsMassRefused p turns attempts rounds)) }
@@ -108,7 +109,7 @@ pub(crate) fn masses_of(
         Ok(program) => program,
         Err(refusal) => return Err(refused(refusal)),
     };
-    match masses_text(alloc, &program, turns, attempts, rounds) {
+    match masses_text(alloc, &program, turns, attempts, rounds, Decimals::none()) {
         Ok(lines) => Ok(lines),
         Err(error) => Err(mass_refused(error)),
     }
@@ -117,7 +118,7 @@ pub(crate) fn masses_of(
 // The lines of its bounds.
 pub(crate) fn bounds_of(alloc: Global, text: &[u8], turns: u64) -> Result<Text, ZarSaid>
     requires { turns ≤ MOST_LIMIT }
-    ensures lines { IfOk result (λ lines. (p : SourceProgram) → Spells text.now p → AreBoundLines p turns lines) }
+    ensures lines { IfOk result (λ lines. (p : SourceProgram) → Spells text.now p → AreBoundLines p turns 0 lines) }
     ensures there { IfOk result (λ _. (p : SourceProgram) × Spells text.now p) }
     ensures refused { IfErr result (IsRefusal (Spells text.now) (SpellsNone text.now) (λ p. IsMassRefused p turns None None)) }
 {
@@ -126,7 +127,7 @@ pub(crate) fn bounds_of(alloc: Global, text: &[u8], turns: u64) -> Result<Text, 
         Ok(program) => program,
         Err(refusal) => return Err(refused(refusal)),
     };
-    match bounds_text(alloc, &program, turns) {
+    match bounds_text(alloc, &program, turns, Decimals::none()) {
         Ok(lines) => Ok(lines),
         Err(error) => Err(mass_refused(error)),
     }
@@ -145,7 +146,7 @@ pub(crate) fn enclosed_of(
     requires attempts { IfSome attempts IsLimit }
     requires rounds { IfSome rounds IsLimit }
     ensures lines { IfOk result (λ lines. (p : SourceProgram) → Spells text.now p
-        → AreEnclosedLines p turns attempts rounds all_turns lines) }
+        → AreEnclosedLines p turns attempts rounds all_turns 0 lines) }
     ensures there { IfOk result (λ _. (p : SourceProgram) × Spells text.now p) }
     ensures refused { IfErr result
         (IsRefusal (Spells text.now) (SpellsNone text.now) (λ p. IsEncloseRefused p turns attempts rounds)) }
@@ -155,7 +156,15 @@ pub(crate) fn enclosed_of(
         Ok(program) => program,
         Err(refusal) => return Err(refused(refusal)),
     };
-    match enclosed_text(alloc, &program, turns, attempts, rounds, all_turns) {
+    match enclosed_text(
+        alloc,
+        &program,
+        turns,
+        attempts,
+        rounds,
+        all_turns,
+        Decimals::none(),
+    ) {
         Ok(lines) => Ok(lines),
         Err(error) => Err(enclose_refused(error)),
     }
@@ -163,7 +172,7 @@ pub(crate) fn enclosed_of(
 
 // The lines of its masses where nothing is limited.
 pub(crate) fn exact_of(alloc: Global, text: &[u8]) -> Result<Text, ZarSaid>
-    ensures lines { IfOk result (λ lines. (p : SourceProgram) → Spells text.now p → AreExactLines p lines) }
+    ensures lines { IfOk result (λ lines. (p : SourceProgram) → Spells text.now p → AreExactLines p 0 lines) }
     ensures there { IfOk result (λ _. (p : SourceProgram) × Spells text.now p) }
     ensures refused { IfErr result (IsRefusal (Spells text.now) (SpellsNone text.now) IsExactRefused) }
 {
@@ -172,7 +181,7 @@ pub(crate) fn exact_of(alloc: Global, text: &[u8]) -> Result<Text, ZarSaid>
         Ok(program) => program,
         Err(refusal) => return Err(refused(refusal)),
     };
-    match exact_text(alloc, &program) {
+    match exact_text(alloc, &program, Decimals::none()) {
         Ok(lines) => Ok(lines),
         Err(error) => Err(exact_refused(error)),
     }
@@ -181,7 +190,7 @@ pub(crate) fn exact_of(alloc: Global, text: &[u8]) -> Result<Text, ZarSaid>
 // The line of the bits that its runs read on average.
 pub(crate) fn bits_of(alloc: Global, text: &[u8], l: &Limits) -> Result<Text, ZarSaid>
     requires { InRange l.now }
-    ensures lines { IfOk result (λ lines. (p : SourceProgram) → Spells text.now p → IsBitLine p l.now lines) }
+    ensures lines { IfOk result (λ lines. (p : SourceProgram) → Spells text.now p → IsBitLine p l.now 0 lines) }
     ensures there { IfOk result (λ _. (p : SourceProgram) × Spells text.now p) }
     ensures refused { IfErr result (IsRefusal (Spells text.now) (SpellsNone text.now) (λ p. IsCostRefused p l.now)) }
 {
@@ -190,7 +199,7 @@ pub(crate) fn bits_of(alloc: Global, text: &[u8], l: &Limits) -> Result<Text, Za
         Ok(program) => program,
         Err(refusal) => return Err(refused(refusal)),
     };
-    match bits_text(alloc, &program, l) {
+    match bits_text(alloc, &program, l, Decimals::none()) {
         Ok(lines) => Ok(lines),
         Err(error) => Err(cost_refused(error)),
     }

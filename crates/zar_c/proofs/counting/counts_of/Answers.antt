@@ -1,7 +1,7 @@
 use Rattle.std.proofs.Common.{subst}
+use Rattle.count_lines.specs.TallyLines.{AreTallyLines}
 use Rattle.gcl_core.specs.meaning.Syntax.{SourceProgram}
 use Rattle.gcl_core.specs.meaning.Views.{source_of}
-use Rattle.zar_c.specs.Counts.{AreTallyLines}
 use Rattle.zar_c.proofs.counting.counts_of.Goals as goal
 
 -- the text spells one program

@@ -1,7 +1,8 @@
 use Rattle.std.proofs.Common.{sym, subst, rules}
+use Rattle.count_lines.specs.TallyLines.{AreTallyLines}
 use Rattle.gcl_core.specs.declared.answers.Limits.{Limits}
 use Rattle.gcl_core.specs.text.Texts.{Spells, SpellsNone}
-use Rattle.zar_c.specs.Counts.{AreTallyLines, CanCount, range_by}
+use Rattle.zar_c.specs.Counts.{CanCount, range_by}
 use Rattle.zar_c.specs.Draws.{limits_of}
 use Rattle.zar_c.proofs.Answering.{lines_told}
 use Rattle.zar_c.proofs.counts.zar_tally.Goals as goal

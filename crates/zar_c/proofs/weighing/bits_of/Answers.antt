@@ -9,7 +9,8 @@ pub returns-in-Ok-bits_text-clause-lines : goal.returns-in-Ok-bits_text-clause-l
 returns-in-Ok-bits_text-clause-lines c = λ p spells.
     let one = c.one_reading.ensures.checked c.args.text.now in
     let same = one.one_program (source_of c.in-Ok.program) p c.in-Ok.ensures.spelled spells in
-    subst (λ (r : SourceProgram). IsBitLine r c.args.l.now c.in-Ok-bits_text.lines) same c.in-Ok-bits_text.ensures.line
+    subst (λ d. IsBitLine p c.args.l.now d c.in-Ok-bits_text.lines) c.none.ensures
+    (subst (λ (r : SourceProgram). IsBitLine r c.args.l.now c.none.result c.in-Ok-bits_text.lines) same c.in-Ok-bits_text.ensures.line)
 
 pub returns-clause-refused : goal.returns-clause-refused
 returns-clause-refused c =

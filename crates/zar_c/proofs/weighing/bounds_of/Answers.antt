@@ -9,7 +9,8 @@ pub returns-in-Ok-bounds_text-clause-lines : goal.returns-in-Ok-bounds_text-clau
 returns-in-Ok-bounds_text-clause-lines c = λ p spells.
     let one = c.one_reading.ensures.checked c.args.text.now in
     let same = one.one_program (source_of c.in-Ok.program) p c.in-Ok.ensures.spelled spells in
-    subst (λ (r : SourceProgram). AreBoundLines r c.args.turns c.in-Ok-bounds_text.lines) same c.in-Ok-bounds_text.ensures.lines
+    subst (λ d. AreBoundLines p c.args.turns d c.in-Ok-bounds_text.lines) c.none.ensures
+    (subst (λ (r : SourceProgram). AreBoundLines r c.args.turns c.none.result c.in-Ok-bounds_text.lines) same c.in-Ok-bounds_text.ensures.lines)
 
 pub returns-clause-refused : goal.returns-clause-refused
 returns-clause-refused c =

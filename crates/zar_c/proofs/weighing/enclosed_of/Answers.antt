@@ -9,7 +9,9 @@ pub returns-in-Ok-enclosed_text-clause-lines : goal.returns-in-Ok-enclosed_text-
 returns-in-Ok-enclosed_text-clause-lines c = λ p spells.
     let one = c.one_reading.ensures.checked c.args.text.now in
     let same = one.one_program (source_of c.in-Ok.program) p c.in-Ok.ensures.spelled spells in
-    subst (λ (r : SourceProgram). AreEnclosedLines r c.args.turns c.args.attempts c.args.rounds c.args.all_turns c.in-Ok-enclosed_text.lines) same c.in-Ok-enclosed_text.ensures.lines
+    let a = c.args in
+    subst (λ d. AreEnclosedLines p a.turns a.attempts a.rounds a.all_turns d c.in-Ok-enclosed_text.lines) c.none.ensures
+    (subst (λ (r : SourceProgram). AreEnclosedLines r a.turns a.attempts a.rounds a.all_turns c.none.result c.in-Ok-enclosed_text.lines) same c.in-Ok-enclosed_text.ensures.lines)
 
 pub returns-clause-refused : goal.returns-clause-refused
 returns-clause-refused c =

@@ -9,7 +9,8 @@ pub returns-in-Ok-exact_text-clause-lines : goal.returns-in-Ok-exact_text-clause
 returns-in-Ok-exact_text-clause-lines c = λ p spells.
     let one = c.one_reading.ensures.checked c.args.text.now in
     let same = one.one_program (source_of c.in-Ok.program) p c.in-Ok.ensures.spelled spells in
-    subst (λ (r : SourceProgram). AreExactLines r c.in-Ok-exact_text.lines) same c.in-Ok-exact_text.ensures.lines
+    subst (λ d. AreExactLines p d c.in-Ok-exact_text.lines) c.none.ensures
+    (subst (λ (r : SourceProgram). AreExactLines r c.none.result c.in-Ok-exact_text.lines) same c.in-Ok-exact_text.ensures.lines)
 
 pub returns-clause-refused : goal.returns-clause-refused
 returns-clause-refused c =

@@ -9,7 +9,9 @@ pub returns-in-Ok-masses_text-clause-lines : goal.returns-in-Ok-masses_text-clau
 returns-in-Ok-masses_text-clause-lines c = λ p spells.
     let one = c.one_reading.ensures.checked c.args.text.now in
     let same = one.one_program (source_of c.in-Ok.program) p c.in-Ok.ensures.spelled spells in
-    subst (λ (r : SourceProgram). AreMassLines r c.args.turns c.args.attempts c.args.rounds c.in-Ok-masses_text.lines) same c.in-Ok-masses_text.ensures.lines
+    let a = c.args in
+    subst (λ d. AreMassLines p a.turns a.attempts a.rounds d c.in-Ok-masses_text.lines) c.none.ensures
+    (subst (λ (r : SourceProgram). AreMassLines r a.turns a.attempts a.rounds c.none.result c.in-Ok-masses_text.lines) same c.in-Ok-masses_text.ensures.lines)
 
 pub returns-clause-refused : goal.returns-clause-refused
 returns-clause-refused c =
