@@ -2,21 +2,26 @@
 
 Whole numbers and integers are numbers, truths are truths, lists and products are tuples, a record is a dictionary, and any other data is
 a `Data`. A function of a definition takes its arguments one by one and works each out when it is first asked for; constructors, and what
-the standard library defines, take theirs worked out. Statements that can be decided are worked out as truths.
+the standard library defines, take theirs worked out. Statements that can be decided are worked out as truths; one that is said of each
+member of a type, or of some, is a function of the member.
 """
+import contextlib
 import functools
+import itertools
 import operator
 import re
 import typing
 
 import definitions
+import source
 
 TOKEN = re.compile(r'"[^"]*"|\.[^\s(){}\[\],;.]+|[(){}\[\],;.]|[^\s(){}\[\],;.]+')
 # How tightly an operator binds, and whether it groups to the right.
 LEFT, RIGHT = 1, 0
 OPERATORS = {
-    "⊎": (1, RIGHT), "≡": (4, LEFT), "▸": (5, RIGHT), "▹": (5, RIGHT), ">>=": (10, LEFT), "||": (30, LEFT), "&&": (35, LEFT), "×": (36, RIGHT),
-    "==": (40, LEFT), "≤": (50, LEFT), "<": (50, LEFT), "+": (65, LEFT), "-": (65, LEFT), "++": (65, LEFT), "+ℤ": (65, LEFT), "-ℤ": (65, LEFT),
+    "→": (0, RIGHT), "⊎": (1, RIGHT), "≡": (4, LEFT), "▸": (5, RIGHT), "▹": (5, RIGHT), ">>=": (10, LEFT), "||": (30, LEFT), "&&": (35, LEFT),
+    "×": (36, RIGHT), "==": (40, LEFT), "≤": (50, LEFT), "<": (50, LEFT), "+": (65, LEFT), "-": (65, LEFT), "++": (65, LEFT),
+    "+ℤ": (65, LEFT), "-ℤ": (65, LEFT),
     "∷": (67, RIGHT), "*": (70, LEFT), "/": (70, LEFT), "%": (70, LEFT), "*ℤ": (70, LEFT), "^": (75, RIGHT),
 }
 ENDS = {")", "]", "}", ",", ";", "then", "else", "in", "↦", "|", "="}
@@ -64,6 +69,13 @@ class Reader:
         return left
 
     def term(self):
+        if self.binds():
+            names = []
+            while self.binds():
+                found = self.group("(", ")")
+                names += found[: found.index(":")]
+            self.next("→", "×")
+            return ("function", names, self.expression())
         if self.sees("λ"):
             self.next()
             names = self.binders()
@@ -83,6 +95,12 @@ class Reader:
             else:
                 left = ("apply", left, self.atom())
         return left
+
+    def binds(self):
+        """Whether names stand here in brackets, with their type."""
+        ahead = self.tokens[-2:0:-1] if self.sees("(") else []
+        names = list(itertools.takewhile(lambda token: token != ":" and token[0] not in "(){}[],;.λ" and token not in OPERATORS, ahead))
+        return bool(names) and ahead[len(names) : len(names) + 1] == [":"]
 
     def behind(self, word):
         self.next(word)
@@ -163,6 +181,11 @@ def called(function, *args):
     return function
 
 
+def strict(count, run):
+    """A function that takes its arguments worked out."""
+    return curried(count, lambda *these: run(*(it() for it in these)))
+
+
 def position(test, at, these):
     return next((Data("Some", (at + i,)) for i, it in enumerate(these) if called(test, it)), Data("None"))
 
@@ -180,7 +203,8 @@ STRICT = {
     "suc": (1, lambda n: n + 1), "pos": (1, lambda n: n), "negsuc": (1, lambda n: -1 - n), "neg_ℤ": (1, operator.neg), "not": (1, operator.not_),
     "◌+◌": (2, operator.add), "◌-◌": (2, lambda a, b: max(a - b, 0)), "◌*◌": (2, operator.mul), "◌/◌": (2, operator.floordiv), "◌%◌": (2, operator.mod),
     "◌^◌": (2, operator.pow), "◌+ℤ◌": (2, operator.add), "◌-ℤ◌": (2, operator.sub), "◌*ℤ◌": (2, operator.mul), "int_div": (2, cut),
-    "int_rem": (2, lambda a, b: a - b * cut(a, b)), "min": (2, min), "max": (2, max), "from_bool": (1, int), "sum": (1, sum),
+    "div_ceil": (2, lambda a, b: -(-a // b)), "int_rem": (2, lambda a, b: a - b * cut(a, b)), "min": (2, min), "max": (2, max),
+    "from_bool": (1, int), "sum": (1, sum),
     "◌==◌": (2, operator.eq), "◌≡◌": (2, operator.eq), "int_eq": (2, operator.eq), "bytes_eq": (2, operator.eq), "nat_lt": (2, operator.lt),
     "int_lt": (2, operator.lt), "◌<◌": (2, operator.lt), "nat_le": (2, operator.le), "int_le": (2, operator.le), "◌≤◌": (2, operator.le),
     "◌∷◌": (2, lambda x, xs: (x, *xs)), "◌++◌": (2, operator.add), "length": (1, len), "take": (2, lambda n, l: l[:n]), "drop": (2, lambda n, l: l[n:]),
@@ -189,11 +213,11 @@ STRICT = {
     "replicate": (2, lambda n, x: (x,) * n), "range_with_len": (2, lambda first, n: tuple(range(first, first + n))), "position_from": (3, position),
     "slice_index": (2, lambda l, i: l[i]), "slice_index_or": (3, lambda l, i, d: l[i] if i < len(l) else d),
     "slice_set": (3, lambda l, i, x: (*l[:i], x, *l[i + 1 :]) if i < len(l) else l), "option_eq": (3, same_option),
-    "pointwise": (1, lambda same: same), "distinct_count": (2, lambda same, l: len(set(l))),
+    "pointwise": (1, lambda same: same), "distinct_count": (2, lambda same, l: len(set(l))), "IsTrue": (1, bool),
 }
 LAZY = {
     "◌&&◌": (2, lambda a, b: a() and b()), "◌||◌": (2, lambda a, b: a() or b()), "◌×◌": (2, lambda a, b: a() and b()), "◌⊎◌": (2, lambda a, b: a() or b()),
-    "cond": (3, lambda test, a, b: a() if test() else b()),
+    "cond": (3, lambda test, a, b: a() if test() else b()), "◌→◌": (2, lambda a, b: b() if a() else True),
 }
 CONSTANTS = {"zero": 0, "true": True, "false": False, "[]": (), "Unit": True, "⊥": False}
 
@@ -204,8 +228,32 @@ def standard(name):
         return CONSTANTS[name]
     if name in LAZY:
         return curried(*LAZY[name])
-    count, run = STRICT[name]
-    return curried(count, lambda *these: run(*(it() for it in these)))
+    return strict(*STRICT[name])
+
+
+# ---- numbers that the code gives, and what is given in place of a definition
+
+CONSTANT = r"pub const %s: \w+ = (?:(\d+) << )?([\d_]+);"
+GIVEN = {}
+
+
+@functools.cache
+def constant(module, name):
+    _, crate, _, _, *file, _ = module.split(".")
+    text = (source.ROOT / "crates" / crate / "src" / "/".join(file)).with_suffix(".rt").read_text(encoding="utf-8")
+    base, number = re.search(CONSTANT % name, text).groups()
+    return int(base) << int(number) if base else int(number)
+
+
+@contextlib.contextmanager
+def given(**these):
+    """Takes these in place of what has such a name."""
+    GIVEN.update(these)
+    try:
+        yield
+    finally:
+        for name in these:
+            del GIVEN[name]
 
 
 # ---- definitions
@@ -337,6 +385,10 @@ def value(e, env, definition):
         of = value(e[1], env, definition)
         return of[e[2]] if isinstance(of, dict) else of[int(e[2])]
     module, name = found or ("", e[1])
+    if name in GIVEN:
+        return GIVEN[name]
+    if module.endswith(".TheConstants"):
+        return constant(module, name)
     if found and name not in CONSTANTS and name not in STRICT and is_constructor(module, name):
         return Data(name)
     if module not in definitions.modules():
@@ -349,7 +401,20 @@ def value(e, env, definition):
     return result
 
 
+def defined(crate, file, name):
+    module = next(it for it in definitions.modules() if it.startswith(f"Rattle.{crate}.specs.") and it.endswith(f".{file}"))
+    return definitions.owners(module)[name]
+
+
 def of(crate, file, name):
     """What a definition gives, as a function of Python."""
-    module = next(it for it in definitions.modules() if it.startswith(f"Rattle.{crate}.specs.") and it.endswith(f".{file}"))
-    return functools.partial(called, meaning(definitions.owners(module)[name]))
+    return functools.partial(called, meaning(defined(crate, file, name)))
+
+
+def field(crate, file, record, name):
+    """What a field of a record says, as a function of what the record is of and then of what the field is."""
+    definition = defined(crate, file, record)
+    head, *fields = definitions.FIELD.split(definition.text())
+    said = dict(zip(fields[1::3], fields[2::3]))[name]
+    parameters_of = [it for group in re.findall(r"\(([^():]+) :", head) for it in group.split()]
+    return functools.partial(called, value(("function", parameters_of, Reader(said).expression()), {}, definition))
