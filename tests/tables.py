@@ -109,7 +109,7 @@ class Tables:
         if bound < 1:
             raise Fault(BOUND)
         one, none = self.classes(weight, [1], bound)
-        return [*((one[0], self.with_value(state, name, i)) for i in range(bound)), *none]
+        return [*((one[0], self.behind(self.with_value(state, name, i), i)) for i in range(bound)), *none]
 
     def chosen(self, arms, table, ended):
         """Each arm has a table of its own. The parts are those in lowest terms."""
@@ -121,8 +121,12 @@ class Tables:
                 self.add(ended, other, part)
         out = {}
         for i, (_, b) in enumerate(arms):
-            self.joined(out, self.block(b, {state: parts[i] for state, (parts, _) in zip(table, shares) if parts[i]}, ended))
+            self.joined(out, self.block(b, {self.behind(state, i): parts[i] for state, (parts, _) in zip(table, shares) if parts[i]}, ended))
         return out
+
+    def behind(self, state, i):
+        """The state behind the class i of a draw."""
+        return state
 
     def classes(self, weight, sizes, whole):
         """What classes of these sizes get of the weight in a draw of so many numbers, and what ends in none."""
