@@ -132,12 +132,12 @@ def imported_by_code(file):
     return set().union(*names.values()) | used(text, {}, aliases)
 
 
-def reached(roots):
-    """The definitions among what is named, those that these cite, and so on."""
+def reached(roots, but=None):
+    """The definitions among what is named, those that these cite, and so on, but for those of one file."""
     found, waiting = set(), set(roots)
     while waiting:
         module, name = waiting.pop()
-        definition = owners(module).get(name) if module in modules() else None
+        definition = owners(module).get(name) if module in modules() and module != but else None
         if definition and definition not in found:
             found.add(definition)
             waiting |= cited(definition)

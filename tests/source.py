@@ -12,7 +12,7 @@ CLAUSE = re.compile(r"^\s*ensures(?: (\w+))? \{", re.MULTILINE)
 # A brace, or a text in quotes, which may hold some.
 BRACE = re.compile(r'"(?:\\.|[^"\\])*"|[{}]')
 BLOCK = re.compile(r"^(?P<head>(?:pub )?(?:impl|trait)\b[^{]*)\{\n(?P<body>.*?)^\}", re.DOTALL | re.MULTILINE)
-IMPL = re.compile(r"^impl(?:<.*?>)? (?:(?P<trait>\w+)(?:<.*>)? for )?(?P<type>\w+)", re.DOTALL)
+IMPL = re.compile(r"^impl(?:<.*?>)? (?:(?P<trait>\w+)(?:<(?:(?P<of>\w+)|.*)>)? for )?(?P<type>\w+)", re.DOTALL)
 TRAIT = re.compile(r"^(?:pub )?trait (?P<trait>\w+)")
 
 
@@ -74,11 +74,11 @@ def braced(text):
 
 
 def functions(text):
-    """The functions of a file, each with the type and the trait of its block, empty where there is none."""
+    """The functions of a file, each with the type and the trait of its block, empty where there is none; behind the trait a plain type that it takes."""
     for block in BLOCK.finditer(text):
         of = (TRAIT.match(block["head"]) or IMPL.match(block["head"])).groupdict("")
         for it in FUNCTION.finditer(block["body"]):
-            yield of.get("type", ""), of["trait"], it
+            yield of.get("type", ""), of["trait"] + of.get("of", ""), it
     for it in FUNCTION.finditer(BLOCK.sub("", text)):
         yield "", "", it
 

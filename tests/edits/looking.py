@@ -9,7 +9,7 @@ WORDS = {"file", "old", "new", "only", "gate"}
 @functools.cache
 def functions(crate):
     """The functions of a crate, each by its module, its type with its trait, and its name, as the prover writes them where the trait takes no
-    types."""
+    types, or a plain one."""
     found = []
     for file in source.files(crate):
         module = [] if file.stem in ("lib", "main") else file.relative_to(CRATES / crate / "src").with_suffix("").parts

@@ -5,3 +5,4 @@ pub mod BoundLines
 pub mod EnclosedLines
 pub mod ExactLines
 pub mod BitLines
+pub mod Reasons

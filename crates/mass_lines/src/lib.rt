@@ -2,7 +2,7 @@
 //!
 //! Proved: `masses_text` gives the lines of exactly the masses above 0, and `exact_text`, `bounds_text`, `enclosed_text` and
 //! `bits_text` those of what they are named for, outcomes ascending and no fraction wider than 128 bits, with the decimals that are
-//! wanted (`lines`, `line`). Each is refused only as the crate below it refuses (`refused`): of `exact_text` that is little, as
+//! wanted (`lines`, `line`). Each is refused only by a code whose cause holds (`refused`): of `exact_text` that is little, as
 //! `exact_fold` says.
 //!
 //! No clause says that memory or the stack suffices, or how long a call takes. Callers have to hand in limits in range: 0 to 10^9
@@ -10,8 +10,10 @@
 #![tactic(auto)]
 
 mod narrow;
+mod reasons;
 mod rows;
 mod telling;
 
 pub use narrow::is_narrow;
+pub use reasons::Reason;
 pub use telling::{bits_text, bounds_text, enclosed_text, exact_text, masses_text};

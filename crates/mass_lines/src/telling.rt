@@ -1,29 +1,28 @@
 // What is told of a program, as lines.
 
-ghost use Rattle.std.specs.Prelude.{◌≤◌, None, Some, IfOk, IfErr, IfSome};
-ghost use Rattle.cost_fold.specs.Refused.{CostRefused};
-ghost use Rattle.enclose_fold.specs.Refused.{EncloseRefused};
-ghost use Rattle.exact_fold.specs.Refused.{WhyRefused};
+ghost use Rattle.std.specs.Prelude.{◌≤◌, IfOk, IfErr, IfSome};
 ghost use Rattle.gcl_core.specs.declared.rules.TheConstants.{MOST_LIMIT};
 ghost use Rattle.gcl_core.specs.meaning.LimitRange.{InRange};
 ghost use Rattle.gcl_core.specs.meaning.Views.{source_of};
-ghost use Rattle.mass_fold.specs.Refused.{IsLimit, MassRefused};
+ghost use Rattle.mass_fold.specs.Refused.{IsLimit};
 ghost use Rattle.mass_lines.specs.BitLines.{IsBitLine};
 ghost use Rattle.mass_lines.specs.BoundLines.{AreBoundLines};
 ghost use Rattle.mass_lines.specs.EnclosedLines.{AreEnclosedLines};
 ghost use Rattle.mass_lines.specs.ExactLines.{AreExactLines};
 ghost use Rattle.mass_lines.specs.MassLines.{AreMassLines};
+ghost use Rattle.mass_lines.specs.Reasons.{IsReason, WhyNoBits, WhyNoBounds, WhyNoMasses, WhyNotEnclosed, WhyNotExact};
 
+use crate::reasons::Reason;
 use crate::rows::{bit_line, bound_lines, exact_lines, mass_rows_text};
-use cost_fold::{CostError, cost};
-use enclose_fold::{EncloseError, enclose};
-use exact_fold::{ExactError, exact};
+use cost_fold::cost;
+use enclose_fold::enclose;
+use exact_fold::exact;
 use gcl_core::{Checked, Limits};
 use gcl_print::Text;
-use mass_fold::{MassError, mass};
+use mass_fold::mass;
 use posterior_bounds::bounds;
 use report_text::Decimals;
-use std::alloc::{AllocError, Global};
+use std::alloc::Global;
 
 /// The lines of a program's masses, outcomes ascending, each with so many decimals, as all lines here.
 pub fn masses_text(
@@ -33,12 +32,12 @@ pub fn masses_text(
     attempts: Option<u64>,
     rounds: Option<u64>,
     decimals: Decimals,
-) -> Result<Text, MassError>
+) -> Result<Text, Reason>
     requires turns { turns ≤ MOST_LIMIT }
     requires attempts { IfSome attempts IsLimit }
     requires rounds { IfSome rounds IsLimit }
     ensures lines { IfOk result (AreMassLines (source_of program.now) turns attempts rounds decimals) }
-    ensures refused { IfErr result (λ e. MassRefused e (source_of program.now) turns attempts rounds) }
+    ensures refused { IfErr result (IsReason (WhyNoMasses (source_of program.now) turns attempts rounds)) }
 {
     let rows = mass(alloc, program, turns, attempts, rounds)?;
     Ok(mass_rows_text(alloc, &rows, decimals)?)
@@ -50,10 +49,10 @@ pub fn bounds_text(
     program: &Checked,
     turns: u64,
     decimals: Decimals,
-) -> Result<Text, MassError>
+) -> Result<Text, Reason>
     requires { turns ≤ MOST_LIMIT }
     ensures lines { IfOk result (AreBoundLines (source_of program.now) turns decimals) }
-    ensures refused { IfErr result (λ e. MassRefused e (source_of program.now) turns None None) }
+    ensures refused { IfErr result (IsReason (WhyNoBounds (source_of program.now) turns)) }
 {
     let found = bounds(alloc, program, turns)?;
     Ok(bound_lines(alloc, &found, decimals)?)
@@ -69,21 +68,21 @@ pub fn enclosed_text(
     rounds: Option<u64>,
     all_turns: bool,
     decimals: Decimals,
-) -> Result<Text, EncloseError>
+) -> Result<Text, Reason>
     requires turns { turns ≤ MOST_LIMIT }
     requires attempts { IfSome attempts IsLimit }
     requires rounds { IfSome rounds IsLimit }
     ensures lines { IfOk result (AreEnclosedLines (source_of program.now) turns attempts rounds all_turns decimals) }
-    ensures refused { IfErr result (λ e. EncloseRefused e (source_of program.now) turns attempts rounds) }
+    ensures refused { IfErr result (IsReason (WhyNotEnclosed (source_of program.now) turns attempts rounds)) }
 {
     let found = enclose(alloc, program, turns, attempts, rounds, all_turns)?;
     Ok(bound_lines(alloc, &found, decimals)?)
 }
 
 /// The lines of a program's masses where nothing is limited, outcomes ascending, and of what never ends.
-pub fn exact_text(alloc: Global, program: &Checked, decimals: Decimals) -> Result<Text, ExactError>
+pub fn exact_text(alloc: Global, program: &Checked, decimals: Decimals) -> Result<Text, Reason>
     ensures lines { IfOk result (AreExactLines (source_of program.now) decimals) }
-    ensures refused { IfErr result (WhyRefused (source_of program.now)) }
+    ensures refused { IfErr result (IsReason (WhyNotExact (source_of program.now))) }
 {
     let masses = exact(alloc, program)?;
     Ok(exact_lines(alloc, &masses, decimals)?)
@@ -95,14 +94,11 @@ pub fn bits_text(
     program: &Checked,
     limits: &Limits,
     decimals: Decimals,
-) -> Result<Text, CostError>
+) -> Result<Text, Reason>
     requires { InRange limits.now }
     ensures line { IfOk result (IsBitLine (source_of program.now) limits.now decimals) }
-    ensures refused { IfErr result (λ e. CostRefused e (source_of program.now) limits.now) }
+    ensures refused { IfErr result (IsReason (WhyNoBits (source_of program.now) limits.now)) }
 {
     let bits = cost(alloc, program, limits)?;
-    match bit_line(alloc, &bits, decimals) {
-        Ok(text) => Ok(text),
-        Err(AllocError) => Err(CostError::OutOfMemory),
-    }
+    Ok(bit_line(alloc, &bits, decimals)?)
 }

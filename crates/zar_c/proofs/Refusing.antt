@@ -1,29 +1,18 @@
 -- Why a call about lines gives none, from what the readers and the work answer.
-use Rattle.std.proofs.Common.{◌≡◌, ℕ, List, Option, inl, inr, refl, sym, ap, subst, arith}
-use Rattle.cost_fold.specs.Refused.{CostRefused}
-use Rattle.cost_fold.specs.declared.error.CostError.{CostError}
-use Rattle.cost_fold.specs.declared.error.CostError.TheVariants as cost
-use Rattle.enclose_fold.specs.Refused.{EncloseRefused}
-use Rattle.enclose_fold.specs.declared.error.EncloseError.{EncloseError}
-use Rattle.enclose_fold.specs.declared.error.EncloseError.TheVariants as enclose
-use Rattle.exact_fold.specs.Refused.{WhyRefused}
-use Rattle.exact_fold.specs.declared.error.ExactError.{ExactError}
-use Rattle.exact_fold.specs.declared.error.ExactError.TheVariants as exact
-use Rattle.gcl_core.specs.declared.answers.Limits.{Limits}
+use Rattle.std.proofs.Common.{◌≡◌, ℕ, List, Option, inl, inr, sym, ap, subst, arith}
 use Rattle.gcl_core.specs.meaning.Syntax.{SourceProgram}
 use Rattle.gcl_core.specs.text.Texts.{Spells, SpellsNone}
 use Rattle.gcl_parse.specs.OneReading.{HasOneReading}
 use Rattle.gcl_text.specs.Readings.{NoneInText}
 use Rattle.gcl_text.specs.declared.refusing.TextRefusal.{TextRefusal}
 use Rattle.gcl_text.specs.declared.refusing.TextRefusal.TheVariants.{Coded, OutOfMemory}
-use Rattle.mass_fold.specs.Refused.{MassRefused}
-use Rattle.mass_fold.specs.declared.error.MassError.{MassError}
-use Rattle.mass_fold.specs.declared.error.MassError.TheVariants as mass
-use Rattle.zar_c.specs.Masses.{IsMassRefused, IsCostRefused, IsEncloseRefused, IsExactRefused, mass_code, cost_code, enclose_code, exact_code}
+use Rattle.mass_lines.specs.Reasons.{IsReason}
+use Rattle.mass_lines.specs.declared.reasons.Reason.{Reason}
+use Rattle.mass_lines.specs.declared.reasons.Reason.TheVariants as reasons
 use Rattle.zar_c.specs.Said.{place_of, bare, mass_refused}
 use Rattle.zar_c.specs.declared.said.ZarSaid.{ZarSaid}
 use Rattle.zar_c.specs.declared.statuses.TheConstants.{OUT_OF_MEMORY, MASS_REFUSED}
-use Rattle.zar_c.specs.inner.Refusing.{IsReason, IsRefusal, IsSaid}
+use Rattle.zar_c.specs.inner.Refusing.{IsToldReason, IsRefusal, IsSaid}
 
 module _ (Has : SourceProgram → Type 0) (HasNone : ℕ → Option ℕ → Type 0) (Refuses : SourceProgram → ℕ → Type 0) (s : ZarSaid) where
   pub by_memory : s ≡ bare OUT_OF_MEMORY → IsRefusal Has HasNone Refuses s
@@ -69,83 +58,8 @@ module _ (Has : SourceProgram → Type 0) (HasNone : ℕ → Option ℕ → Type
       same : s.code ≡ code
       same = ap (λ (t : ZarSaid). t.code) form
 
-module _ (text : List ℕ) (one : HasOneReading text) (q : SourceProgram) (spelled : Spells text q) (s : ZarSaid) where
-  pub by_mass : (turns : ℕ) (attempts rounds : Option ℕ) (e : MassError) → IsReason (mass_code e) s → MassRefused e q turns attempts rounds
-      → IsRefusal (Spells text) (SpellsNone text) (λ p. IsMassRefused p turns attempts rounds) s
-  by_mass turns attempts rounds mass.OutOfMemory is why = by_memory _ _ _ s is
-  by_mass turns attempts rounds mass.TooWide is why =
-      by_reason _ _ _ s q spelled _ is (λ p spells. record {
-        reason = mass.TooWide;
-        coded = refl;
-        refused = subst (λ r. MassRefused mass.TooWide r turns attempts rounds) (one.one_program q p spelled spells) why;
-      })
-  by_mass turns attempts rounds mass.TooManyStates is why =
-      by_reason _ _ _ s q spelled _ is (λ p spells. record {
-        reason = mass.TooManyStates;
-        coded = refl;
-        refused = subst (λ r. MassRefused mass.TooManyStates r turns attempts rounds) (one.one_program q p spelled spells) why;
-      })
-  by_mass turns attempts rounds mass.AllFailed is why =
-      by_reason _ _ _ s q spelled _ is (λ p spells. record {
-        reason = mass.AllFailed;
-        coded = refl;
-        refused = subst (λ r. MassRefused mass.AllFailed r turns attempts rounds) (one.one_program q p spelled spells) why;
-      })
-
-  pub by_cost : (l : Limits) (e : CostError) → IsReason (cost_code e) s → CostRefused e q l → IsRefusal (Spells text) (SpellsNone text) (λ p. IsCostRefused p l) s
-  by_cost l cost.OutOfMemory is why = by_memory _ _ _ s is
-  by_cost l cost.TooWide is why =
-      by_reason _ _ _ s q spelled _ is (λ p spells. record {
-        reason = cost.TooWide;
-        coded = refl;
-        refused = subst (λ r. CostRefused cost.TooWide r l) (one.one_program q p spelled spells) why;
-      })
-  by_cost l cost.TooManyStates is why =
-      by_reason _ _ _ s q spelled _ is (λ p spells. record {
-        reason = cost.TooManyStates;
-        coded = refl;
-        refused = subst (λ r. CostRefused cost.TooManyStates r l) (one.one_program q p spelled spells) why;
-      })
-
-  pub by_enclose : (turns : ℕ) (attempts rounds : Option ℕ) (e : EncloseError) → IsReason (enclose_code e) s → EncloseRefused e q turns attempts rounds
-      → IsRefusal (Spells text) (SpellsNone text) (λ p. IsEncloseRefused p turns attempts rounds) s
-  by_enclose turns attempts rounds enclose.OutOfMemory is why = by_memory _ _ _ s is
-  by_enclose turns attempts rounds enclose.TooManyStates is why =
-      by_reason _ _ _ s q spelled _ is (λ p spells. record {
-        reason = enclose.TooManyStates;
-        coded = refl;
-        refused = subst (λ r. EncloseRefused enclose.TooManyStates r turns attempts rounds) (one.one_program q p spelled spells) why;
-      })
-  by_enclose turns attempts rounds enclose.AllFailed is why =
-      by_reason _ _ _ s q spelled _ is (λ p spells. record {
-        reason = enclose.AllFailed;
-        coded = refl;
-        refused = subst (λ r. EncloseRefused enclose.AllFailed r turns attempts rounds) (one.one_program q p spelled spells) why;
-      })
-  by_enclose turns attempts rounds enclose.TooUnlikely is why =
-      by_reason _ _ _ s q spelled _ is (λ p spells. record {
-        reason = enclose.TooUnlikely;
-        coded = refl;
-        refused = subst (λ r. EncloseRefused enclose.TooUnlikely r turns attempts rounds) (one.one_program q p spelled spells) why;
-      })
-
-  pub by_exact : (e : ExactError) → IsReason (exact_code e) s → WhyRefused q e → IsRefusal (Spells text) (SpellsNone text) IsExactRefused s
-  by_exact exact.OutOfMemory is why = by_memory _ _ _ s is
-  by_exact exact.TooWide is why =
-      by_reason _ _ _ s q spelled _ is (λ p spells. record {
-        reason = exact.TooWide;
-        coded = refl;
-        refused = subst (λ (r : SourceProgram). WhyRefused r exact.TooWide) (one.one_program q p spelled spells) why;
-      })
-  by_exact exact.TooManyStates is why =
-      by_reason _ _ _ s q spelled _ is (λ p spells. record {
-        reason = exact.TooManyStates;
-        coded = refl;
-        refused = subst (λ (r : SourceProgram). WhyRefused r exact.TooManyStates) (one.one_program q p spelled spells) why;
-      })
-  by_exact exact.AllFailed is why =
-      by_reason _ _ _ s q spelled _ is (λ p spells. record {
-        reason = exact.AllFailed;
-        coded = refl;
-        refused = subst (λ (r : SourceProgram). WhyRefused r exact.AllFailed) (one.one_program q p spelled spells) why;
-      })
+-- the text has this one program, whose lines are refused for a reason, or memory ran out
+module _ (text : List ℕ) (one : HasOneReading text) (q : SourceProgram) (spelled : Spells text q) (s : ZarSaid) (Cause : SourceProgram → ℕ → Type 0) where
+  pub by_lines : (reason : Reason) → IsToldReason reason s → IsReason (Cause q) reason → IsRefusal (Spells text) (SpellsNone text) Cause s
+  by_lines (reasons.Coded code) is why = by_reason _ _ _ s q spelled code is (λ p spells. subst (λ r. Cause r code) (one.one_program q p spelled spells) why)
+  by_lines reasons.Memory is why = by_memory _ _ _ s is

@@ -10,8 +10,9 @@ ghost use Rattle.mass_lines.specs.BoundLines.{AreBoundLines};
 ghost use Rattle.mass_lines.specs.EnclosedLines.{AreEnclosedLines};
 ghost use Rattle.mass_lines.specs.ExactLines.{AreExactLines};
 ghost use Rattle.mass_lines.specs.MassLines.{AreMassLines};
+ghost use Rattle.mass_lines.specs.Reasons.{WhyNoBits, WhyNoBounds, WhyNoMasses, WhyNotEnclosed, WhyNotExact};
 ghost use Rattle.zar_c.specs.Answered.{IsAnswer, NoNumbers};
-ghost use Rattle.zar_c.specs.Masses.{CanWeigh, IsCostRefused, IsEncloseRefused, IsExactRefused, IsMassRefused, limits_by, limit_of};
+ghost use Rattle.zar_c.specs.Masses.{CanWeigh, limits_by, limit_of};
 
 use crate::asking::is_in_range;
 use crate::said::{ZarSaid, said, written};
@@ -36,7 +37,7 @@ pub extern "C" fn zar_mass(
 ) -> ZarSaid
     ensures { IsAnswer (Spells text.now) (SpellsNone text.now) (CanWeigh turns attempts rounds)
         (λ p. AreMassLines p turns (limit_of attempts) (limit_of rounds) 0)
-        (λ p. IsMassRefused p turns (limit_of attempts) (limit_of rounds)) lines.old lines.new result }
+        (λ p. WhyNoMasses p turns (limit_of attempts) (limit_of rounds)) lines.old lines.new result }
 {
     if !can_weigh(turns, attempts, rounds) {
         return said(NUMBERS_REFUSED);
@@ -51,7 +52,7 @@ pub extern "C" fn zar_mass(
 #[unsafe(no_mangle)]
 pub extern "C" fn zar_posterior(alloc: Global, text: &[u8], turns: u64, lines: &mut [u8]) -> ZarSaid
     ensures { IsAnswer (Spells text.now) (SpellsNone text.now) (turns ≤ MOST_LIMIT)
-        (λ p. AreBoundLines p turns 0) (λ p. IsMassRefused p turns None None) lines.old lines.new result }
+        (λ p. AreBoundLines p turns 0) (λ p. WhyNoBounds p turns) lines.old lines.new result }
 {
     if turns > MOST_LIMIT {
         return said(NUMBERS_REFUSED);
@@ -75,7 +76,7 @@ pub extern "C" fn zar_enclose(
 ) -> ZarSaid
     ensures { IsAnswer (Spells text.now) (SpellsNone text.now) (CanWeigh turns attempts rounds)
         (λ p. AreEnclosedLines p turns (limit_of attempts) (limit_of rounds) all_turns 0)
-        (λ p. IsEncloseRefused p turns (limit_of attempts) (limit_of rounds)) lines.old lines.new result }
+        (λ p. WhyNotEnclosed p turns (limit_of attempts) (limit_of rounds)) lines.old lines.new result }
 {
     if !can_weigh(turns, attempts, rounds) {
         return said(NUMBERS_REFUSED);
@@ -96,7 +97,7 @@ pub extern "C" fn zar_enclose(
 /// The same of the program's masses where nothing is limited, and of what never ends.
 #[unsafe(no_mangle)]
 pub extern "C" fn zar_exact(alloc: Global, text: &[u8], lines: &mut [u8]) -> ZarSaid
-    ensures { IsAnswer (Spells text.now) (SpellsNone text.now) NoNumbers (λ p. AreExactLines p 0) IsExactRefused lines.old lines.new result }
+    ensures { IsAnswer (Spells text.now) (SpellsNone text.now) NoNumbers (λ p. AreExactLines p 0) WhyNotExact lines.old lines.new result }
 {
     match exact_of(alloc, text) {
         Ok(told) => written(told.bytes(), lines),
@@ -116,7 +117,7 @@ pub extern "C" fn zar_cost(
 ) -> ZarSaid
     ensures { IsAnswer (Spells text.now) (SpellsNone text.now) (InRange (limits_by turns attempts rounds))
         (λ p. IsBitLine p (limits_by turns attempts rounds) 0)
-        (λ p. IsCostRefused p (limits_by turns attempts rounds)) lines.old lines.new result }
+        (λ p. WhyNoBits p (limits_by turns attempts rounds)) lines.old lines.new result }
 {
     let l = Limits {
         turns,

@@ -11,21 +11,18 @@ ghost use Rattle.mass_lines.specs.BoundLines.{AreBoundLines};
 ghost use Rattle.mass_lines.specs.EnclosedLines.{AreEnclosedLines};
 ghost use Rattle.mass_lines.specs.ExactLines.{AreExactLines};
 ghost use Rattle.mass_lines.specs.MassLines.{AreMassLines};
-ghost use Rattle.zar_c.specs.Masses.{CanWeigh, IsCostRefused, IsEncloseRefused, IsExactRefused, IsMassRefused, cost_code, enclose_code, exact_code, limit_of, mass_code};
-ghost use Rattle.zar_c.specs.inner.Refusing.{IsReason, IsRefusal};
+ghost use Rattle.mass_lines.specs.Reasons.{WhyNoBits, WhyNoBounds, WhyNoMasses, WhyNotEnclosed, WhyNotExact};
+ghost use Rattle.zar_c.specs.Masses.{CanWeigh, limit_of};
+ghost use Rattle.zar_c.specs.inner.Refusing.{IsToldReason, IsRefusal};
 
 use crate::said::{ZarSaid, reason, refused, said};
 use crate::statuses::OUT_OF_MEMORY;
-use cost_fold::CostError;
-use enclose_fold::EncloseError;
-use exact_fold::ExactError;
+use gcl_core::Limits;
 use gcl_core::rules::MOST_LIMIT;
-use gcl_core::{Limits, refusals};
 use gcl_parse::one_reading;
 use gcl_print::Text;
 use gcl_text::check_text;
-use mass_fold::MassError;
-use mass_lines::{bits_text, bounds_text, enclosed_text, exact_text, masses_text};
+use mass_lines::{Reason, bits_text, bounds_text, enclosed_text, exact_text, masses_text};
 use report_text::Decimals;
 use std::alloc::Global;
 
@@ -45,46 +42,13 @@ pub(crate) fn limit(n: u64) -> Option<u64>
     if n == 0 { None } else { Some(n) }
 }
 
-fn mass_refused(error: MassError) -> ZarSaid
-    ensures { IsReason (mass_code error) result }
+// Why lines are refused.
+fn told(why: Reason) -> ZarSaid
+    ensures { IsToldReason why result }
 {
-    match error {
-        MassError::TooWide => reason(refusals::TOO_WIDE),
-        MassError::TooManyStates => reason(refusals::TOO_MANY_STATES),
-        MassError::AllFailed => reason(refusals::ALL_FAILED),
-        MassError::OutOfMemory => said(OUT_OF_MEMORY),
-    }
-}
-
-fn cost_refused(error: CostError) -> ZarSaid
-    ensures { IsReason (cost_code error) result }
-{
-    match error {
-        CostError::TooWide => reason(refusals::TOO_WIDE),
-        CostError::TooManyStates => reason(refusals::TOO_MANY_STATES),
-        CostError::OutOfMemory => said(OUT_OF_MEMORY),
-    }
-}
-
-fn enclose_refused(error: EncloseError) -> ZarSaid
-    ensures { IsReason (enclose_code error) result }
-{
-    match error {
-        EncloseError::TooManyStates => reason(refusals::TOO_MANY_STATES),
-        EncloseError::AllFailed => reason(refusals::ALL_FAILED),
-        EncloseError::TooUnlikely => reason(refusals::TOO_UNLIKELY),
-        EncloseError::OutOfMemory => said(OUT_OF_MEMORY),
-    }
-}
-
-fn exact_refused(error: ExactError) -> ZarSaid
-    ensures { IsReason (exact_code error) result }
-{
-    match error {
-        ExactError::TooWide => reason(refusals::TOO_WIDE),
-        ExactError::TooManyStates => reason(refusals::TOO_MANY_STATES),
-        ExactError::AllFailed => reason(refusals::ALL_FAILED),
-        ExactError::OutOfMemory => said(OUT_OF_MEMORY),
+    match why {
+        Reason::Coded(code) => reason(code),
+        Reason::Memory => said(OUT_OF_MEMORY),
     }
 }
 
@@ -102,7 +66,7 @@ pub(crate) fn masses_of(
     ensures lines { IfOk result (λ lines. (p : SourceProgram) → Spells text.now p → AreMassLines p turns attempts rounds 0 lines) }
     ensures there { IfOk result (λ _. (p : SourceProgram) × Spells text.now p) }
     ensures refused { IfErr result
-        (IsRefusal (Spells text.now) (SpellsNone text.now) (λ p. IsMassRefused p turns attempts rounds)) }
+        (IsRefusal (Spells text.now) (SpellsNone text.now) (λ p. WhyNoMasses p turns attempts rounds)) }
 {
     one_reading();
     let program = match check_text(alloc, text) {
@@ -111,7 +75,7 @@ pub(crate) fn masses_of(
     };
     match masses_text(alloc, &program, turns, attempts, rounds, Decimals::none()) {
         Ok(lines) => Ok(lines),
-        Err(error) => Err(mass_refused(error)),
+        Err(why) => Err(told(why)),
     }
 }
 
@@ -120,7 +84,7 @@ pub(crate) fn bounds_of(alloc: Global, text: &[u8], turns: u64) -> Result<Text, 
     requires { turns ≤ MOST_LIMIT }
     ensures lines { IfOk result (λ lines. (p : SourceProgram) → Spells text.now p → AreBoundLines p turns 0 lines) }
     ensures there { IfOk result (λ _. (p : SourceProgram) × Spells text.now p) }
-    ensures refused { IfErr result (IsRefusal (Spells text.now) (SpellsNone text.now) (λ p. IsMassRefused p turns None None)) }
+    ensures refused { IfErr result (IsRefusal (Spells text.now) (SpellsNone text.now) (λ p. WhyNoBounds p turns)) }
 {
     one_reading();
     let program = match check_text(alloc, text) {
@@ -129,7 +93,7 @@ pub(crate) fn bounds_of(alloc: Global, text: &[u8], turns: u64) -> Result<Text, 
     };
     match bounds_text(alloc, &program, turns, Decimals::none()) {
         Ok(lines) => Ok(lines),
-        Err(error) => Err(mass_refused(error)),
+        Err(why) => Err(told(why)),
     }
 }
 
@@ -149,7 +113,7 @@ pub(crate) fn enclosed_of(
         → AreEnclosedLines p turns attempts rounds all_turns 0 lines) }
     ensures there { IfOk result (λ _. (p : SourceProgram) × Spells text.now p) }
     ensures refused { IfErr result
-        (IsRefusal (Spells text.now) (SpellsNone text.now) (λ p. IsEncloseRefused p turns attempts rounds)) }
+        (IsRefusal (Spells text.now) (SpellsNone text.now) (λ p. WhyNotEnclosed p turns attempts rounds)) }
 {
     one_reading();
     let program = match check_text(alloc, text) {
@@ -166,7 +130,7 @@ pub(crate) fn enclosed_of(
         Decimals::none(),
     ) {
         Ok(lines) => Ok(lines),
-        Err(error) => Err(enclose_refused(error)),
+        Err(why) => Err(told(why)),
     }
 }
 
@@ -174,7 +138,7 @@ pub(crate) fn enclosed_of(
 pub(crate) fn exact_of(alloc: Global, text: &[u8]) -> Result<Text, ZarSaid>
     ensures lines { IfOk result (λ lines. (p : SourceProgram) → Spells text.now p → AreExactLines p 0 lines) }
     ensures there { IfOk result (λ _. (p : SourceProgram) × Spells text.now p) }
-    ensures refused { IfErr result (IsRefusal (Spells text.now) (SpellsNone text.now) IsExactRefused) }
+    ensures refused { IfErr result (IsRefusal (Spells text.now) (SpellsNone text.now) WhyNotExact) }
 {
     one_reading();
     let program = match check_text(alloc, text) {
@@ -183,7 +147,7 @@ pub(crate) fn exact_of(alloc: Global, text: &[u8]) -> Result<Text, ZarSaid>
     };
     match exact_text(alloc, &program, Decimals::none()) {
         Ok(lines) => Ok(lines),
-        Err(error) => Err(exact_refused(error)),
+        Err(why) => Err(told(why)),
     }
 }
 
@@ -192,7 +156,7 @@ pub(crate) fn bits_of(alloc: Global, text: &[u8], l: &Limits) -> Result<Text, Za
     requires { InRange l.now }
     ensures lines { IfOk result (λ lines. (p : SourceProgram) → Spells text.now p → IsBitLine p l.now 0 lines) }
     ensures there { IfOk result (λ _. (p : SourceProgram) × Spells text.now p) }
-    ensures refused { IfErr result (IsRefusal (Spells text.now) (SpellsNone text.now) (λ p. IsCostRefused p l.now)) }
+    ensures refused { IfErr result (IsRefusal (Spells text.now) (SpellsNone text.now) (λ p. WhyNoBits p l.now)) }
 {
     one_reading();
     let program = match check_text(alloc, text) {
@@ -201,6 +165,6 @@ pub(crate) fn bits_of(alloc: Global, text: &[u8], l: &Limits) -> Result<Text, Za
     };
     match bits_text(alloc, &program, l, Decimals::none()) {
         Ok(lines) => Ok(lines),
-        Err(error) => Err(cost_refused(error)),
+        Err(why) => Err(told(why)),
     }
 }

@@ -1,12 +1,22 @@
 -- By which refusals a command may end: a code of texts or of work, or the outside, and never a failed write.
 use Rattle.std.proofs.Common.{◌≡◌, ◌≢◌, ℕ, ◌<◌, Bool, List, Option, Some, None, Ok, Err, ◌⊎◌, inl, inr, sym, subst, arith}
+use Rattle.cost_fold.specs.declared.error.CostError.{CostError}
+use Rattle.cost_fold.specs.declared.error.CostError.TheVariants as cost
 use Rattle.dice_roll.specs.FastRoll.{fast_roll}
-use Rattle.gcl_core.specs.declared.answers.Limits.{Limits}
+use Rattle.enclose_fold.specs.declared.error.EncloseError.{EncloseError}
+use Rattle.enclose_fold.specs.declared.error.EncloseError.TheVariants as enclose
+use Rattle.exact_fold.specs.declared.error.ExactError.{ExactError}
+use Rattle.exact_fold.specs.declared.error.ExactError.TheVariants as exact
 use Rattle.gcl_core.specs.declared.refusals.TheConstants.{BAD_WORDS}
 use Rattle.gcl_core.specs.meaning.Runs.{run_on}
 use Rattle.gcl_core.specs.meaning.Syntax.{SourceProgram}
 use Rattle.gcl_core.specs.text.Acceptance.{Flaw, kind_mismatch, unknown_name, zero_denominator, weight_above_one, too_fine}
 use Rattle.gcl_core.specs.text.Texts.{IsRefusedText, too_long, no_piece, wide_number, long_name, unexpected, too_deep, flaw_code, IsRefusedProgram, many_names, has_flaw, SpellsNone, as_text, as_program}
+use Rattle.mass_fold.specs.declared.error.MassError.{MassError}
+use Rattle.mass_fold.specs.declared.error.MassError.TheVariants as mass
+use Rattle.mass_lines.specs.Reasons.{IsCause, mass_reason, cost_reason, enclose_reason, exact_reason}
+use Rattle.mass_lines.specs.declared.reasons.Reason.{Reason}
+use Rattle.mass_lines.specs.declared.reasons.Reason.TheVariants as reasons
 use Rattle.report_text.specs.declared.refusals.Refusal.{Refusal}
 use Rattle.report_text.specs.declared.refusals.Refusal.TheVariants.{Coded, Read, Write, Memory, NoFile}
 use Rattle.zar_cli.specs.declared.command.Command.{Command}
@@ -16,22 +26,13 @@ use Rattle.zar_cli.specs.declared.command.Work.{Work}
 use Rattle.zar_cli.specs.declared.command.Work.TheVariants.{Sample, Mass, Cost, Posterior, Exact, Enclose, Audit, Tally, Runs, Hunt, Check, Code, Forgetful}
 use Rattle.zar_cli.specs.declared.said.Said.{Said}
 use Rattle.zar_cli.specs.declared.said.Said.TheVariants.{Answered, Rolled}
-use Rattle.zar_cli.specs.Costs as costs
-use Rattle.zar_cli.specs.Costs.{SaysCost}
 use Rattle.zar_cli.specs.Counts.{ShowsText, ShowsBehind}
-use Rattle.zar_cli.specs.Enclosures as enclosures
-use Rattle.zar_cli.specs.Enclosures.{SaysEnclosure}
-use Rattle.zar_cli.specs.ExactMasses as exact
-use Rattle.zar_cli.specs.ExactMasses.{SaysExact}
 use Rattle.zar_cli.specs.Forms.{CallWord}
-use Rattle.zar_cli.specs.Masses as masses
-use Rattle.zar_cli.specs.Masses.{SaysMasses}
 use Rattle.zar_cli.specs.ByStages.{Output, says, reading, on_bits, HasOrRefuses, if_spelled, if_written}
 use Rattle.zar_cli.specs.Output.{IsWorkedOut, IsOutput}
-use Rattle.zar_cli.specs.Posterior as posterior
-use Rattle.zar_cli.specs.Posterior.{SaysBounds}
 use Rattle.weighted_roll.specs.WeightedRoll.{weighted_roll}
 use Rattle.zar_cli.specs.Rolls.{weights_text, weights_said}
+use Rattle.zar_cli.specs.Weighed.{ShowsOrRefuses, refused}
 use Rattle.zar_cli.specs.WeightedRolls.{labels_text}
 
 abbrev pub IsRefusal : Refusal → Type 0
@@ -72,30 +73,39 @@ apart code below = λ same. omega (arith, below, same)
 
 -- ---- work
 
-masses_codes : (p : SourceProgram) (turns : ℕ) (attempts rounds : Option ℕ) (d : ℕ) (e : Refusal) → SaysMasses p turns attempts rounds d (Err e) → IsRefusal e
-masses_codes p turns attempts rounds d _ (masses.too_wide h) = omega arith
-masses_codes p turns attempts rounds d _ (masses.too_many_states h) = omega arith
-masses_codes p turns attempts rounds d _ (masses.all_failed h) = omega arith
+abbrev IsApart : Reason → Type 0
+IsApart (reasons.Coded code) = code ≢ BAD_WORDS
+IsApart reasons.Memory = Unit {0}
 
-costs_codes : (p : SourceProgram) (limits : Limits) (d : ℕ) (e : Refusal) → SaysCost p limits d (Err e) → IsRefusal e
-costs_codes p limits d _ (costs.too_wide h) = omega arith
-costs_codes p limits d _ (costs.too_many_states h) = omega arith
+mass_codes : (e : MassError) → IsApart (mass_reason e)
+mass_codes mass.TooWide = omega arith
+mass_codes mass.TooManyStates = omega arith
+mass_codes mass.AllFailed = omega arith
+mass_codes mass.OutOfMemory = tt
 
-bounds_codes : (p : SourceProgram) (turns d : ℕ) (e : Refusal) → SaysBounds p turns d (Err e) → IsRefusal e
-bounds_codes p turns d _ (posterior.too_wide h) = omega arith
-bounds_codes p turns d _ (posterior.too_many_states h) = omega arith
-bounds_codes p turns d _ (posterior.all_failed h) = omega arith
+cost_codes : (e : CostError) → IsApart (cost_reason e)
+cost_codes cost.TooWide = omega arith
+cost_codes cost.TooManyStates = omega arith
+cost_codes cost.OutOfMemory = tt
 
-exact_codes : (p : SourceProgram) (d : ℕ) (e : Refusal) → SaysExact p d (Err e) → IsRefusal e
-exact_codes p d _ (exact.too_wide h) = omega arith
-exact_codes p d _ (exact.too_many_states h) = omega arith
-exact_codes p d _ (exact.all_failed h) = omega arith
+enclose_codes : (e : EncloseError) → IsApart (enclose_reason e)
+enclose_codes enclose.TooManyStates = omega arith
+enclose_codes enclose.AllFailed = omega arith
+enclose_codes enclose.TooUnlikely = omega arith
+enclose_codes enclose.OutOfMemory = tt
 
-enclosure_codes : (p : SourceProgram) (turns : ℕ) (attempts rounds : Option ℕ) (all_turns : Bool) (d : ℕ) (e : Refusal)
-    → SaysEnclosure p turns attempts rounds all_turns d (Err e) → IsRefusal e
-enclosure_codes p turns attempts rounds all_turns d _ (enclosures.too_many_states h) = omega arith
-enclosure_codes p turns attempts rounds all_turns d _ (enclosures.all_failed h) = omega arith
-enclosure_codes p turns attempts rounds all_turns d _ (enclosures.too_unlikely h) = omega arith
+exact_codes : (e : ExactError) → IsApart (exact_reason e)
+exact_codes exact.TooWide = omega arith
+exact_codes exact.TooManyStates = omega arith
+exact_codes exact.AllFailed = omega arith
+exact_codes exact.OutOfMemory = tt
+
+module _ {E : Type 0} (reason_of : E → Reason) (Holds : E → Type 0) (codes : (e : E) → IsApart (reason_of e)) where
+  cause_codes : (code : ℕ) → IsCause reason_of Holds code → code ≢ BAD_WORDS
+  cause_codes code cause = subst IsApart cause.coded (codes cause.error)
+
+  lines_codes : (Are : List ℕ → Type 0) (e : Refusal) → ShowsOrRefuses Are (IsCause reason_of Holds) (Err e) → IsRefusal e
+  lines_codes Are _ (refused code cause) = cause_codes code cause
 
 -- ---- commands
 
@@ -141,11 +151,11 @@ module _ (e : Refusal) where
   work_codes : (file : CallWord → Option (List ℕ)) (p : SourceProgram) (work : Work) → IsWorkedOut file p work (Err e) → IsRefusal e
   work_codes file p (Sample (File bits) limits) is = of_bits (file bits) (λ w. Answered (run_on p limits w)) is
   work_codes file p (Sample (Stream seed stream budget) limits) is = of_said _ is
-  work_codes file p (Mass turns attempts rounds d) is = masses_codes p turns attempts rounds d e is
-  work_codes file p (Cost limits d) is = costs_codes p limits d e is
-  work_codes file p (Posterior turns d) is = bounds_codes p turns d e is
-  work_codes file p (Exact d) is = exact_codes p d e is
-  work_codes file p (Enclose turns attempts rounds all_turns d) is = enclosure_codes p turns attempts rounds all_turns d e is
+  work_codes file p (Mass turns attempts rounds d) is = lines_codes mass_reason _ mass_codes _ e is
+  work_codes file p (Cost limits d) is = lines_codes cost_reason _ cost_codes _ e is
+  work_codes file p (Posterior turns d) is = lines_codes mass_reason _ mass_codes _ e is
+  work_codes file p (Exact d) is = lines_codes exact_reason _ exact_codes _ e is
+  work_codes file p (Enclose turns attempts rounds all_turns d) is = lines_codes enclose_reason _ enclose_codes _ e is
   work_codes file p (Audit depth limits d) is = of_shown _ is
   work_codes file p (Tally range limits named) is = of_behind _ _ is
   work_codes file p (Runs range limits named) is = of_said _ is

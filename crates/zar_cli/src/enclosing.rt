@@ -7,7 +7,7 @@ ghost use Rattle.mass_fold.specs.Refused.{IsLimit};
 ghost use Rattle.zar_cli.specs.declared.command.Work.TheVariants.{Enclose};
 ghost use Rattle.zar_cli.specs.inner.Works.{WorksAlone};
 
-use crate::refusing::enclose_refusal;
+use crate::refusing::refusal_by;
 use crate::said::Said;
 use gcl_core::Checked;
 use mass_lines::enclosed_text;
@@ -31,6 +31,6 @@ pub fn enclosed_of(
 {
     match enclosed_text(alloc, program, turns, attempts, rounds, all_turns, decimals) {
         Ok(lines) => Ok(Said::Shown(lines)),
-        Err(error) => Err(enclose_refusal(error)),
+        Err(reason) => Err(refusal_by(reason)),
     }
 }

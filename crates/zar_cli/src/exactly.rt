@@ -4,7 +4,7 @@ ghost use Rattle.gcl_core.specs.meaning.Views.{source_of};
 ghost use Rattle.zar_cli.specs.declared.command.Work.TheVariants.{Exact};
 ghost use Rattle.zar_cli.specs.inner.Works.{WorksAlone};
 
-use crate::refusing::exact_refusal;
+use crate::refusing::refusal_by;
 use crate::said::Said;
 use gcl_core::Checked;
 use mass_lines::exact_text;
@@ -21,6 +21,6 @@ pub fn exact_masses_of(
 {
     match exact_text(alloc, program, decimals) {
         Ok(lines) => Ok(Said::Shown(lines)),
-        Err(error) => Err(exact_refusal(error)),
+        Err(reason) => Err(refusal_by(reason)),
     }
 }

@@ -6,7 +6,7 @@ ghost use Rattle.gcl_core.specs.meaning.Views.{source_of};
 ghost use Rattle.zar_cli.specs.declared.command.Work.TheVariants.{Posterior};
 ghost use Rattle.zar_cli.specs.inner.Works.{WorksAlone};
 
-use crate::refusing::mass_refusal;
+use crate::refusing::refusal_by;
 use crate::said::Said;
 use gcl_core::Checked;
 use mass_lines::bounds_text;
@@ -25,6 +25,6 @@ pub fn bounds_of(
 {
     match bounds_text(alloc, program, turns, decimals) {
         Ok(lines) => Ok(Said::Shown(lines)),
-        Err(error) => Err(mass_refusal(error)),
+        Err(reason) => Err(refusal_by(reason)),
     }
 }

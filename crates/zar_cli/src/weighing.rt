@@ -8,7 +8,7 @@ ghost use Rattle.mass_fold.specs.Refused.{IsLimit};
 ghost use Rattle.zar_cli.specs.declared.command.Work.TheVariants.{Cost, Mass};
 ghost use Rattle.zar_cli.specs.inner.Works.{WorksAlone};
 
-use crate::refusing::{cost_refusal, mass_refusal};
+use crate::refusing::refusal_by;
 use crate::said::Said;
 use gcl_core::{Checked, Limits};
 use mass_lines::{bits_text, masses_text};
@@ -31,7 +31,7 @@ pub fn masses_of(
 {
     match masses_text(alloc, program, turns, attempts, rounds, decimals) {
         Ok(lines) => Ok(Said::Shown(lines)),
-        Err(error) => Err(mass_refusal(error)),
+        Err(reason) => Err(refusal_by(reason)),
     }
 }
 
@@ -47,6 +47,6 @@ pub fn bits_of(
 {
     match bits_text(alloc, program, limits, decimals) {
         Ok(line) => Ok(Said::Shown(line)),
-        Err(error) => Err(cost_refusal(error)),
+        Err(reason) => Err(refusal_by(reason)),
     }
 }

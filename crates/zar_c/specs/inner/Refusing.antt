@@ -1,8 +1,10 @@
 -- Why a call about lines gives none.
-use Rattle.std.specs.Prelude.{◌≡◌, ◌⊎◌, ℕ, Option, MatchOption}
+use Rattle.std.specs.Prelude.{◌≡◌, ◌⊎◌, ℕ, Option}
 use Rattle.gcl_core.specs.meaning.Syntax.{SourceProgram}
 use Rattle.gcl_text.specs.declared.refusing.TextRefusal.{TextRefusal}
 use Rattle.gcl_text.specs.declared.refusing.TextRefusal.TheVariants.{Coded, OutOfMemory}
+use Rattle.mass_lines.specs.declared.reasons.Reason.{Reason}
+use Rattle.mass_lines.specs.declared.reasons.Reason.TheVariants as reasons
 use Rattle.zar_c.specs.Said.{place_of, bare, text_refused, mass_refused}
 use Rattle.zar_c.specs.declared.said.ZarSaid.{ZarSaid}
 use Rattle.zar_c.specs.declared.statuses.TheConstants.{DONE, TEXT_REFUSED, NUMBERS_REFUSED, OUT_OF_MEMORY, MASS_REFUSED}
@@ -13,9 +15,10 @@ IsSaid (Coded code at) s =
     (s.status ≡ TEXT_REFUSED) × (s.code ≡ code) × (place_of s ≡ at) × (s ≡ text_refused s.code (place_of s))
 IsSaid OutOfMemory s = s ≡ bare OUT_OF_MEMORY
 
--- a reason with this code, or none for memory, is told
-abbrev pub IsReason : Option ℕ → ZarSaid → Type 0
-IsReason code s = MatchOption code (s ≡ bare OUT_OF_MEMORY) (λ n. s ≡ mass_refused n)
+-- a reason is told
+abbrev pub IsToldReason : Reason → ZarSaid → Type 0
+IsToldReason (reasons.Coded code) s = s ≡ mass_refused code
+IsToldReason reasons.Memory s = s ≡ bare OUT_OF_MEMORY
 
 -- the text has no program, or its lines are refused, or memory ran out
 pub record IsRefusal (Has : SourceProgram → Type 0) (HasNone : ℕ → Option ℕ → Type 0) (Refuses : SourceProgram → ℕ → Type 0)

@@ -2,7 +2,8 @@ use Rattle.std.proofs.Common.{subst}
 use Rattle.gcl_core.specs.meaning.Syntax.{SourceProgram}
 use Rattle.gcl_core.specs.meaning.Views.{source_of}
 use Rattle.mass_lines.specs.BitLines.{IsBitLine}
-use Rattle.zar_c.proofs.Refusing.{by_cost}
+use Rattle.mass_lines.specs.Reasons.{WhyNoBits}
+use Rattle.zar_c.proofs.Refusing.{by_lines}
 use Rattle.zar_c.proofs.weighing.bits_of.Goals as goal
 
 pub returns-in-Ok-bits_text-clause-lines : goal.returns-in-Ok-bits_text-clause-lines
@@ -15,5 +16,5 @@ returns-in-Ok-bits_text-clause-lines c = λ p spells.
 pub returns-clause-refused : goal.returns-clause-refused
 returns-clause-refused c =
     let text = c.args.text.now in
-    by_cost text (c.one_reading.ensures.checked text) (source_of c.in-Ok.program) c.in-Ok.ensures.spelled c.cost_refused.result c.args.l.now c.in-Err-bits_text.error
-    c.cost_refused.ensures c.in-Err-bits_text.ensures.refused
+    by_lines text (c.one_reading.ensures.checked text) (source_of c.in-Ok.program) c.in-Ok.ensures.spelled c.told.result (λ (p : SourceProgram). WhyNoBits p c.args.l.now) c.in-Err-bits_text.why
+    c.told.ensures c.in-Err-bits_text.ensures.refused

@@ -1,8 +1,9 @@
-use Rattle.std.proofs.Common.{None, subst}
+use Rattle.std.proofs.Common.{subst}
 use Rattle.gcl_core.specs.meaning.Syntax.{SourceProgram}
 use Rattle.gcl_core.specs.meaning.Views.{source_of}
 use Rattle.mass_lines.specs.BoundLines.{AreBoundLines}
-use Rattle.zar_c.proofs.Refusing.{by_mass}
+use Rattle.mass_lines.specs.Reasons.{WhyNoBounds}
+use Rattle.zar_c.proofs.Refusing.{by_lines}
 use Rattle.zar_c.proofs.weighing.bounds_of.Goals as goal
 
 pub returns-in-Ok-bounds_text-clause-lines : goal.returns-in-Ok-bounds_text-clause-lines
@@ -15,5 +16,5 @@ returns-in-Ok-bounds_text-clause-lines c = λ p spells.
 pub returns-clause-refused : goal.returns-clause-refused
 returns-clause-refused c =
     let text = c.args.text.now in
-    by_mass text (c.one_reading.ensures.checked text) (source_of c.in-Ok.program) c.in-Ok.ensures.spelled c.mass_refused.result c.args.turns None None c.in-Err-bounds_text.error
-    c.mass_refused.ensures c.in-Err-bounds_text.ensures.refused
+    by_lines text (c.one_reading.ensures.checked text) (source_of c.in-Ok.program) c.in-Ok.ensures.spelled c.told.result (λ (p : SourceProgram). WhyNoBounds p c.args.turns) c.in-Err-bounds_text.why
+    c.told.ensures c.in-Err-bounds_text.ensures.refused

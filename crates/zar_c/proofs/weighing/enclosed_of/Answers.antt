@@ -2,7 +2,8 @@ use Rattle.std.proofs.Common.{subst}
 use Rattle.gcl_core.specs.meaning.Syntax.{SourceProgram}
 use Rattle.gcl_core.specs.meaning.Views.{source_of}
 use Rattle.mass_lines.specs.EnclosedLines.{AreEnclosedLines}
-use Rattle.zar_c.proofs.Refusing.{by_enclose}
+use Rattle.mass_lines.specs.Reasons.{WhyNotEnclosed}
+use Rattle.zar_c.proofs.Refusing.{by_lines}
 use Rattle.zar_c.proofs.weighing.enclosed_of.Goals as goal
 
 pub returns-in-Ok-enclosed_text-clause-lines : goal.returns-in-Ok-enclosed_text-clause-lines
@@ -16,5 +17,5 @@ returns-in-Ok-enclosed_text-clause-lines c = λ p spells.
 pub returns-clause-refused : goal.returns-clause-refused
 returns-clause-refused c =
     let text = c.args.text.now in
-    by_enclose text (c.one_reading.ensures.checked text) (source_of c.in-Ok.program) c.in-Ok.ensures.spelled c.enclose_refused.result c.args.turns c.args.attempts c.args.rounds c.in-Err-enclosed_text.error
-    c.enclose_refused.ensures c.in-Err-enclosed_text.ensures.refused
+    by_lines text (c.one_reading.ensures.checked text) (source_of c.in-Ok.program) c.in-Ok.ensures.spelled c.told.result (λ (p : SourceProgram). WhyNotEnclosed p c.args.turns c.args.attempts c.args.rounds) c.in-Err-enclosed_text.why
+    c.told.ensures c.in-Err-enclosed_text.ensures.refused

@@ -2,7 +2,8 @@ use Rattle.std.proofs.Common.{subst}
 use Rattle.gcl_core.specs.meaning.Syntax.{SourceProgram}
 use Rattle.gcl_core.specs.meaning.Views.{source_of}
 use Rattle.mass_lines.specs.ExactLines.{AreExactLines}
-use Rattle.zar_c.proofs.Refusing.{by_exact}
+use Rattle.mass_lines.specs.Reasons.{WhyNotExact}
+use Rattle.zar_c.proofs.Refusing.{by_lines}
 use Rattle.zar_c.proofs.weighing.exact_of.Goals as goal
 
 pub returns-in-Ok-exact_text-clause-lines : goal.returns-in-Ok-exact_text-clause-lines
@@ -15,5 +16,5 @@ returns-in-Ok-exact_text-clause-lines c = λ p spells.
 pub returns-clause-refused : goal.returns-clause-refused
 returns-clause-refused c =
     let text = c.args.text.now in
-    by_exact text (c.one_reading.ensures.checked text) (source_of c.in-Ok.program) c.in-Ok.ensures.spelled c.exact_refused.result c.in-Err-exact_text.error
-    c.exact_refused.ensures c.in-Err-exact_text.ensures.refused
+    by_lines text (c.one_reading.ensures.checked text) (source_of c.in-Ok.program) c.in-Ok.ensures.spelled c.told.result (WhyNotExact) c.in-Err-exact_text.why
+    c.told.ensures c.in-Err-exact_text.ensures.refused

@@ -2,7 +2,8 @@ use Rattle.std.proofs.Common.{subst}
 use Rattle.gcl_core.specs.meaning.Syntax.{SourceProgram}
 use Rattle.gcl_core.specs.meaning.Views.{source_of}
 use Rattle.mass_lines.specs.MassLines.{AreMassLines}
-use Rattle.zar_c.proofs.Refusing.{by_mass}
+use Rattle.mass_lines.specs.Reasons.{WhyNoMasses}
+use Rattle.zar_c.proofs.Refusing.{by_lines}
 use Rattle.zar_c.proofs.weighing.masses_of.Goals as goal
 
 pub returns-in-Ok-masses_text-clause-lines : goal.returns-in-Ok-masses_text-clause-lines
@@ -16,5 +17,5 @@ returns-in-Ok-masses_text-clause-lines c = λ p spells.
 pub returns-clause-refused : goal.returns-clause-refused
 returns-clause-refused c =
     let text = c.args.text.now in
-    by_mass text (c.one_reading.ensures.checked text) (source_of c.in-Ok.program) c.in-Ok.ensures.spelled c.mass_refused.result c.args.turns c.args.attempts c.args.rounds c.in-Err-masses_text.error
-    c.mass_refused.ensures c.in-Err-masses_text.ensures.refused
+    by_lines text (c.one_reading.ensures.checked text) (source_of c.in-Ok.program) c.in-Ok.ensures.spelled c.told.result (λ (p : SourceProgram). WhyNoMasses p c.args.turns c.args.attempts c.args.rounds) c.in-Err-masses_text.why
+    c.told.ensures c.in-Err-masses_text.ensures.refused

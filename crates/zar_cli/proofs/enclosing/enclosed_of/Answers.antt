@@ -1,17 +1,21 @@
 use Rattle.std.proofs.Common.{Err, sym, subst}
 use Rattle.gcl_core.specs.meaning.Views.{source_of}
-use Rattle.zar_cli.specs.Enclosures.{SaysEnclosure, enclosed}
+use Rattle.mass_lines.specs.EnclosedLines.{AreEnclosedLines}
+use Rattle.mass_lines.specs.Reasons.{WhyNotEnclosed}
+use Rattle.zar_cli.specs.Weighed.{ShowsOrRefuses, shown}
 use Rattle.zar_cli.specs.inner.Works.{Gives}
-use Rattle.zar_cli.proofs.Refusals.{enclosure_refused}
+use Rattle.zar_cli.proofs.Refusals.{lines_refused}
 use Rattle.zar_cli.proofs.enclosing.enclosed_of.Goals as goal
 
 pub returns-in-Ok : goal.returns-in-Ok
-returns-in-Ok c = record { gives = λ file. enclosed c.in-Ok.lines c.in-Ok.ensures.lines }
+returns-in-Ok c = record { gives = λ file. shown c.in-Ok.lines c.in-Ok.ensures.lines }
 
 pub returns-in-Err : goal.returns-in-Err
 returns-in-Err c =
     let a = c.args in
+    let p = source_of a.program.now in
+    let Are = AreEnclosedLines p a.turns a.attempts a.rounds a.all_turns a.decimals in
+    let Cause = WhyNotEnclosed p a.turns a.attempts a.rounds in
     record {
-      gives = λ file. subst (λ e. Gives (SaysEnclosure (source_of a.program.now) a.turns a.attempts a.rounds a.all_turns a.decimals) (Err e)) (sym c.enclose_refusal.ensures)
-          (enclosure_refused (source_of a.program.now) a.turns a.attempts a.rounds a.all_turns a.decimals c.in-Err.error c.in-Err.ensures.refused);
+      gives = λ file. subst (λ e. Gives (ShowsOrRefuses Are Cause) (Err e)) (sym c.refusal_by.ensures) (lines_refused Are Cause c.in-Err.reason c.in-Err.ensures.refused);
     }

@@ -1,15 +1,21 @@
 use Rattle.std.proofs.Common.{Err, sym, subst}
 use Rattle.gcl_core.specs.meaning.Views.{source_of}
-use Rattle.zar_cli.specs.Posterior.{SaysBounds, exact}
+use Rattle.mass_lines.specs.BoundLines.{AreBoundLines}
+use Rattle.mass_lines.specs.Reasons.{WhyNoBounds}
+use Rattle.zar_cli.specs.Weighed.{ShowsOrRefuses, shown}
 use Rattle.zar_cli.specs.inner.Works.{Gives}
-use Rattle.zar_cli.proofs.Refusals.{bounds_refused}
+use Rattle.zar_cli.proofs.Refusals.{lines_refused}
 use Rattle.zar_cli.proofs.posterior.bounds_of.Goals as goal
 
 pub returns-in-Ok : goal.returns-in-Ok
-returns-in-Ok c = record { gives = λ file. exact c.in-Ok.lines c.in-Ok.ensures.lines }
+returns-in-Ok c = record { gives = λ file. shown c.in-Ok.lines c.in-Ok.ensures.lines }
 
 pub returns-in-Err : goal.returns-in-Err
-returns-in-Err c = record {
-  gives = λ file. subst (λ e. Gives (SaysBounds (source_of c.args.program.now) c.args.turns c.args.decimals) (Err e)) (sym c.mass_refusal.ensures)
-      (bounds_refused (source_of c.args.program.now) c.args.turns c.args.decimals c.in-Err.error c.in-Err.ensures.refused);
-}
+returns-in-Err c =
+    let a = c.args in
+    let p = source_of a.program.now in
+    let Are = AreBoundLines p a.turns a.decimals in
+    let Cause = WhyNoBounds p a.turns in
+    record {
+      gives = λ file. subst (λ e. Gives (ShowsOrRefuses Are Cause) (Err e)) (sym c.refusal_by.ensures) (lines_refused Are Cause c.in-Err.reason c.in-Err.ensures.refused);
+    }
