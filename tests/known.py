@@ -1,13 +1,18 @@
 """What the programs of examples/models print, by methods that know nothing of `zar`: closed formulas, cases that are counted, Bayes' rule,
-linear equations whose states are eliminated one by one, and tables that go forward step by step. All numbers are fractions; those that
-hold powers of e are right to fifty decimals.
+linear equations whose states are eliminated one by one, networks whose nodes are, and tables that go forward step by step. All numbers are
+fractions; those that hold powers of e are right to fifty decimals.
 """
 import collections
 import decimal
 import functools
 import itertools
+import re
 from fractions import Fraction as F
 from math import comb, factorial, prod
+
+import source
+
+NETWORKS = source.ROOT / "examples" / "networks"
 
 LIMIT = "limit turns"
 HALF = F(1, 2)
@@ -208,6 +213,62 @@ def asia():
     return scaled(added(table))
 
 
+def tables_of(network):
+    """For each node of a file of a network the nodes that its table is of, itself first, and a weight for each setting of them."""
+    text = (NETWORKS / network).read_text(encoding="utf-8")
+    values = {node: told.split(", ") for node, told in re.findall(r"variable (\w+) \{\s+type discrete \[ \d+ \] \{ (.*) \};", text)}
+    for head, body in re.findall(r"probability \( ([^)]*) \) \{([^}]*)\}", text):
+        nodes, weights = re.findall(r"\w+", head), {}
+        for setting, row in re.findall(r"\s+(?:\((.*)\)|table) (.*);", body):
+            parents = setting.split(", ") if setting else []
+            weights |= {(value, *parents): F(it) for value, it in zip(values[nodes[0]], row.split(", "))}
+        yield nodes, weights
+
+
+def joined(first, second):
+    """The product of two tables, over the nodes of both."""
+    (nodes, weights), (others, factors) = first, second
+    shared = [it for it in others if it in nodes]
+    added_nodes = [it for it in others if it not in nodes]
+    by_shared = collections.defaultdict(list)
+    for setting, factor in factors.items():
+        of = dict(zip(others, setting))
+        by_shared[tuple(of[it] for it in shared)].append((tuple(of[it] for it in added_nodes), factor))
+    product = {}
+    for setting, weight in weights.items():
+        of = dict(zip(nodes, setting))
+        for more, factor in by_shared[tuple(of[it] for it in shared)]:
+            product[setting + more] = weight * factor
+    return nodes + added_nodes, product
+
+
+def without(node, table):
+    """A table whose weights are added up over the values of a node."""
+    nodes, weights = table
+    place = nodes.index(node)
+    return nodes[:place] + nodes[place + 1 :], added((setting[:place] + setting[place + 1 :], weight) for setting, weight in weights.items())
+
+
+def eliminated(network, query, seen):
+    """The shares of the values of a node where others are seen: the others are eliminated one by one, always one with few neighbours."""
+    tables = []
+    for nodes, weights in tables_of(network):
+        fits = lambda setting: all(seen.get(node, value) == value for node, value in zip(nodes, setting))
+        tables.append((nodes, {setting: weight for setting, weight in weights.items() if fits(setting)}))
+    left = {node for nodes, _ in tables for node in nodes} - {query}
+    while left:
+        neighbours = lambda node: len(set().union(*(nodes for nodes, _ in tables if node in nodes)))
+        node = min(sorted(left), key=neighbours)
+        left.remove(node)
+        of_node = [it for it in tables if node in it[0]]
+        tables = [it for it in tables if node not in it[0]] + [without(node, functools.reduce(joined, of_node))]
+    return scaled({setting[0]: weight for setting, weight in functools.reduce(joined, tables)[1].items()})
+
+
+def by_place(shares, values):
+    return {place: shares[value] for place, value in enumerate(values)}
+
+
 def casino(throws):
     """The forward algorithm."""
     fair, loaded = F(1), F(0)
@@ -307,6 +368,7 @@ SIXES = binomial(18, F(1, 6))
 POINTS = binomial(4, HALF)
 
 MASSES = {
+    "alarm_network": by_place(eliminated("alarm_network.bif", "lvfailure", {"hrbp": "high", "bp": "low", "pcwp": "normal"}), ("yes", "no")),
     "asia": asia(),
     "ballot": coin(F(6 - 4, 6 + 4)),
     "bernoulli_exp": bernoulli_exp(12),
