@@ -10,6 +10,7 @@ use Rattle.gcl_core.proofs.Plays.{Play, ended}
 use Rattle.cost_law.specs.ExpectedBits.{end_bits, block_bits, expected_bits}
 use Rattle.cost_law.proofs.BlockCosts.{play_bits, bits_then, play_block}
 use Rattle.forgetting.specs.Forgetful.{forgetful_of}
+use Rattle.forgetting.proofs.Trimmed.{same_costs}
 use Rattle.forgetting.proofs.Results.{value_end, with_result, start, play, forgetful_play, results_same, same_meaning}
 
 no_bits : (v : Value) → end_bits (value_end v) (λ s. zero_share) ≡ zero_share
@@ -24,7 +25,7 @@ module _ (p : SourceProgram) (n r : ℕ) where
   same_bits =
       ap (λ bits. bits (λ s. zero_share)) (sym (play_block r n (forgetful_of p).body (start p)))
       ∙ sym (bits_finish p.result r (forgetful_play p n))
-      ∙ ap (λ x. play_bits r x (λ s. zero_share)) (sym (results_same p n))
+      ∙ ap (λ bits. bits (λ s. zero_share)) (same_costs r _ _ (sym (results_same p n)))
       ∙ bits_finish p.result r (play p n)
       ∙ ap (λ bits. bits (λ s. zero_share)) (play_block r n p.body (start p))
 

@@ -1,18 +1,22 @@
--- A block and its forgetful form play alike, whatever follows that looks at what matters alone.
-use Rattle.std.proofs.Common.{◌≡◌, ℕ, zero, suc, ℤ, pos, negsuc, Bool, true, false, cond, ◌&&◌, Ok, Err, List, ◌∷◌, refl, sym, ap, subst, ◌∙◌, true≢false}
-use Rattle.std.specs.Prelude.{not, ◌==◌, slice_set, if◌then◌else◌}
+-- A block and its forgetful form play alike, whatever follows that looks at what matters alone. Alike are plays that are the same
+-- trimmed, since an arm that a draw does not have is not forgetful.
+use Rattle.std.proofs.Common.{◌≡◌, ℕ, zero, suc, ◌<◌, ℤ, pos, negsuc, Bool, true, false, cond, ◌&&◌, Ok, Err, List, ◌∷◌, length, refl, sym, ap, subst, ◌∙◌, arith, true≢false}
+use Rattle.std.specs.Prelude.{not, ◌==◌, nat_lt, slice_set, if◌then◌else◌}
 use Rattle.std.proofs.Math.Path.{fun_ext}
+use Rattle.std.proofs.lemmas.Bool.{ltb-true}
 use Rattle.gcl_core.specs.meaning.Arms.{parts_of}
 use Rattle.gcl_core.specs.meaning.Parts.{partial_sums}
 use Rattle.gcl_core.specs.meaning.Draw.{choice_ends, uniform_ends}
 use Rattle.gcl_core.specs.meaning.Syntax.{Expression, Num, Statement, Skip, Set, If, While, Choice, Choose, Uniform, Observe, Statements, done, ◌▸◌, ArmList, no_arm, arm}
 use Rattle.gcl_core.specs.meaning.Value.{State, Value, value_of, is_zero}
 use Rattle.gcl_core.specs.meaning.Blocks.{on, failed, fault, limit, by_truth, by_side}
+use Rattle.gcl_core.proofs.PartialSums.{as_many}
 use Rattle.gcl_core.proofs.Plays.{Play, ended, drawing, with_end, with_value, uniform_play, loop_play, statement_play, block_play, arm_play}
 use Rattle.forgetting.specs.Liveness.{Names, both, reads, matters_to, matters_to_arms, before_statement, before}
 use Rattle.forgetting.specs.Filling.{behind_statement}
 use Rattle.forgetting.specs.Forgetful.{forget, ends_with, forgetful_statement, forgetful, forgetful_arms}
 use Rattle.forgetting.proofs.Agreeing.{Agree, agree_on, set_agrees, forgotten_agrees, value_agrees, left_or, right_or}
+use Rattle.forgetting.proofs.Trimmed.{trimmed}
 
 -- what follows what follows
 pub then_twice : (p : Play) (f g : State → Play) → with_end (with_end p f) g ≡ with_end p (λ s. with_end (f s) g)
@@ -24,19 +28,25 @@ then_twice (drawing cs k) f g = ap (drawing cs) (fun_ext (λ i. then_twice (k i)
 
 -- what follows looks at what matters alone
 abbrev pub Looks : Names → (State → Play) → (State → Play) → Type 0
-Looks L f g = (s t : State) → Agree L s t → f s ≡ g t
+Looks L f g = (s t : State) → Agree L s t → trimmed (f s) ≡ trimmed (g t)
 
 -- two plays that are alike before all that looks at what matters alone
 pub record Alike (L : Names) (p q : Play) : Type 0 where
-  pub same : (f g : State → Play) → Looks L f g → with_end p f ≡ with_end q g
+  pub same : (f g : State → Play) → Looks L f g → trimmed (with_end p f) ≡ trimmed (with_end q g)
 
 -- ---- forms of statements
-draws_alike : (L : Names) (cs : List ℕ) (k m : ℕ → Play) → ((i : ℕ) → Alike L (k i) (m i)) → Alike L (drawing cs k) (drawing cs m)
-draws_alike L cs k m h = record { same = λ f g l. ap (drawing cs) (fun_ext (λ i. (h i).same f g l)) }
+draws_alike : (L : Names) (cs : List ℕ) (k m : ℕ → Play) → ((i : ℕ) → i < length cs → Alike L (k i) (m i)) → Alike L (drawing cs k) (drawing cs m)
+draws_alike L cs k m h = record {
+  same = λ f g l. ap (drawing cs) (fun_ext (λ i. by_test (nat_lt i (length cs)) _ _ (λ e. (h i (ltb-true i (length cs) e)).same f g l)));
+}
+  where
+    by_test : (b : Bool) (p q : Play) → (b ≡ true → p ≡ q) → cond b p (ended failed) ≡ cond b q (ended failed)
+    by_test true p q e = e refl
+    by_test false p q e = refl
 
 then_alike : (L K : Names) (p q : Play) (f g : State → Play) → Alike K p q → ((s t : State) → Agree K s t → Alike L (f s) (g t)) → Alike L (with_end p f) (with_end q g)
 then_alike L K p q f g h next = record {
-  same = λ f' g' l. then_twice p f f' ∙ h.same (λ s. with_end (f s) f') (λ t. with_end (g t) g') (λ s t a. (next s t a).same f' g' l) ∙ sym (then_twice q g g');
+  same = λ f' g' l. ap trimmed (then_twice p f f') ∙ h.same (λ s. with_end (f s) f') (λ t. with_end (g t) g') (λ s t a. (next s t a).same f' g' l) ∙ sym (ap trimmed (then_twice q g g'));
 }
 
 value_alike : (L : Names) (v w : Value) (f g : ℤ → Play) → v ≡ w → ((z : ℤ) → Alike L (f z) (g z)) → Alike L (with_value v f) (with_value w g)
@@ -62,7 +72,7 @@ on_alike L s t a = record { same = λ f g l. l s t a }
 
 uniform_alike : (L : Names) (x : ℕ) (z : ℤ) (s t : State) → Agree (λ y. not (y == x) && L y) s t → Alike L (uniform_play x z s) (uniform_play x z t)
 uniform_alike L x (pos zero) s t a = record { same = λ f g l. refl }
-uniform_alike L x (pos (suc m)) s t a = draws_alike L (uniform_ends (suc m)) _ _ (λ i. on_alike L _ _ (set_agrees L x (pos i) s t a))
+uniform_alike L x (pos (suc m)) s t a = draws_alike L (uniform_ends (suc m)) _ _ (λ i lt. on_alike L _ _ (set_agrees L x (pos i) s t a))
 uniform_alike L x (negsuc m) s t a = record { same = λ f g l. refl }
 
 -- a guard that reads what matters at the head, a body from the head to the head, and an end
@@ -130,14 +140,14 @@ module _ (n : ℕ) where
         (forget_alike count (both M F) (before c L) L (forgetful count c F L) (block_play n c s) s t (λ t a. block_alike count c F L s t a) (agree_on _ _ s t (λ y k. right_or (reads y e) _ (right_or (matters_to y b (L y)) _ k)) a)))
     statement_alike count (Choice w b c) F L s t a =
         let M = before_statement (Choice w b c) L in
-        draws_alike L (choice_ends w) _ _ (λ i. side_alike L i _ _ _ _
+        draws_alike L (choice_ends w) _ _ (λ i lt. side_alike L i _ _ _ _
         (forget_alike count (both M F) (before b L) L (forgetful count b F L) (block_play n b s) s t (λ t a. block_alike count b F L s t a) (agree_on _ _ s t (λ y k. left_or (matters_to y b (L y)) _ k) a))
         (forget_alike count (both M F) (before c L) L (forgetful count c F L) (block_play n c s) s t (λ t a. block_alike count c F L s t a) (agree_on _ _ s t (λ y k. right_or (matters_to y b (L y)) _ k) a)))
     statement_alike count (Choose arms) F L s t a =
         let M = before_statement (Choose arms) L in
         subst (λ ps. Alike L (statement_play n (Choose arms) s) (drawing (partial_sums ps) (λ i. arm_play n (forgetful_arms count arms (both M F) F L) i t)))
         (same_parts count arms (both M F) F L)
-        (draws_alike L (partial_sums (parts_of arms)) _ _ (λ i. arms_alike count arms (both M F) F L i s t a))
+        (draws_alike L (partial_sums (parts_of arms)) _ _ (λ i lt. arms_alike count arms (both M F) F L i s t (let l = as_many (parts_of arms) in omega (arith, lt, l)) a))
     statement_alike count (While e b) F L s t a =
         let M = before_statement (While e b) L in
         let G = behind_statement (While e b) F in
@@ -154,10 +164,11 @@ module _ (n : ℕ) where
         then_alike L K _ _ _ _ (statement_alike count st F K s t a)
         (λ s t a. forget_alike count (both (ends_with st K) G) K L (forgetful count b G L) (block_play n b s) s t (λ t a. block_alike count b G L s t a) a)
 
-    arms_alike : (count : ℕ) (arms : ArmList) (old F L : Names) (i : ℕ) (s t : State) → Agree (λ x. matters_to_arms x arms (L x)) s t →
+    -- at each arm that there is
+    arms_alike : (count : ℕ) (arms : ArmList) (old F L : Names) (i : ℕ) (s t : State) → i < length (parts_of arms) → Agree (λ x. matters_to_arms x arms (L x)) s t →
         Alike L (arm_play n arms i s) (arm_play n (forgetful_arms count arms old F L) i t)
-    arms_alike count no_arm old F L i s t a = on_alike L s t a
-    arms_alike count (arm p b arms) old F L zero s t a =
+    arms_alike count no_arm old F L i s t lt a = absurd (omega (arith, lt))
+    arms_alike count (arm p b arms) old F L zero s t lt a =
         forget_alike count old (before b L) L (forgetful count b F L) (block_play n b s) s t (λ t a. block_alike count b F L s t a) (agree_on _ _ s t (λ y k. left_or (matters_to y b (L y)) _ k) a)
-    arms_alike count (arm p b arms) old F L (suc i) s t a =
-        arms_alike count arms old F L i s t (agree_on _ _ s t (λ y k. right_or (matters_to y b (L y)) _ k) a)
+    arms_alike count (arm p b arms) old F L (suc i) s t lt a =
+        arms_alike count arms old F L i s t (omega (arith, lt)) (agree_on _ _ s t (λ y k. right_or (matters_to y b (L y)) _ k) a)

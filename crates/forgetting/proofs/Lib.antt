@@ -1,4 +1,5 @@
 pub mod Agreeing
+pub mod Trimmed
 pub mod Forgetting
 pub mod Results
 pub mod Marking

@@ -24,6 +24,7 @@ use Rattle.forgetting.specs.Forgetful.{forgetful_of}
 use Rattle.forgetting.specs.SameMeaning.{SameMeaning}
 use Rattle.forgetting.proofs.Agreeing.{value_agrees}
 use Rattle.forgetting.proofs.Forgetting.{Alike, block_alike}
+use Rattle.forgetting.proofs.Trimmed.{trimmed, same_bits, same_weights}
 
 -- ---- the result, as the end of a block: a state of one number
 abbrev pub value_end : Value → End
@@ -114,8 +115,8 @@ module _ (result : Expression) (r : Option ℕ) (test after_test : End → Bool)
   sums_finish : (p : Play) → sum_of test (weighed r p) ≡ sum_of after_test (weighed r (with_result result p))
   sums_finish p = marked_sum test (weighed r p) ∙ ap (sum_of (λ b. b)) (weights_finish p) ∙ sym (marked_sum after_test (weighed r (with_result result p)))
 
-  sums_same : (p q : Play) → with_result result p ≡ with_result result q → sum_of test (weighed r q) ≡ sum_of test (weighed r p)
-  sums_same p q e = sums_finish q ∙ ap (λ x. sum_of after_test (weighed r x)) (sym e) ∙ sym (sums_finish p)
+  sums_same : (p q : Play) → trimmed (with_result result p) ≡ trimmed (with_result result q) → sum_of test (weighed r q) ≡ sum_of test (weighed r p)
+  sums_same p q e = sums_finish q ∙ ap (sum_of after_test) (same_weights r _ _ (sym e)) ∙ sym (sums_finish p)
 
 meant_finish : (result : Expression) (meant : Outcome → Bool) (e : End) → ends_in result meant e ≡ ends_in (Var 0) meant (finished result e)
 meant_finish result meant (on s) = by_result (value_of result s)
@@ -151,14 +152,14 @@ module _ (p : SourceProgram) where
   plays_alike : (n : ℕ) → Alike (λ x. reads x p.result) (play n) (forgetful_play n)
   plays_alike n = block_alike n (length p.names) p.body no_names (λ x. reads x p.result) start start (record { lengths = refl; values = λ x h. refl })
 
-  pub results_same : (n : ℕ) → with_result p.result (play n) ≡ with_result p.result (forgetful_play n)
+  pub results_same : (n : ℕ) → trimmed (with_result p.result (play n)) ≡ trimmed (with_result p.result (forgetful_play n))
   results_same n = (plays_alike n).same _ _ (λ s t a. ap (λ v. ended (value_end v)) (value_agrees (λ x. reads x p.result) p.result s t (λ x k. k) a))
 
   same_rounds : (n r R : ℕ) (w : List Bool) → runs.rounds_on (forgetful_of p) n r R w ≡ runs.rounds_on p n r R w
   same_rounds n r R w =
       ap (λ body. rounds_with body p.result R w) (sym (block_bits n r (forgetful_of p).body start))
       ∙ rounds_finish p.result r (forgetful_play n) R w
-      ∙ ap (λ x. rounds_with (on_bits r x) (Var 0) R w) (sym (results_same n))
+      ∙ ap (λ body. rounds_with body (Var 0) R w) (same_bits r _ _ (sym (results_same n)))
       ∙ sym (rounds_finish p.result r (play n) R w)
       ∙ ap (λ body. rounds_with body p.result R w) (block_bits n r p.body start)
 

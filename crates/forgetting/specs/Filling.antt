@@ -12,7 +12,7 @@ is_nought (Num z) = int_eq z (pos 0)
 is_nought _ = false
 
 module _ (x : ℕ) where
-  -- Whether it may differ after, where before it may or may not. No arm of a choice is known to be taken.
+  -- Whether it may differ after, where before it may or may not: after a choice among several, whether it may after an arm.
   abbrev mutual
     pub filled_by_statement : Statement → Bool → Bool
     filled_by_statement Skip filled = filled
@@ -29,7 +29,7 @@ module _ (x : ℕ) where
     filled_by (s ▸ b) filled = filled_by b (filled_by_statement s filled)
 
     pub filled_by_arms : ArmList → Bool → Bool
-    filled_by_arms no_arm filled = filled
+    filled_by_arms no_arm filled = false
     filled_by_arms (arm p b arms) filled = filled_by b filled || filled_by_arms arms filled
 
 -- the variables that may differ from 0 behind a statement, from those that may before it

@@ -24,8 +24,7 @@ module _ (x : ℕ) where
   reads (Not a) = reads a
   reads (Bin op a b) = reads a || reads b
 
-  -- Whether its value before matters, where its value after does or does not. No arm of a choice is known to be taken, so what
-  -- matters after it matters before it.
+  -- Whether its value before matters, where its value after does or does not: to a choice among several, whether it does to an arm.
   abbrev mutual
     pub matters_to_statement : Statement → Bool → Bool
     matters_to_statement Skip after = after
@@ -42,7 +41,7 @@ module _ (x : ℕ) where
     matters_to (s ▸ b) after = matters_to_statement s (matters_to b after)
 
     pub matters_to_arms : ArmList → Bool → Bool
-    matters_to_arms no_arm after = after
+    matters_to_arms no_arm after = false
     matters_to_arms (arm p b arms) after = matters_to b after || matters_to_arms arms after
 
 -- the variables that matter before a statement or a block, from those that matter after it

@@ -38,7 +38,7 @@ pub fn behind_arms(arms: &Arms, filled: NameSet) -> NameSet
     requires { ArmsBelow MOST_NAMES (list_of_arms arms.now) }
     ensures { (y : ℕ) → marked result.marks y ≡ filled_by_arms y (list_of_arms arms.now) (marked filled.marks y) }
 {
-    let mut set = filled;
+    let mut set = NameSet::none();
     let mut i = arms.arms.len();
     while i > 0 {
         i -= 1;

@@ -31,7 +31,7 @@ pub fn before_arms(arms: &Arms, after: NameSet) -> NameSet
     requires { ArmsBelow MOST_NAMES (list_of_arms arms.now) }
     ensures { (y : ℕ) → marked result.marks y ≡ matters_to_arms y (list_of_arms arms.now) (marked after.marks y) }
 {
-    let mut set = after;
+    let mut set = NameSet::none();
     let mut i = arms.arms.len();
     while i > 0 {
         i -= 1;
