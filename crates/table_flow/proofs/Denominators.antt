@@ -13,12 +13,12 @@ use Rattle.table_flow.specs.Tables.{Table, Flow, most_states}
 use Rattle.table_flow.specs.Width.{denominator, common_denominator, weights, table_weights, fractions}
 use Rattle.table_flow.specs.Scale.{Whole, AllWhole, Wholes, TablesWithin, Within}
 use Rattle.table_flow.proofs.Wholes.{whole_from}
+use Rattle.table_flow.proofs.EachMember.{Each}
 use Rattle.table_flow.proofs.Amounts.{all_first, all_second}
 
 -- each fraction has a denominator of at least 1
 abbrev pub AllPositive : List Fraction → Type 0
-AllPositive [] = Unit {0}
-AllPositive (p ∷ ps) = (0 < p.1) × AllPositive ps
+AllPositive = Each (λ p. 0 < p.1)
 
 lcm_left : (a b : ℕ) → a ∣ lcm a b
 lcm_left a b = along_to a (a * (b / gcd a b)) (lcm a b) (sym (lcm_is a b)) (dvd-mul_right a (b / gcd a b))

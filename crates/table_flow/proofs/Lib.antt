@@ -4,6 +4,8 @@ pub mod Amounts
 pub mod DrawnLists
 pub mod Spreads
 pub mod Linear
+pub mod EachMember
+pub mod KeptEntries
 pub mod Denominators
 pub mod Draws
 pub mod Uniforms
