@@ -9,7 +9,10 @@ pub each_append : {A : Type 0} (P : A → Type 0) (J K : List A) → Each P J �
 each_append P [] K h i = i
 each_append P (e ∷ J) K h i = (h.0, each_append P J K h.1 i)
 
--- of whatever is such
-pub each_of : {A : Type 0} (P : A → Type 0) → ((e : A) → P e) → (J : List A) → Each P J
-each_of P h [] = tt
-each_of P h (e ∷ J) = (h e, each_of P h J)
+-- no fact
+abbrev pub Anything : {A : Type 0} → A → Type 0
+Anything e = Unit {0}
+
+pub each_anything : {A : Type 0} (J : List A) → Each Anything J
+each_anything [] = tt
+each_anything (e ∷ J) = (tt, each_anything J)

@@ -38,4 +38,4 @@ fit_class cut b r c [] h = tt
 fit_class cut b r c (e ∷ J) h = (h.0, fit_class cut b r c J h.1)
 
 pub units_keep_states : (cut : Rounding) → KeepsStates (units_kind cut)
-units_keep_states cut = record { moved = λ s e. refl; tidy = fit_merged; class = fit_class cut }
+units_keep_states cut = record { moved = λ s e. refl; tidy = fit_merged; at_loop = λ J h. tt; class = fit_class cut }
