@@ -74,10 +74,10 @@ counted_next F next ended =
 
 stop_ended : (F : End → Rational) (m : Weighted End) → NoOn m → integral (stop (stop F)) m ≃ integral F m
 stop_ended F [] h = same_refl nought
-stop_ended F ((w, on s) ∷ m) h = absurd h
-stop_ended F ((w, failed) ∷ m) h = add_same (same_refl (of w ⊗ F failed)) (stop_ended F m h)
-stop_ended F ((w, fault f) ∷ m) h = add_same (same_refl (of w ⊗ F (fault f))) (stop_ended F m h)
-stop_ended F ((w, limit l) ∷ m) h = add_same (same_refl (of w ⊗ F (limit l))) (stop_ended F m h)
+stop_ended F ((w, on s) ∷ m) h = absurd h.0
+stop_ended F ((w, failed) ∷ m) h = add_same (same_refl (of w ⊗ F failed)) (stop_ended F m h.1)
+stop_ended F ((w, fault f) ∷ m) h = add_same (same_refl (of w ⊗ F (fault f))) (stop_ended F m h.1)
+stop_ended F ((w, limit l) ∷ m) h = add_same (same_refl (of w ⊗ F (limit l))) (stop_ended F m h.1)
 
 counted_ended : (F : End → Rational) (next : Table) (ended : Weighted End) → NoOn ended → counted (stop F) next ended ≃ integral F ended
 counted_ended F next ended h = same_trans (add_same (integral_nought next) (stop_ended F ended h)) (nought_add (integral F ended))

@@ -12,7 +12,9 @@ use Rattle.gcl_core.specs.weighing.Fractions.{Fraction, plus, times}
 use Rattle.gcl_core.specs.weighing.WeightedEnds.{Weighted, sure, scaled, taken_on, class_weight, no_class_weight, statement_weighted, weighted_ends, end_weighted}
 use Rattle.table_flow.proofs.WeightedParts.{loop_weighted, value_weighted, uniform_weighted}
 use Rattle.gcl_core.specs.weighing.Mass.{sum_of}
-use Rattle.table_flow.specs.Tables.{Table, Flow, holds, fails, only, faults, all_end, set_to, set_below, set_drawn, not_drawn, both, loop_flow, statement_flow, block_flow, arms_flow}
+use Rattle.table_flow.specs.Tables.{Table, Flow, weighted, fractions_kind, draw_weights, draws_each, holds, fails, only, faults, all_end, set_to, set_below, set_drawn, not_drawn, both, loop_flow, statement_flow, block_flow, arms_flow}
+use Rattle.table_flow.proofs.EachMember.{Each, Anything, each_anything}
+use Rattle.table_flow.proofs.KeptEntries.{KeepsEntries, end_keeps, statement_kept, block_kept}
 use Rattle.table_flow.proofs.ArmEnds.{arm_ends, choose_weighted}
 use Rattle.table_flow.proofs.Amounts.{whole_zero}
 use Rattle.table_flow.proofs.Spreads.{sum_of_all, after_weight, Zero, spread, sum_append, sum_none, sum_scaled, sum_taken, zero_after, times_assoc, times_one, sum_ext, spread_scaled, sure_sum, sum_ext_below, sum_set_below, draw_sum, scaled_one}
@@ -22,12 +24,14 @@ abbrev pub flowed : (Fraction → End → ℕ) → Flow → ℕ
 flowed F f = sum_of_all (λ w s. F w (on s)) f.next + sum_of_all F f.ended
 
 -- no entry that ended goes on
+abbrev pub IsOver : Fraction × End → Type 0
+IsOver (w, on s) = ⊥
+IsOver (w, failed) = Unit {0}
+IsOver (w, fault f) = Unit {0}
+IsOver (w, limit l) = Unit {0}
+
 abbrev pub NoOn : Weighted End → Type 0
-NoOn [] = Unit {0}
-NoOn ((w, on s) ∷ m) = ⊥
-NoOn ((w, failed) ∷ m) = NoOn m
-NoOn ((w, fault f) ∷ m) = NoOn m
-NoOn ((w, limit l) ∷ m) = NoOn m
+NoOn = Each IsOver
 
 -- one statement, then the others
 abbrev pub onward : (Fraction → End → ℕ) → (State → Weighted End) → Fraction → End → ℕ
@@ -38,10 +42,10 @@ onward_zero F k z d x = sum_none F d (by_end x sure k) z
 
 onward_ended : (F : Fraction → End → ℕ) (k : State → Weighted End) (m : Weighted End) → NoOn m → sum_of_all (onward F k) m ≡ sum_of_all F m
 onward_ended F k [] h = refl
-onward_ended F k ((w, on s) ∷ m) h = absurd h
-onward_ended F k ((w, failed) ∷ m) h = let i = onward_ended F k m h in let a = ap (λ v. F v failed) (times_one w) in omega arith
-onward_ended F k ((w, fault f) ∷ m) h = let i = onward_ended F k m h in let a = ap (λ v. F v (fault f)) (times_one w) in omega arith
-onward_ended F k ((w, limit l) ∷ m) h = let i = onward_ended F k m h in let a = ap (λ v. F v (limit l)) (times_one w) in omega arith
+onward_ended F k ((w, on s) ∷ m) h = absurd h.0
+onward_ended F k ((w, failed) ∷ m) h = let i = onward_ended F k m h.1 in let a = ap (λ v. F v failed) (times_one w) in omega arith
+onward_ended F k ((w, fault f) ∷ m) h = let i = onward_ended F k m h.1 in let a = ap (λ v. F v (fault f)) (times_one w) in omega arith
+onward_ended F k ((w, limit l) ∷ m) h = let i = onward_ended F k m h.1 in let a = ap (λ v. F v (limit l)) (times_one w) in omega arith
 
 onward_next : (F : Fraction → End → ℕ) (k : State → Weighted End) (m : Table) → sum_of_all (λ w s. onward F k w (on s)) m ≡ spread F m k
 onward_next F k [] = refl
@@ -88,69 +92,36 @@ spread_guard F v a c (e ∷ I) z = at_head (v e.1) refl (spread_guard F v a c I 
         by_zero false i = omega arith
 
 -- ---- what ended does not go on
-no_append : (m n : Weighted End) → NoOn m → NoOn n → NoOn (m ++ n)
-no_append [] n h k = k
-no_append ((w, on s) ∷ m) n h k = absurd h
-no_append ((w, failed) ∷ m) n h k = no_append m n h k
-no_append ((w, fault f) ∷ m) n h k = no_append m n h k
-no_append ((w, limit l) ∷ m) n h k = no_append m n h k
+none_goes_on : (r : Option ℕ) → KeepsEntries fractions_kind r Anything Anything Anything Anything Anything IsOver Anything
+none_goes_on r = record {
+  asked = record {
+    block = λ st b h. (tt, tt);
+    guarded = λ e a c h. (tt, tt);
+    choice = λ p a c h. (tt, tt);
+    choose = λ arms h. tt;
+    arms = λ p a arms h. (tt, tt);
+    loop = λ e a h. tt;
+  };
+  tidy = λ I h. h;
+  at_loop = λ I h. (h, tt);
+  faulty = λ f e h. tt;
+  failing = λ e h. tt;
+  turns = λ v a s e h. tt;
+  set = λ i v s e h z q. tt;
+  drawn = λ i v s e h b q m le d g. tt;
+  number = λ m. tt;
+  choice = λ p a c s. tt;
+  choose = λ arms s. tt;
+  class = λ b d c I h. each_anything (scaled (class_weight b r c) I);
+  rest = λ b d I h. end_keeps weighted Anything IsOver (limit Attempts) (λ e p. tt) (scaled (no_class_weight b r) I) (each_anything (scaled (no_class_weight b r) I));
+  shown = λ b d I h. each_anything (draws_each (draw_weights b r) I);
+}
 
-no_faults : (v : State → Value) (I : Table) → NoOn (faults v I)
-no_faults v [] = tt
-no_faults v (e ∷ I) = at_head (v e.1) (no_faults v I)
-  where
-    at_head : (o : Value) → NoOn (faults v I) → NoOn (by_value o (λ f. (e.0, fault f) ∷ faults v I) (λ z. faults v I))
-    at_head (Ok z) h = h
-    at_head (Err f) h = h
+pub no_one : (n : ℕ) (r : Option ℕ) (st : Statement) (I : Table) → NoOn (statement_flow n r st I).ended
+no_one n r st I = (statement_kept (none_goes_on r) n st tt I (each_anything I)).ended
 
-no_limits : (l : _) (I : Table) → NoOn (all_end (limit l) I)
-no_limits l [] = tt
-no_limits l (e ∷ I) = no_limits l I
-
-no_failed : (I : Table) → NoOn (all_end failed I)
-no_failed [] = tt
-no_failed (e ∷ I) = no_failed I
-
-no_undrawn : (v : State → Value) (r : Option ℕ) (I : Table) → NoOn (not_drawn v r I)
-no_undrawn v r [] = tt
-no_undrawn v r (e ∷ I) = no_append (by_value (v e.1) (λ f. (e.0, fault f) ∷ []) (λ z. by_bound z ((e.0, fault BadBound) ∷ []) (λ m. all_end (limit Attempts) (scaled (no_class_weight m r) (e ∷ []))))) (not_drawn v r I) (by_state (v e.1)) (no_undrawn v r I)
-  where
-    by_sign : (z : ℤ) → NoOn (by_bound z ((e.0, fault BadBound) ∷ []) (λ m. all_end (limit Attempts) (scaled (no_class_weight m r) (e ∷ []))))
-    by_sign (pos zero) = tt
-    by_sign (pos (suc m)) = no_limits Attempts (scaled (no_class_weight (suc m) r) (e ∷ []))
-    by_sign (negsuc m) = tt
-
-    by_state : (o : Value) → NoOn (by_value o (λ f. (e.0, fault f) ∷ []) (λ z. by_bound z ((e.0, fault BadBound) ∷ []) (λ m. all_end (limit Attempts) (scaled (no_class_weight m r) (e ∷ [])))))
-    by_state (Ok z) = by_sign z
-    by_state (Err f) = tt
-
-module _ (n : ℕ) (r : Option ℕ) where
-  no_turns : (v : State → Value) (b : Statements) → ((I : Table) → NoOn (block_flow n r b I).ended) → (t : ℕ) (J : Table) → NoOn (loop_flow v (block_flow n r b) t J).ended
-  no_turns v b h zero J = no_append (faults v J) _ (no_faults v J) (no_limits Turns (only (holds v) J))
-  no_turns v b h (suc t) J = no_append (faults v J) _ (no_faults v J) (no_append (block_flow n r b (only (holds v) J)).ended _ (h (only (holds v) J)) (no_turns v b h t (block_flow n r b (only (holds v) J)).next))
-
-  mutual
-    pub no_one : (st : Statement) (I : Table) → NoOn (statement_flow n r st I).ended
-    no_one Skip I = tt
-    no_one (Set x e) I = no_faults (value_of e) I
-    no_one (Observe e) I = no_append (faults (value_of e) I) _ (no_faults (value_of e) I) (no_failed (only (fails (value_of e)) I))
-    no_one (Uniform x e) I = no_undrawn (value_of e) r I
-    no_one (If e a c) I = no_append (faults (value_of e) I) _ (no_faults (value_of e) I) (no_append (block_flow n r a (only (holds (value_of e)) I)).ended _ (no_all a (only (holds (value_of e)) I)) (no_all c (only (fails (value_of e)) I)))
-    no_one (Choice p a c) I =
-        no_append (all_end (limit Attempts) (scaled (no_class_weight p.den r) I)) _ (no_limits Attempts (scaled (no_class_weight p.den r) I))
-        (no_append (block_flow n r a (scaled (class_weight p.den r p.num) I)).ended _ (no_all a (scaled (class_weight p.den r p.num) I)) (no_all c (scaled (class_weight p.den r (p.den - p.num)) I)))
-    no_one (Choose arms) I =
-        let b = sum (parts_of arms) in
-        no_append (all_end (limit Attempts) (scaled (no_class_weight b r) I)) _ (no_limits Attempts (scaled (no_class_weight b r) I)) (no_arms b arms I)
-    no_one (While e a) I = no_turns (value_of e) a (no_all a) n I
-
-    pub no_all : (b : Statements) (I : Table) → NoOn (block_flow n r b I).ended
-    no_all done I = tt
-    no_all (st ▸ b) I = no_append (statement_flow n r st I).ended _ (no_one st I) (no_all b (statement_flow n r st I).next)
-
-    no_arms : (b : ℕ) (arms : ArmList) (I : Table) → NoOn (arms_flow n r b arms I).ended
-    no_arms b no_arm I = tt
-    no_arms b (arm p a arms) I = no_append (block_flow n r a (scaled (class_weight b r p) I)).ended _ (no_all a (scaled (class_weight b r p) I)) (no_arms b arms I)
+no_all : (n : ℕ) (r : Option ℕ) (b : Statements) (I : Table) → NoOn (block_flow n r b I).ended
+no_all n r b I = (block_kept (none_goes_on r) n b tt I (each_anything I)).ended
 
 -- ---- a flow holds the paths
 spread_sure : (F : Fraction → End → ℕ) (x : State → End) (I : Table) → sum_of_all (λ w s. F w (x s)) I ≡ spread F I (λ s. sure (x s))
