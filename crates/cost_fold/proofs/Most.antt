@@ -1,74 +1,36 @@
 -- The draws that a table reaches are whole at its scale, and read no more than the longest reading, by the weight of the table.
-use Rattle.std.proofs.Common.{◌≡◌, ℕ, zero, suc, ◌+◌, ◌-◌, ◌*◌, ◌^◌, ◌≤◌, ◌<◌, max, ℤ, pos, negsuc, Bool, true, false, cond, List, [], ◌∷◌, ◌++◌, map, Ok, Err, Some, slice_set, refl, subst, arith}
+use Rattle.std.proofs.Common.{◌≡◌, ℕ, zero, suc, ◌+◌, ◌-◌, ◌*◌, ◌^◌, ◌≤◌, ◌<◌, max, ℤ, pos, negsuc, true, List, [], ◌∷◌, ◌++◌, Ok, Err, Some, refl, subst, arith}
 use Rattle.std.proofs.Math.Nat.{mul-le-mul_left, mul-le-mul_right}
 use Rattle.std.proofs.lemmas.Bool.{ltb-true}
-use Rattle.gcl_core.specs.declared.answers.Limit.TheVariants.{Attempts}
 use Rattle.gcl_core.specs.meaning.Syntax.{Expression, Statement, Skip, Set, If, While, Choice, Choose, Uniform, Observe, Statements, done, ◌▸◌, ArmList, no_arm, arm}
 use Rattle.std.specs.List.{sum}
 use Rattle.gcl_core.specs.meaning.Arms.{parts_of}
 use Rattle.gcl_core.specs.meaning.Parts.{partial_sums}
 use Rattle.gcl_core.specs.meaning.Bounds.{StatementIsWeighed, BlockIsWeighed, ArmsAreWeighed, ExpressionFits, StatementFits, BlockFits, ArmsFit}
 use Rattle.gcl_core.specs.meaning.Draw.{bits_for, last_end, choice_ends, uniform_ends}
-use Rattle.gcl_core.specs.meaning.Fitting.{state_fits}
 use Rattle.gcl_core.specs.weighing.LongestReading.{longest_statement, longest, longest_arm}
 use Rattle.gcl_core.specs.meaning.Value.{State, Value, value_of, fits_64}
-use Rattle.gcl_core.specs.meaning.Blocks.{limit, by_value, by_bound}
-use Rattle.gcl_core.specs.weighing.WeightedEnds.{scaled, class_weight, no_class_weight}
+use Rattle.gcl_core.specs.meaning.Blocks.{by_value, by_bound}
+use Rattle.gcl_core.specs.weighing.WeightedEnds.{scaled, class_weight}
 use Rattle.gcl_core.proofs.PartialSums.{last_is}
 use Rattle.gcl_core.proofs.Classes.{bits_le}
-use Rattle.gcl_core.proofs.FittingValues.{number_fits, set_fits, value_fits}
+use Rattle.gcl_core.proofs.FittingValues.{value_fits}
 use Rattle.gcl_core.proofs.EqualClasses.{last_of_equal}
-use Rattle.weighing_law.proofs.WeightedLists.{EachEntry, each-append, each-scaled}
 use Rattle.cost_law.specs.ExpectedBits.{number_bits}
-use Rattle.table_flow.specs.Tables.{Table, holds, fails, only, faults, all_end, set_to, set_below, set_drawn, both, loop_flow, statement_flow, block_flow, arms_flow, draws_each, draw_weights}
+use Rattle.table_flow.specs.Tables.{Table, weighted, fractions_kind, holds, fails, only, faults, loop_flow, statement_flow, block_flow, arms_flow}
 use Rattle.table_flow.specs.Reached.{ReachedDraws, drawn_each, drawn_bound, loop_draws, statement_draws, block_draws, arms_draws}
 use Rattle.table_flow.specs.Scale.{whole, amount, weight, Wholes, Within}
-use Rattle.table_flow.proofs.Amounts.{amount_append, both_first, both_second, all_second, tables_first, tables_second, ends_first, ends_second, all_first}
-use Rattle.table_flow.proofs.Kept.{guard_weight, ends_whole, choice_kept, head_whole, arms_weight, choose_inside, first_arm, other_arms, arms_kept, kept_one, kept_all}
+use Rattle.table_flow.proofs.Amounts.{amount_append, both_first, both_second}
+use Rattle.table_flow.proofs.InsideFlows.{head_whole, first_inside, others_inside, turn_inside, turns_inside, side_first, side_second, choose_inside, first_arm, other_arms}
+use Rattle.table_flow.proofs.Kept.{guard_weight, arms_weight, arms_kept, kept_one, kept_all, sides_kept}
+use Rattle.table_flow.proofs.FittingTables.{AllFit, fit_only, fractions_keep_states, statement_fit, block_fit}
 use Rattle.mass_fold.specs.Metering.{Priced, price}
 use Rattle.mass_fold.proofs.MeterFolds.{priced_first, priced_second}
 use Rattle.cost_fold.proofs.Prices.{price_most}
 
 -- ---- states of 64 bits
-abbrev pub AllFit : Table → Type 0
-AllFit I = EachEntry state_fits I
-
-fit_only : (test : State → Bool) (I : Table) → AllFit I → AllFit (only test I)
-fit_only test [] h = tt
-fit_only test (e ∷ I) h = at_head (test e.1) (fit_only test I h.1)
-  where
-    at_head : (b : Bool) → AllFit (only test I) → AllFit (cond b (e ∷ only test I) (only test I))
-    at_head true i = (h.0, i)
-    at_head false i = i
-
-fit_set : (x : ℕ) (e : Expression) (I : Table) → ExpressionFits e → AllFit I → AllFit (set_to x (value_of e) I)
-fit_set x e [] f h = tt
-fit_set x e (d ∷ I) f h = at_head (value_of e d.1) refl (fit_set x e I f h.1)
-  where
-    at_head : (o : Value) → value_of e d.1 ≡ o → AllFit (set_to x (value_of e) I) → AllFit (by_value o (λ f. set_to x (value_of e) I) (λ z. (d.0, slice_set d.1 x z) ∷ set_to x (value_of e) I))
-    at_head (Ok z) q i = (set_fits d.1 x z h.0 (value_fits e d.1 z f h.0 q), i)
-    at_head (Err g) q i = i
-
-fit_below : (x b m : ℕ) → m ≤ b → b < 2 ^ 63 → (J : Table) → AllFit J → AllFit (set_below x m J)
-fit_below x b zero k lt J h = tt
-fit_below x b (suc m) k lt J h = each-append state_fits (set_below x m J) _ (fit_below x b m (omega arith) lt J h) (moved J h)
-  where
-    moved : (J : Table) → AllFit J → AllFit (map (λ e. (e.0, slice_set e.1 x (pos m))) J)
-    moved [] h = tt
-    moved (e ∷ J) h = (set_fits e.1 x (pos m) h.0 (number_fits m b (omega arith) lt), moved J h.1)
-
-fit_drawn : (x r : ℕ) (e : Expression) (I : Table) → ExpressionFits e → AllFit I → AllFit (set_drawn x (value_of e) (Some r) I)
-fit_drawn x r e [] f h = tt
-fit_drawn x r e (d ∷ I) f h = each-append state_fits _ (set_drawn x (value_of e) (Some r) I) (by_state (value_of e d.1) refl) (fit_drawn x r e I f h.1)
-  where
-    by_sign : (z : ℤ) → fits_64 z ≡ true → AllFit (by_bound z [] (λ m. set_below x m (scaled (class_weight m (Some r) 1) (d ∷ []))))
-    by_sign (pos zero) k = tt
-    by_sign (pos (suc m)) k = fit_below x (suc m) (suc m) (omega arith) (ltb-true _ _ k) (scaled (class_weight (suc m) (Some r) 1) (d ∷ [])) (each-scaled state_fits (class_weight (suc m) (Some r) 1) (d ∷ []) (h.0, tt))
-    by_sign (negsuc m) k = tt
-
-    by_state : (o : Value) → value_of e d.1 ≡ o → AllFit (by_value o (λ f. []) (λ z. by_bound z [] (λ m. set_below x m (scaled (class_weight m (Some r) 1) (d ∷ [])))))
-    by_state (Ok z) q = by_sign z (value_fits e d.1 z f h.0 q)
-    by_state (Err g) q = tt
+abbrev StatesFit : Table → Type 0
+StatesFit = AllFit weighted
 
 -- ---- lists of draws
 wholes_append : (N : ℕ) (a b : ReachedDraws) → Wholes N a → Wholes N b → Wholes N (a ++ b)
@@ -122,7 +84,7 @@ module _ (r N M : ℕ) where
       let x = mul-le-mul_left (whole N e.0) (price_most ends r M p.0) in
       record { whole = (w.0, i.whole); most = let y = i.most in omega arith }
 
-  most_bound : (e : Expression) (I : Table) → ExpressionFits e → AllFit I → Wholes N I → Priced (Some r) M (drawn_bound (value_of e) I) → DrawsMost r N M (drawn_bound (value_of e) I) (weight N I) (63 * r)
+  most_bound : (e : Expression) (I : Table) → ExpressionFits e → StatesFit I → Wholes N I → Priced (Some r) M (drawn_bound (value_of e) I) → DrawsMost r N M (drawn_bound (value_of e) I) (weight N I) (63 * r)
   most_bound e [] f a w p = none_most 0 (63 * r)
   most_bound e (d ∷ I) f a w p =
       let v = value_of e in
@@ -157,34 +119,32 @@ module _ (r N M : ℕ) where
 -- ---- statements and blocks
 module _ (n r N L M : ℕ) where
   abbrev StatementMost : Statement → Type 0
-  StatementMost st = (I : Table) → Wholes N I → AllFit I → Wholes N (statement_flow n (Some r) st I).next → Within N L (statement_flow n (Some r) st I) → Priced (Some r) M (statement_draws n (Some r) st I) →
-      DrawsMost r N M (statement_draws n (Some r) st I) (weight N I) (longest_statement n r st) × AllFit (statement_flow n (Some r) st I).next
+  StatementMost st = (I : Table) → Wholes N I → StatesFit I → Wholes N (statement_flow n (Some r) st I).next → Within N L (statement_flow n (Some r) st I) → Priced (Some r) M (statement_draws n (Some r) st I) →
+      DrawsMost r N M (statement_draws n (Some r) st I) (weight N I) (longest_statement n r st)
 
   abbrev BlockMost : Statements → Type 0
-  BlockMost b = (I : Table) → Wholes N I → AllFit I → Within N L (block_flow n (Some r) b I) → Priced (Some r) M (block_draws n (Some r) b I) →
-      DrawsMost r N M (block_draws n (Some r) b I) (weight N I) (longest n r b) × AllFit (block_flow n (Some r) b I).next
+  BlockMost b = (I : Table) → Wholes N I → StatesFit I → Within N L (block_flow n (Some r) b I) → Priced (Some r) M (block_draws n (Some r) b I) →
+      DrawsMost r N M (block_draws n (Some r) b I) (weight N I) (longest n r b)
 
-  turns_most : (v : State → Value) (b : Statements) → BlockIsWeighed b → BlockMost b → (t : ℕ) (I : Table) → Wholes N I → AllFit I → Within N L (loop_flow v (block_flow n (Some r) b) t I) →
+  turns_most : (v : State → Value) (b : Statements) → BlockIsWeighed b → BlockFits b → BlockMost b → (t : ℕ) (I : Table) → Wholes N I → StatesFit I → Within N L (loop_flow v (block_flow n (Some r) b) t I) →
       Priced (Some r) M (loop_draws v (block_draws n (Some r) b) (block_flow n (Some r) b) t I) →
-      DrawsMost r N M (loop_draws v (block_draws n (Some r) b) (block_flow n (Some r) b) t I) (weight N I) (t * longest n r b) × AllFit (loop_flow v (block_flow n (Some r) b) t I).next
-  turns_most v b w h zero I wi a s k = (none_most r N M (weight N I) (0 * longest n r b), fit_only (fails v) I a)
-  turns_most v b w h (suc t) I wi a s k =
+      DrawsMost r N M (loop_draws v (block_draws n (Some r) b) (block_flow n (Some r) b) t I) (weight N I) (t * longest n r b)
+  turns_most v b w f h zero I wi a s k = none_most r N M (weight N I) (0 * longest n r b)
+  turns_most v b w fit h (suc t) I wi a s k =
       let A = only (holds v) I in
       let f = block_flow n (Some r) b A in
-      let g = loop_flow v (block_flow n (Some r) b) t f.next in
-      let sf : Within N L f = record { tables = tables_first N L f.tables g.tables s.tables.2; ended = ends_first N f.ended g.ended (ends_second N (faults v I) (f.ended ++ g.ended) s.ended); draws = all_first N f.draws g.draws s.draws } in
-      let sg : Within N L g = record { tables = tables_second N L f.tables g.tables s.tables.2; ended = ends_second N f.ended g.ended (ends_second N (faults v I) (f.ended ++ g.ended) s.ended); draws = all_second N f.draws g.draws s.draws } in
+      let sf = turn_inside n (Some r) N L v b t I s in
+      let sg = turns_inside n (Some r) N L v b t I s in
       let D = block_draws n (Some r) b A in
       let E = loop_draws v (block_draws n (Some r) b) (block_flow n (Some r) b) t f.next in
       let guard = guard_weight N v I in
       let kept = kept_all n (Some r) N L b w A sf in
-      let x = h A (head_whole n (Some r) N L b A sf.tables) (fit_only (holds v) I a) sf (priced_first (Some r) M D E k) in
-      let y = turns_most v b w h t f.next (head_turns t f.next sg) x.1 sg (priced_second (Some r) M D E k) in
-      let d = most_up r N M D (weight N A) (weight N I) (longest n r b) (longest n r b) (omega arith) (omega arith) x.0 in
-      let e = most_up r N M E (weight N f.next) (weight N I) (t * longest n r b) (t * longest n r b) (omega arith) (omega arith) y.0 in (
-        most_up r N M (D ++ E) (weight N I) (weight N I) (longest n r b + t * longest n r b) (suc t * longest n r b) (omega arith) (omega arith) (most_after r N M D E (weight N I) (longest n r b) (t * longest n r b) d e),
-        each-append state_fits (only (fails v) I) g.next (fit_only (fails v) I a) y.1,
-      )
+      let af = fit_only weighted (holds v) I a in
+      let x = h A (head_whole n (Some r) N L b A sf.tables) af sf (priced_first (Some r) M D E k) in
+      let y = turns_most v b w fit h t f.next (head_turns t f.next sg) (block_fit fractions_kind fractions_keep_states n (Some r) b fit A af) sg (priced_second (Some r) M D E k) in
+      let d = most_up r N M D (weight N A) (weight N I) (longest n r b) (longest n r b) (omega arith) (omega arith) x in
+      let e = most_up r N M E (weight N f.next) (weight N I) (t * longest n r b) (t * longest n r b) (omega arith) (omega arith) y in
+      most_up r N M (D ++ E) (weight N I) (weight N I) (longest n r b + t * longest n r b) (suc t * longest n r b) (omega arith) (omega arith) (most_after r N M D E (weight N I) (longest n r b) (t * longest n r b) d e)
     where
       head_turns : (t : ℕ) (J : Table) → Within N L (loop_flow v (block_flow n (Some r) b) t J) → Wholes N J
       head_turns zero J s = s.tables.0
@@ -192,10 +152,10 @@ module _ (n r N L M : ℕ) where
 
   mutual
     statement_most : (st : Statement) → StatementIsWeighed st → StatementFits st → StatementMost st
-    statement_most Skip w f I wi a x s k = (none_most r N M (weight N I) 0, a)
-    statement_most (Set y e) w f I wi a x s k = (none_most r N M (weight N I) 0, fit_set y e I f a)
-    statement_most (Observe e) w f I wi a x s k = (none_most r N M (weight N I) 0, fit_only (holds (value_of e)) I a)
-    statement_most (Uniform y e) w f I wi a x s k = (most_bound r N M e I f a wi k, fit_drawn y r e I f a)
+    statement_most Skip w f I wi a x s k = none_most r N M (weight N I) 0
+    statement_most (Set y e) w f I wi a x s k = none_most r N M (weight N I) 0
+    statement_most (Observe e) w f I wi a x s k = none_most r N M (weight N I) 0
+    statement_most (Uniform y e) w f I wi a x s k = most_bound r N M e I f a wi k
     statement_most (If e p q) w f I wi a x s k =
         let v = value_of e in
         let A = only (holds v) I in
@@ -208,35 +168,30 @@ module _ (n r N L M : ℕ) where
         let E = block_draws n (Some r) q C in
         let m = max (longest n r p) (longest n r q) in
         let guard = guard_weight N v I in
-        let y = block_most p w.0 f.1 A (head_whole n (Some r) N L p A sf.tables) (fit_only (holds v) I a) sf (priced_first (Some r) M D E k) in
-        let z = block_most q w.1 f.2 C (head_whole n (Some r) N L q C sg.tables) (fit_only (fails v) I a) sg (priced_second (Some r) M D E k) in
-        let d = most_up r N M D (weight N A) (weight N A) (longest n r p) m (omega arith) (omega arith) y.0 in
-        let e = most_up r N M E (weight N C) (weight N C) (longest n r q) m (omega arith) (omega arith) z.0 in
-        (most_up r N M (D ++ E) (weight N A + weight N C) (weight N I) m m (omega arith) (omega arith) (most_beside r N M D E (weight N A) (weight N C) m d e), each-append state_fits F.next G.next y.1 z.1)
+        let y = block_most p w.0 f.1 A (head_whole n (Some r) N L p A sf.tables) (fit_only weighted (holds v) I a) sf (priced_first (Some r) M D E k) in
+        let z = block_most q w.1 f.2 C (head_whole n (Some r) N L q C sg.tables) (fit_only weighted (fails v) I a) sg (priced_second (Some r) M D E k) in
+        let d = most_up r N M D (weight N A) (weight N A) (longest n r p) m (omega arith) (omega arith) y in
+        let e = most_up r N M E (weight N C) (weight N C) (longest n r q) m (omega arith) (omega arith) z in
+        most_up r N M (D ++ E) (weight N A + weight N C) (weight N I) m m (omega arith) (omega arith) (most_beside r N M D E (weight N A) (weight N C) m d e)
     statement_most (Choice c p q) w f I wi a x s k =
         let A = scaled (class_weight c.den (Some r) c.num) I in
         let C = scaled (class_weight c.den (Some r) (c.den - c.num)) I in
-        let Z = scaled (no_class_weight c.den (Some r)) I in
-        let F = block_flow n (Some r) p A in
-        let G = block_flow n (Some r) q C in
-        let ze = all_end (limit Attempts) Z in
-        let sw : Within N L (both ze F G) = record { tables = s.tables; ended = s.ended; draws = all_second N (draws_each (draw_weights c.den (Some r)) I) (F.draws ++ G.draws) s.draws } in
-        let sf = both_first N L ze F G sw in
-        let sg = both_second N L ze F G sw in
+        let sf = side_first n (Some r) N L c p q I s in
+        let sg = side_second n (Some r) N L c p q I s in
         let D = block_draws n (Some r) p A in
         let E = block_draws n (Some r) q C in
         let B = drawn_each (choice_ends c) I in
         let m = max (longest n r p) (longest n r q) in
         let wa = head_whole n (Some r) N L p A sf.tables in
         let wc = head_whole n (Some r) N L q C sg.tables in
-        let kept = choice_kept N c.num c.den (Some r) I w.0.at_most_one (let o = w.0.positive in omega arith) wi wa wc (ends_whole N (limit Attempts) Z (ends_first N ze (F.ended ++ G.ended) s.ended)) in
+        let kept = sides_kept n (Some r) N L c p q I w.0 wi s in
         let rest = priced_second (Some r) M B (D ++ E) k in
-        let y = block_most p w.1 f.0 A wa (each-scaled state_fits (class_weight c.den (Some r) c.num) I a) sf (priced_first (Some r) M D E rest) in
-        let z = block_most q w.2 f.1 C wc (each-scaled state_fits (class_weight c.den (Some r) (c.den - c.num)) I a) sg (priced_second (Some r) M D E rest) in
-        let d = most_up r N M D (weight N A) (weight N A) (longest n r p) m (omega arith) (omega arith) y.0 in
-        let e = most_up r N M E (weight N C) (weight N C) (longest n r q) m (omega arith) (omega arith) z.0 in
+        let y = block_most p w.1 f.0 A wa (fractions_keep_states.class c.den (Some r) c.num I a) sf (priced_first (Some r) M D E rest) in
+        let z = block_most q w.2 f.1 C wc (fractions_keep_states.class c.den (Some r) (c.den - c.num) I a) sg (priced_second (Some r) M D E rest) in
+        let d = most_up r N M D (weight N A) (weight N A) (longest n r p) m (omega arith) (omega arith) y in
+        let e = most_up r N M E (weight N C) (weight N C) (longest n r q) m (omega arith) (omega arith) z in
         let both_sides = most_up r N M (D ++ E) (weight N A + weight N C) (weight N I) m m (omega arith) (omega arith) (most_beside r N M D E (weight N A) (weight N C) m d e) in
-        (most_after r N M B (D ++ E) (weight N I) (bits_for c.den * r) m (most_each r N M (choice_ends c) I wi (priced_first (Some r) M B (D ++ E) k)) both_sides, each-append state_fits F.next G.next y.1 z.1)
+        most_after r N M B (D ++ E) (weight N I) (bits_for c.den * r) m (most_each r N M (choice_ends c) I wi (priced_first (Some r) M B (D ++ E) k)) both_sides
     statement_most (Choose arms) w f I wi a x s k =
         let b = sum (parts_of arms) in
         let ends = partial_sums (parts_of arms) in
@@ -244,44 +199,40 @@ module _ (n r N L M : ℕ) where
         let D = arms_draws n (Some r) b arms I in
         let kept = arms_kept n (Some r) N L arms I w.0 wi s in
         let y = arms_most b arms w.1 f I wi a (choose_inside n (Some r) N L arms I s) (priced_second (Some r) M B D k) in
-        let d = most_up r N M D (arms_weight N b (Some r) (parts_of arms) I) (weight N I) (longest_arm n r arms) (longest_arm n r arms) (omega arith) (omega arith) y.0 in
+        let d = most_up r N M D (arms_weight N b (Some r) (parts_of arms) I) (weight N I) (longest_arm n r arms) (longest_arm n r arms) (omega arith) (omega arith) y in
         let each = most_each r N M ends I wi (priced_first (Some r) M B D k) in
-        (most_after r N M B D (weight N I) (bits_for b * r) (longest_arm n r arms) (subst (λ b. DrawsMost r N M B (weight N I) (bits_for b * r)) (last_is (parts_of arms)) each) d, y.1)
-    statement_most (While e p) w f I wi a x s k = turns_most (value_of e) p w (block_most p w f.1) n I wi a s k
+        most_after r N M B D (weight N I) (bits_for b * r) (longest_arm n r arms) (subst (λ b. DrawsMost r N M B (weight N I) (bits_for b * r)) (last_is (parts_of arms)) each) d
+    statement_most (While e p) w f I wi a x s k = turns_most (value_of e) p w f.1 (block_most p w f.1) n I wi a s k
 
-    pub block_most : (b : Statements) → BlockIsWeighed b → BlockFits b → (I : Table) → Wholes N I → AllFit I → Within N L (block_flow n (Some r) b I) → Priced (Some r) M (block_draws n (Some r) b I) →
-        DrawsMost r N M (block_draws n (Some r) b I) (weight N I) (longest n r b) × AllFit (block_flow n (Some r) b I).next
-    block_most done w f I wi a s k = (none_most r N M (weight N I) 0, a)
+    pub block_most : (b : Statements) → BlockIsWeighed b → BlockFits b → (I : Table) → Wholes N I → StatesFit I → Within N L (block_flow n (Some r) b I) → Priced (Some r) M (block_draws n (Some r) b I) →
+        DrawsMost r N M (block_draws n (Some r) b I) (weight N I) (longest n r b)
+    block_most done w f I wi a s k = none_most r N M (weight N I) 0
     block_most (st ▸ b) w f I wi a s k =
         let F = statement_flow n (Some r) st I in
-        let G = block_flow n (Some r) b F.next in
-        let sf : Within N L F = record { tables = tables_first N L F.tables G.tables s.tables.2; ended = ends_first N F.ended G.ended s.ended; draws = all_first N F.draws G.draws s.draws } in
-        let sg : Within N L G = record { tables = tables_second N L F.tables G.tables s.tables.2; ended = ends_second N F.ended G.ended s.ended; draws = all_second N F.draws G.draws s.draws } in
+        let sf = first_inside n (Some r) N L st b I s in
+        let sg = others_inside n (Some r) N L st b I s in
         let D = statement_draws n (Some r) st I in
         let E = block_draws n (Some r) b F.next in
         let wn = head_whole n (Some r) N L b F.next sg.tables in
         let kept = kept_one n (Some r) N L st I w.0 wi wn sf in
         let y = statement_most st w.0 f.0 I wi a wn sf (priced_first (Some r) M D E k) in
-        let z = block_most b w.1 f.1 F.next wn y.1 sg (priced_second (Some r) M D E k) in
-        let e = most_up r N M E (weight N F.next) (weight N I) (longest n r b) (longest n r b) (omega arith) (omega arith) z.0 in
-        (most_after r N M D E (weight N I) (longest_statement n r st) (longest n r b) y.0 e, z.1)
+        let z = block_most b w.1 f.1 F.next wn (statement_fit fractions_kind fractions_keep_states n (Some r) st f.0 I a) sg (priced_second (Some r) M D E k) in
+        let e = most_up r N M E (weight N F.next) (weight N I) (longest n r b) (longest n r b) (omega arith) (omega arith) z in
+        most_after r N M D E (weight N I) (longest_statement n r st) (longest n r b) y e
 
     -- the arms of a draw with b parts
-    arms_most : (b : ℕ) (arms : ArmList) → ArmsAreWeighed arms → ArmsFit arms → (I : Table) → Wholes N I → AllFit I → Within N L (arms_flow n (Some r) b arms I) → Priced (Some r) M (arms_draws n (Some r) b arms I) →
-        DrawsMost r N M (arms_draws n (Some r) b arms I) (arms_weight N b (Some r) (parts_of arms) I) (longest_arm n r arms) × AllFit (arms_flow n (Some r) b arms I).next
-    arms_most b no_arm w f I wi a s k = (none_most r N M 0 0, tt)
+    arms_most : (b : ℕ) (arms : ArmList) → ArmsAreWeighed arms → ArmsFit arms → (I : Table) → Wholes N I → StatesFit I → Within N L (arms_flow n (Some r) b arms I) → Priced (Some r) M (arms_draws n (Some r) b arms I) →
+        DrawsMost r N M (arms_draws n (Some r) b arms I) (arms_weight N b (Some r) (parts_of arms) I) (longest_arm n r arms)
+    arms_most b no_arm w f I wi a s k = none_most r N M 0 0
     arms_most b (arm q p arms) w f I wi a s k =
-        let u = class_weight b (Some r) q in
-        let A = scaled u I in
-        let F = block_flow n (Some r) p A in
-        let G = arms_flow n (Some r) b arms I in
+        let A = scaled (class_weight b (Some r) q) I in
         let sf = first_arm n (Some r) N L b q p arms I s in
         let D = block_draws n (Some r) p A in
         let E = arms_draws n (Some r) b arms I in
         let m = max (longest n r p) (longest_arm n r arms) in
         let V = arms_weight N b (Some r) (parts_of arms) I in
-        let y = block_most p w.0 f.0 A (head_whole n (Some r) N L p A sf.tables) (each-scaled state_fits u I a) sf (priced_first (Some r) M D E k) in
+        let y = block_most p w.0 f.0 A (head_whole n (Some r) N L p A sf.tables) (fractions_keep_states.class b (Some r) q I a) sf (priced_first (Some r) M D E k) in
         let z = arms_most b arms w.1 f.1 I wi a (other_arms n (Some r) N L b q p arms I s) (priced_second (Some r) M D E k) in
-        let d = most_up r N M D (weight N A) (weight N A) (longest n r p) m (omega arith) (omega arith) y.0 in
-        let e = most_up r N M E V V (longest_arm n r arms) m (omega arith) (omega arith) z.0 in
-        (most_beside r N M D E (weight N A) V m d e, each-append state_fits F.next G.next y.1 z.1)
+        let d = most_up r N M D (weight N A) (weight N A) (longest n r p) m (omega arith) (omega arith) y in
+        let e = most_up r N M E V V (longest_arm n r arms) m (omega arith) (omega arith) z in
+        most_beside r N M D E (weight N A) V m d e

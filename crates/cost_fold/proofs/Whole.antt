@@ -132,7 +132,7 @@ module _ (p : SourceProgram) (l : Limits) (ok : IsChecked p) where
   priced = priced_at r (most_bits r D) D (omega arith)
 
   most : DrawsMost r Q M D (weight Q s) Long
-  most = (block_most n r Q (peak_of p n (Some r)) M p.body w ok.numbers.body s ((whole_from Q one Q (omega arith) (omega arith)).1, tt) (zeros_fit (length p.names), tt) (at_width p n (Some r) w).within priced).0
+  most = block_most n r Q (peak_of p n (Some r)) M p.body w ok.numbers.body s ((whole_from Q one Q (omega arith) (omega arith)).1, tt) (zeros_fit (length p.names), tt) (at_width p n (Some r) w).within priced
 
   few : X ≤ N * Long
   few = let a : whole Q one ≡ Q = (whole_from Q one Q (omega arith) (omega arith)).0 in let m = most.most in bounded X (whole Q one) Q M Long a m

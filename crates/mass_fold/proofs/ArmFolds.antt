@@ -14,8 +14,9 @@ use Rattle.numbers.specs.Fraction.{IsEqual}
 use Rattle.table_flow.specs.Tables.{Table, Flow, all_end, statement_flow, block_flow, arms_flow, draws_each, draw_weights, states}
 use Rattle.table_flow.specs.Scale.{Whole, Wholes, Within, amount, weight}
 use Rattle.table_flow.specs.Counts.{none_stopped, all_kept}
-use Rattle.table_flow.proofs.Amounts.{amount_append, ends_first, all_first}
-use Rattle.table_flow.proofs.Kept.{all_end_weight, ends_whole, arms_weight, choose_inside, first_arm, other_arms, arms_kept, kept_one, kept_arms}
+use Rattle.table_flow.proofs.Amounts.{ends_whole, amount_append, ends_first, all_first}
+use Rattle.table_flow.proofs.InsideFlows.{choose_inside, first_arm, other_arms}
+use Rattle.table_flow.proofs.Kept.{all_end_weight, arms_weight, arms_kept, kept_one, kept_arms}
 use Rattle.table_flow.proofs.Draws.{class_pos}
 use Rattle.mass_fold.specs.declared.error.MassError.{MassError}
 use Rattle.mass_fold.specs.declared.ended.Ended.{Ended}

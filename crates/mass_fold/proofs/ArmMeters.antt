@@ -13,7 +13,7 @@ use Rattle.numbers.specs.Fraction.{IsEqual}
 use Rattle.table_flow.specs.Tables.{Table, Flow, statement_flow, block_flow, arms_flow}
 use Rattle.table_flow.specs.Reached.{ReachedDraws, drawn_each, statement_draws, block_draws, arms_draws}
 use Rattle.table_flow.specs.Scale.{amount}
-use Rattle.table_flow.proofs.Kept.{first_arm}
+use Rattle.table_flow.proofs.InsideFlows.{first_arm}
 use Rattle.mass_fold.specs.declared.ended.Ended.{Ended}
 use Rattle.mass_fold.specs.declared.meter.Meter.{Meter}
 use Rattle.mass_fold.specs.inner.Amounts.{Entries}

@@ -14,7 +14,8 @@ use Rattle.gcl_core.specs.weighing.WeightedEnds.{Weighted}
 use Rattle.table_flow.specs.Tables.{Table, Flow, holds, fails, only, faults, all_end, set_to, statement_flow, block_flow, states}
 use Rattle.table_flow.specs.Scale.{Wholes, TablesWithin, Within, amount, weight}
 use Rattle.table_flow.specs.Counts.{moved, stopped, kept_if, none_kept, none_stopped, all_kept, all_stopped, part_at, rest_at, drawn, undrawn, multiplied}
-use Rattle.table_flow.proofs.Amounts.{amount_append, amount_only, amount_faults, amount_all_end, amount_set, amount_none, amount_sum, tables_first, tables_second, ends_first, ends_second, all_first, all_second, both_first, both_second, regroup}
+use Rattle.table_flow.proofs.Amounts.{amount_append, amount_only, amount_faults, amount_all_end, amount_set, amount_none, amount_sum, both_first, both_second, regroup}
+use Rattle.table_flow.proofs.InsideFlows.{first_inside, others_inside}
 use Rattle.table_flow.proofs.Kept.{kept_one, kept_all, guard_weight}
 use Rattle.table_flow.proofs.Uniforms.{drawn_next, drawn_ended, drawn_whole}
 use Rattle.table_flow.proofs.NoneReached.{none_counts}
@@ -83,19 +84,9 @@ module _ (n : ℕ) (r : Option ℕ) where
 
   pub first_of : (N L : ℕ) (st : Statement) (b : Statements) (I : Table) → Within N L (block_flow n r (st ▸ b) I) → Around N L I (statement_flow n r st I) × Within N L (block_flow n r b (statement_flow n r st I).next)
   first_of N L st b I w =
-      let f = statement_flow n r st I in
-      let g = block_flow n r b f.next in
-      let t = tables_second N L f.tables g.tables w.tables.2 in
-      let h = head_few N L b f.next t in (
-        record {
-          before = w.tables.0;
-          after = h.0;
-          few_before = w.tables.1;
-          few_after = h.1;
-          inside = record { tables = tables_first N L f.tables g.tables w.tables.2; ended = ends_first N f.ended g.ended w.ended; draws = all_first N f.draws g.draws w.draws };
-        },
-        record { tables = t; ended = ends_second N f.ended g.ended w.ended; draws = all_second N f.draws g.draws w.draws },
-      )
+      let others = others_inside n r N L st b I w in
+      let h = head_few N L b (statement_flow n r st I).next others.tables in
+      (record { before = w.tables.0; after = h.0; few_before = w.tables.1; few_after = h.1; inside = first_inside n r N L st b I w }, others)
 
   -- ---- sequences, by what is left of them
   abbrev pub FoldsOn : (Table → Flow) → Statements → Entries → Ended → Entries → Ended → Type 0

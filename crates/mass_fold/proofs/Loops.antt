@@ -9,7 +9,8 @@ use Rattle.gcl_core.specs.weighing.WeightedEnds.{Weighted}
 use Rattle.table_flow.specs.Tables.{Table, Flow, holds, fails, only, faults, all_end, loop_flow, block_flow, states}
 use Rattle.table_flow.specs.Scale.{Within, amount, weight}
 use Rattle.table_flow.specs.Counts.{stopped, kept_if, none_kept, none_stopped, all_kept, all_stopped}
-use Rattle.table_flow.proofs.Amounts.{amount_append, amount_all_end, tables_first, tables_second, ends_first, ends_second, all_first, all_second}
+use Rattle.table_flow.proofs.Amounts.{amount_append, amount_all_end}
+use Rattle.table_flow.proofs.InsideFlows.{turn_inside, turns_inside}
 use Rattle.table_flow.proofs.Kept.{kept_all, kept_turns, guard_weight}
 use Rattle.table_flow.proofs.NoneReached.{none_counts}
 use Rattle.mass_fold.specs.declared.error.MassError.{MassError}
@@ -49,15 +50,6 @@ module _ (n : ℕ) (r : Option ℕ) (e : Expression) (b : Statements) (es : Entr
   head_turn : (N L t : ℕ) (I : Table) → Within N L (turns t I) → states I ≤ L
   head_turn N L zero I w = w.tables.1
   head_turn N L (suc t) I w = w.tables.1
-
-  -- what is inside one turn
-  pub turn_inside : (N L t : ℕ) (K : Table) → Within N L (turns (suc t) K) → Within N L (body (only (holds v) K)) × Within N L (turns t (body (only (holds v) K)).next)
-  turn_inside N L t K w =
-      let f = body (only (holds v) K) in
-      let g = turns t f.next in (
-        record { tables = tables_first N L f.tables g.tables w.tables.2; ended = ends_first N f.ended g.ended (ends_second N (faults v K) (f.ended ++ g.ended) w.ended); draws = all_first N f.draws g.draws w.draws },
-        record { tables = tables_second N L f.tables g.tables w.tables.2; ended = ends_second N f.ended g.ended (ends_second N (faults v K) (f.ended ++ g.ended) w.ended); draws = all_second N f.draws g.draws w.draws },
-      )
 
   -- what stands of weight in the midst of a loop
   weighs : (N L t : ℕ) (I : Table) (J : Weighted End) (now exits : Entries) (F : Ended) → BlockIsWeighed b → Within N L (turns n I) → (at : LoopAt turns n t now exits F N L I J) → weight N at.table + (weight N at.out + weight N at.gone) ≡ weight N I + weight N J
@@ -112,8 +104,7 @@ module _ (n : ℕ) (r : Option ℕ) (e : Expression) (b : Statements) (es : Entr
         let g = turns t f.next in
         let p = looked_first n r v now first second F G d c N K at.gone Np at.stands at.stopped in
         let q = looked_second n r v now first second F G d c N K at.gone Np at.stands at.stopped in
-        let i = turn_inside N L t K at.inside in
-        let z = x N L A (at.gone ++ faults v K) Np p.0 p.1 i.0 in
+        let z = x N L A (at.gone ++ faults v K) Np p.0 p.1 (turn_inside n r N L v b t K at.inside) in
         record {
           table = f.next;
           out = at.out ++ only (fails v) K;
@@ -121,7 +112,7 @@ module _ (n : ℕ) (r : Option ℕ) (e : Expression) (b : Statements) (es : Entr
           stands = z.0;
           collected = merged N exits second exits' G at.out (only (fails v) K) Np (m G) p.1.kept at.collected q.0;
           stopped = z.1;
-          inside = i.1;
+          inside = turns_inside n r N L v b t K at.inside;
           going = λ U. let p = at.going U in let q = amount_append N U at.out (only (fails v) K) in let o = amount_append N U (only (fails v) K) g.next in omega arith;
           stopping = λ U. let p = at.stopping U in let q = amount_append N U (at.gone ++ faults v K) f.ended in let o = amount_append N U at.gone (faults v K) in
               let x = amount_append N U (faults v K) (f.ended ++ g.ended) in let y = amount_append N U f.ended g.ended in omega arith;
@@ -140,7 +131,7 @@ module _ (n : ℕ) (r : Option ℕ) (e : Expression) (b : Statements) (es : Entr
         let p = looked_first n r v now first second F G d c N K at.gone Np at.stands at.stopped in
         let g = guard_weight N v K in
         let o = amount_append N (λ x. 1) at.gone (faults v K) in
-        x N L (only (holds v) K) (at.gone ++ faults v K) Np p.0 p.1 (turn_inside N L t K at.inside).0 (omega arith)
+        x N L (only (holds v) K) (at.gone ++ faults v K) Np p.0 p.1 (turn_inside n r N L v b t K at.inside) (omega arith)
 
   module _ (now exits : Entries) (F : Ended) (l : LoopsOn turns n 0 es E now exits F) (first second : Entries) (G : Ended)
       (d : StepsTo (kept_if (holds v)) (stopped v) [] now F first G) (c : StepsTo (kept_if (fails v)) (stopped v) [] now F second G) where

@@ -15,6 +15,7 @@ use Rattle.table_flow.specs.Reached.{ReachedDraws, drawn_each, drawn_bound, stat
 use Rattle.table_flow.specs.Scale.{amount, weight}
 use Rattle.table_flow.specs.Counts.{stopped, kept_if}
 use Rattle.table_flow.proofs.Amounts.{amount_append, both_first, both_second}
+use Rattle.table_flow.proofs.InsideFlows.{side_first, side_second}
 use Rattle.table_flow.proofs.NoneReached.{amount_drawn_each, amount_drawn_bound, none_one}
 use Rattle.mass_fold.specs.declared.ended.Ended.{Ended}
 use Rattle.mass_fold.specs.declared.meter.Meter.{Meter}
@@ -136,10 +137,8 @@ module _ (n : ℕ) (r : Option ℕ) where
       let C = choices.C n r p a c w es E I in
       let Z = choices.Z n r p a c w es E I in
       let fa = block_flow n r a A in
-      let fc = block_flow n r c C in
-      let i = choices.inside n r p a c w es E N L I wi in
       let q = d N L I J Np s t (choices.sides_within n r p a c w es E N L I wi) in
-      let wa = both_first N L Z fa fc i in
+      let wa = side_first n r N L p a c I wi.inside in
       let u = x N L A (J ++ Z) Np q.0 q.2 wa in
       let D = drawn_each (choice_ends p) I in
       let rest = priced_second r M D (block_draws n r a A ++ block_draws n r c C) pr in
@@ -147,7 +146,7 @@ module _ (n : ℕ) (r : Option ℕ) where
       (draw_counts r (choice_ends p) p.den refl es m mid N M I Np Mp s (priced_first r M D (block_draws n r a A ++ block_draws n r c C) pr) h)
       (both_counted N (N * M) (price r M) (block_draws n r a A) (block_draws n r c C) mid now m'
       (y N M L A (J ++ Z) Np Mp q.0 q.2 wa (priced_first r M (block_draws n r a A) (block_draws n r c C) rest))
-      (z N M L C ((J ++ Z) ++ fa.ended) Np Mp q.1 u.1 (both_second N L Z fa fc i) (priced_second r M (block_draws n r a A) (block_draws n r c C) rest)))
+      (z N M L C ((J ++ Z) ++ fa.ended) Np Mp q.1 u.1 (side_second n r N L p a c I wi.inside) (priced_second r M (block_draws n r a A) (block_draws n r c C) rest)))
 
   pub meters_as : (st st' : Statement) (es : Entries) (E : Ended) (m m' : Meter) → st ≡ st' → MetersOne r (statement_flow n r st') (statement_draws n r st') es E m m' → MetersOne r (statement_flow n r st) (statement_draws n r st) es E m m'
   meters_as st st' es E m m' p h = subst (λ st. MetersOne r (statement_flow n r st) (statement_draws n r st) es E m m') (sym p) h

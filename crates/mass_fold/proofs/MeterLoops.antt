@@ -20,7 +20,8 @@ use Rattle.mass_fold.specs.inner.Fold.{Stands, EndStands, FoldsTo, LoopAt}
 use Rattle.mass_fold.specs.Metering.{Priced, price}
 use Rattle.mass_fold.specs.inner.Metering.{Counted, Meters, MetersOne}
 use Rattle.mass_fold.proofs.Folds.{looked_first, looked_second}
-use Rattle.mass_fold.proofs.Loops.{turned, turn_inside}
+use Rattle.mass_fold.proofs.Loops.{turned}
+use Rattle.table_flow.proofs.InsideFlows.{turn_inside}
 use Rattle.mass_fold.proofs.Meters.{counted_none, counted_then, counted_as}
 use Rattle.mass_fold.proofs.MeterFolds.{priced_first, priced_second}
 
@@ -73,9 +74,8 @@ module _ (n : ℕ) (r : Option ℕ) (e : Expression) (b : Statements) (es : Entr
         let f = block_flow n r b A in
         let p = looked_first n r v now first second F G d c N K a.at.gone Np a.at.stands a.at.stopped in
         let q = looked_second n r v now first second F G d c N K a.at.gone Np a.at.stands a.at.stopped in
-        let i = turn_inside n r e b es E N L t K a.at.inside in
         let o = amount_append N (price r M) (block_draws n r b A) (draws t f.next) in
-        let z = y N M L A (a.at.gone ++ faults v K) Np Mp p.0 p.1 i.0 (priced_first r M (block_draws n r b A) (draws t f.next) a.left) in
+        let z = y N M L A (a.at.gone ++ faults v K) Np Mp p.0 p.1 (turn_inside n r N L v b t K a.at.inside) (priced_first r M (block_draws n r b A) (draws t f.next) a.left) in
         record {
           at = turned n r e b es E t now exits F first second G d c exits' now' H k x N L I J Np a.at;
           many = a.many + amount N (price r M) (block_draws n r b A);

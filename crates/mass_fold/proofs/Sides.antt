@@ -13,11 +13,12 @@ use Rattle.gcl_core.specs.weighing.WeightedEnds.{Weighted, scaled, class_weight,
 use Rattle.numbers.specs.Fraction.{IsEqual}
 use Rattle.numbers.specs.Arithmetic.{product_of}
 use Rattle.numbers.proofs.Divisors.{product_pos, cancel}
-use Rattle.table_flow.specs.Tables.{Table, all_end, both, statement_flow, block_flow, draws_each, draw_weights}
-use Rattle.table_flow.specs.Scale.{whole, Whole, Wholes, AllWhole, Within, amount, weight}
+use Rattle.table_flow.specs.Tables.{Table, all_end, statement_flow, block_flow, draws_each, draw_weights}
+use Rattle.table_flow.specs.Scale.{whole, Whole, Wholes, AllWhole, amount, weight}
 use Rattle.table_flow.specs.Counts.{none_kept, none_stopped, all_kept, all_stopped}
-use Rattle.table_flow.proofs.Amounts.{amount_append, amount_all_end, ends_first, all_first, all_second, both_first, both_second, regroup}
-use Rattle.table_flow.proofs.Kept.{kept_one, kept_all, all_end_weight, ends_whole, choice_kept}
+use Rattle.table_flow.proofs.Amounts.{amount_append, amount_all_end, all_first, regroup}
+use Rattle.table_flow.proofs.InsideFlows.{side_first, side_second, undecided_whole}
+use Rattle.table_flow.proofs.Kept.{kept_one, kept_all, all_end_weight, choice_kept, sides_kept}
 use Rattle.table_flow.proofs.Wholes.{whole_from, product_refused}
 use Rattle.table_flow.proofs.Draws.{each_part, class_pos, no_class_pos, parts_add_up}
 use Rattle.mass_fold.specs.declared.error.MassError.{MassError}
@@ -196,17 +197,11 @@ module _ (n : ℕ) (r : Option ℕ) (p : Weight) (a c : Statements) (w : IsWeigh
   abbrev pub Z : Table → Weighted End
   Z I = all_end (limit limit_kind.Attempts) (scaled (no_class_weight p.den r) I)
 
-  pub inside : (N L : ℕ) (I : Table) → Around N L I (statement_flow n r (Choice p a c) I) → Within N L (both (Z I) (block_flow n r a (A I)) (block_flow n r c (C I)))
-  inside N L I h = record { tables = h.inside.tables; ended = h.inside.ended; draws = all_second N (draws_each (draw_weights p.den r) I) ((block_flow n r a (A I)).draws ++ (block_flow n r c (C I)).draws) h.inside.draws }
-
   pub sides_within : (N L : ℕ) (I : Table) → Around N L I (statement_flow n r (Choice p a c) I) → SidesWithin N L p r I
   sides_within N L I h =
-      let fa = block_flow n r a (A I) in
-      let fc = block_flow n r c (C I) in
-      let i = inside N L I h in
-      let x = head_few n r N L a (A I) (both_first N L (Z I) fa fc i).tables in
-      let y = head_few n r N L c (C I) (both_second N L (Z I) fa fc i).tables in
-      record { before = h.before; first = x.0; second = y.0; third = ends_whole N (limit limit_kind.Attempts) (scaled (no_class_weight p.den r) I) (ends_first N (Z I) (fa.ended ++ fc.ended) i.ended); few_first = x.1; few_second = y.1 }
+      let x = head_few n r N L a (A I) (side_first n r N L p a c I h.inside).tables in
+      let y = head_few n r N L c (C I) (side_second n r N L p a c I h.inside).tables in
+      record { before = h.before; first = x.0; second = y.0; third = undecided_whole n r N L p a c I h.inside; few_first = x.1; few_second = y.1 }
 
   pub sides_blame : (error : MassError) → (es ≡ [] → ⊥) → SidesBlame p r es E error → OneBlames (statement_flow n r (Choice p a c)) es E error
   sides_blame error some d N L I J Np s t h m =
@@ -219,52 +214,46 @@ module _ (n : ℕ) (r : Option ℕ) (p : Weight) (a c : Statements) (w : IsWeigh
     fold_choice ls cs rs G H x y m N L I J Np s t h =
         let fa = block_flow n r a (A I) in
         let fc = block_flow n r c (C I) in
-        let i = inside N L I h in
         let q = d N L I J Np s t (sides_within N L I h) in
-        let u = x N L (A I) (J ++ Z I) Np q.0 q.2 (both_first N L (Z I) fa fc i) in
-        let o = y N L (C I) ((J ++ Z I) ++ fa.ended) Np q.1 u.1 (both_second N L (Z I) fa fc i) in (
+        let u = x N L (A I) (J ++ Z I) Np q.0 q.2 (side_first n r N L p a c I h.inside) in
+        let o = y N L (C I) ((J ++ Z I) ++ fa.ended) Np q.1 u.1 (side_second n r N L p a c I h.inside) in (
           merged N ls cs rs H fa.next fc.next Np (m H) o.1.kept u.0 o.0,
           end_along N H _ _ (λ K. regroup K N (J ++ Z I) fa.ended fc.ended ∙ regroup K N J (Z I) (fa.ended ++ fc.ended)) o.1,
         )
 
     weighed_up : (N L : ℕ) (I : Table) → Around N L I (statement_flow n r (Choice p a c) I) → weight N (Z I) + (weight N (A I) + weight N (C I)) ≡ weight N I
     weighed_up N L I h =
-        let q = sides_within N L I h in
         let z = all_end_weight N (limit limit_kind.Attempts) (scaled (no_class_weight p.den r) I) in
-        let k = choice_kept N p.num p.den r I w.at_most_one (let z = w.positive in omega arith) q.before q.first q.second q.third in
+        let k = sides_kept n r N L p a c I w h.before h.inside in
         omega arith
 
     pub first_blames : (error : MassError) → FoldBlames (block_flow n r a) first F error → OneBlames (statement_flow n r (Choice p a c)) es E error
     first_blames error x N L I J Np s t h m =
-        let i = inside N L I h in
         let q = d N L I J Np s t (sides_within N L I h) in
         let k = weighed_up N L I h in
         let o = amount_append N (λ x. 1) J (Z I) in
-        x N L (A I) (J ++ Z I) Np q.0 q.2 (both_first N L (Z I) (block_flow n r a (A I)) (block_flow n r c (C I)) i) (omega arith)
+        x N L (A I) (J ++ Z I) Np q.0 q.2 (side_first n r N L p a c I h.inside) (omega arith)
 
     module _ (ls : Entries) (G : Ended) (x : FoldsTo (block_flow n r a) first F ls G) (wa : BlockIsWeighed a) where
       pub second_blames : (error : MassError) → FoldBlames (block_flow n r c) second G error → OneBlames (statement_flow n r (Choice p a c)) es E error
       second_blames error y N L I J Np s t h m =
           let fa = block_flow n r a (A I) in
-          let fc = block_flow n r c (C I) in
-          let i = inside N L I h in
           let q = d N L I J Np s t (sides_within N L I h) in
-          let wf = both_first N L (Z I) fa fc i in
+          let wf = side_first n r N L p a c I h.inside in
           let u = x N L (A I) (J ++ Z I) Np q.0 q.2 wf in
           let k = weighed_up N L I h in
           let o = amount_append N (λ x. 1) J (Z I) in
           let j = amount_append N (λ x. 1) (J ++ Z I) fa.ended in
           let z = kept_all n r N L a wa (A I) wf in
-          y N L (C I) ((J ++ Z I) ++ fa.ended) Np q.1 u.1 (both_second N L (Z I) fa fc i) (omega arith)
+          y N L (C I) ((J ++ Z I) ++ fa.ended) Np q.1 u.1 (side_second n r N L p a c I h.inside) (omega arith)
 
       pub both_blame : (cs : Entries) (H : Ended) (error : MassError) → BlockIsWeighed c → FoldsTo (block_flow n r c) second G cs H → ((E : Ended) → StepBlames all_kept none_stopped ls cs E error) → OneBlames (statement_flow n r (Choice p a c)) es E error
       both_blame cs H error wc y b N L I J Np s t h m =
           let fa = block_flow n r a (A I) in
           let fc = block_flow n r c (C I) in
-          let i = inside N L I h in
           let q = d N L I J Np s t (sides_within N L I h) in
-          let u = x N L (A I) (J ++ Z I) Np q.0 q.2 (both_first N L (Z I) fa fc i) in
-          let o = y N L (C I) ((J ++ Z I) ++ fa.ended) Np q.1 u.1 (both_second N L (Z I) fa fc i) in
+          let u = x N L (A I) (J ++ Z I) Np q.0 q.2 (side_first n r N L p a c I h.inside) in
+          let o = y N L (C I) ((J ++ Z I) ++ fa.ended) Np q.1 u.1 (side_second n r N L p a c I h.inside) in
           let z = kept_one n r N L (Choice p a c) I (w, wa, wc) h.before h.after h.inside in
           merge_blamed N L ls cs E error fa.next fc.next (fa.next ++ fc.next) J Np (b E) t u.0 o.0 (λ G. let i = amount_append N G fa.next fc.next in omega arith) (omega arith) h.few_after (omega arith)
 

@@ -14,10 +14,11 @@ use Rattle.gcl_core.specs.meaning.Value.{State, Value, value_of}
 use Rattle.gcl_core.specs.meaning.Blocks.{End, limit}
 use Rattle.gcl_core.specs.weighing.Fractions.{Fraction}
 use Rattle.gcl_core.specs.weighing.WeightedEnds.{Weighted, scaled, class_weight, no_class_weight}
-use Rattle.table_flow.specs.Tables.{Table, holds, fails, only, faults, all_end, both, draws_each, draw_weights, only_go, faults_go, end_go, statement_go, loop_flow, statement_flow, block_flow, arms_flow, states}
+use Rattle.table_flow.specs.Tables.{Table, holds, fails, only, faults, all_end, only_go, faults_go, end_go, statement_go, loop_flow, statement_flow, block_flow, arms_flow, states}
 use Rattle.table_flow.specs.Scale.{Wholes, Within, amount, weight}
-use Rattle.table_flow.proofs.Amounts.{amount_append, both_first, both_second, tables_first, tables_second, ends_first, ends_second, all_first, all_second}
-use Rattle.table_flow.proofs.Kept.{arms_weight, guard_weight, all_end_weight, ends_whole, head_whole, choose_inside, first_arm, other_arms, choice_kept, arms_kept, kept_turns, kept_one, kept_all}
+use Rattle.table_flow.proofs.Amounts.{ends_whole, amount_append, both_first, both_second, ends_first}
+use Rattle.table_flow.proofs.InsideFlows.{head_whole, first_inside, others_inside, turn_inside, turns_inside, side_first, side_second, undecided_whole, choose_inside, first_arm, other_arms}
+use Rattle.table_flow.proofs.Kept.{arms_weight, guard_weight, all_end_weight, choice_kept, arms_kept, kept_turns, kept_one, kept_all}
 use Rattle.units_law.specs.Rounding.{Rounding}
 use Rattle.units_law.specs.Units.{held, total}
 use Rattle.units_law.proofs.Blocks.{class_stands, rest_stands, tidied as table_tidied, only_stands, faults_stand, end_stands, beside as table_beside, beside_ended, statement_stands}
@@ -439,8 +440,8 @@ module _ (low high : Rounding) (steer : Steering) (n : ℕ) (r : Option ℕ) (pa
       let M = loop_flow v (block_flow n r b) (suc t) I in
       let f' = block_flow n r b (only (holds v) I) in
       let g' = loop_flow v (block_flow n r b) t f'.next in
-      let wf : Within N L f' = record { tables = tables_first N L f'.tables g'.tables s.tables.2; ended = ends_first N f'.ended g'.ended (ends_second N (faults v I) (f'.ended ++ g'.ended) s.ended); draws = all_first N f'.draws g'.draws s.draws } in
-      let wg : Within N L g' = record { tables = tables_second N L f'.tables g'.tables s.tables.2; ended = ends_second N f'.ended g'.ended (ends_second N (faults v I) (f'.ended ++ g'.ended) s.ended); draws = all_second N f'.draws g'.draws s.draws } in
+      let wf = turn_inside n r N L v b t I s in
+      let wg = turns_inside n r N L v b t I s in
       let g = enters v f in
       let x = enters_follow v f X Xs I E h in
       let y = m g ((X ++ only (fails v) I, W) ∷ Xs) (only (holds v) I) (E ++ faults v I) wf x in
@@ -487,15 +488,12 @@ module _ (low high : Rounding) (steer : Steering) (n : ℕ) (r : Option ℕ) (pa
           let B : Table → Table = scaled (class_weight o.den r (o.den - o.num)) in
           let C : Table → Table = scaled (no_class_weight o.den r) in
           let z : Table → Weighted End = λ I. all_end (limit Attempts) (C I) in
-          let f' = block_flow n r b (A I) in
-          let g' = block_flow n r d (B I) in
-          let sw : Within N L (both (z I) f' g') = record { tables = s.tables; ended = s.ended; draws = all_second N (draws_each (draw_weights o.den r) I) (f'.draws ++ g'.draws) s.draws } in
-          let wf = both_first N L (z I) f' g' sw in
-          let wg = both_second N L (z I) f' g' sw in
+          let wf = side_first n r N L o b d I s in
+          let wg = side_second n r N L o b d I s in
           let d0 : 0 < o.den = let z = p.0.positive in omega arith in
           let ha = wholes_split N (scaled_splits (class_weight o.den r o.num) h.next) (head_whole n r N L b (A I) wf.tables) in
           let hb = wholes_split N (scaled_splits (class_weight o.den r (o.den - o.num)) h.next) (head_whole n r N L d (B I) wg.tables) in
-          let hc = wholes_split N (scaled_splits (no_class_weight o.den r) h.next) (ends_whole N (limit Attempts) (C I) (ends_first N (z I) (f'.ended ++ g'.ended) s.ended)) in
+          let hc = wholes_split N (scaled_splits (no_class_weight o.den r) h.next) (undecided_whole n r N L o b d I s) in
           let hi = wholes_split N h.next w in
           let k = choice_kept N o.num o.den r h.I2 p.0.at_most_one d0 hi.1 ha.1 hb.1 hc.1 in
           let ez = all_end_weight N (limit Attempts) (C h.I2) in
@@ -536,8 +534,8 @@ module _ (low high : Rounding) (steer : Steering) (n : ℕ) (r : Option ℕ) (pa
       block_follows (st ▸ b) p f Xs I E s h =
           let f' = statement_flow n r st I in
           let g' = block_flow n r b f'.next in
-          let sf : Within N L f' = record { tables = tables_first N L f'.tables g'.tables s.tables.2; ended = ends_first N f'.ended g'.ended s.ended; draws = all_first N f'.draws g'.draws s.draws } in
-          let sg : Within N L g' = record { tables = tables_second N L f'.tables g'.tables s.tables.2; ended = ends_second N f'.ended g'.ended s.ended; draws = all_second N f'.draws g'.draws s.draws } in
+          let sf = first_inside n r N L st b I s in
+          let sg = others_inside n r N L st b I s in
           let d = tidied f in
           let g = statement_scaled low high steer n r st d in
           let k = steer.factor g in

@@ -83,6 +83,10 @@ pub all_second : (N : ℕ) (ps qs : List Fraction) → AllWhole N (ps ++ qs) →
 all_second N [] qs w = w
 all_second N (p ∷ ps) qs w = all_second N ps qs w.1
 
+pub ends_whole : (N : ℕ) (x : End) (I : Table) → Wholes N (all_end x I) → Wholes N I
+ends_whole N x [] h = tt
+ends_whole N x (e ∷ I) h = (h.0, ends_whole N x I h.1)
+
 pub both_first : (N L : ℕ) (x : Weighted End) (f g : Flow) → Within N L (both x f g) → Within N L f
 both_first N L x f g s = record { tables = tables_first N L f.tables g.tables s.tables; ended = ends_first N f.ended g.ended (ends_second N x (f.ended ++ g.ended) s.ended); draws = all_first N f.draws g.draws s.draws }
 

@@ -1,5 +1,5 @@
 -- Numbers of 64 bits stay numbers of 64 bits in tables, for each kind of weight.
-use Rattle.std.proofs.Common.{◌≡◌, ℕ, ◌-◌, pos, Bool, true, List, Option, sym, subst}
+use Rattle.std.proofs.Common.{◌≡◌, ℕ, zero, suc, pos, Bool, true, List, [], ◌∷◌, Option, refl, sym, subst}
 use Rattle.std.proofs.lemmas.Bool.{ltb-true}
 use Rattle.gcl_core.specs.meaning.Bounds.{StatementFits, BlockFits, ArmsFit}
 use Rattle.gcl_core.specs.meaning.Fitting.{state_fits}
@@ -8,9 +8,11 @@ use Rattle.gcl_core.specs.meaning.Value.{State}
 use Rattle.gcl_core.proofs.FittingValues.{number_fits, set_fits, value_fits}
 use Rattle.gcl_core.specs.declared.answers.Limit.TheVariants.{Attempts}
 use Rattle.gcl_core.specs.meaning.Blocks.{limit}
+use Rattle.gcl_core.specs.weighing.Fractions.{Fraction}
+use Rattle.gcl_core.specs.weighing.WeightedEnds.{scaled, class_weight}
 use Rattle.table_flow.proofs.EachMember.{Each, Anything, each_anything}
 use Rattle.table_flow.proofs.KeptEntries.{KeepsEntries, only_keeps, statement_kept, block_kept, arms_kept}
-use Rattle.table_flow.specs.Tables.{end_go, Entries, Kind, only_go, statement_go, block_go, arms_go}
+use Rattle.table_flow.specs.Tables.{Table, Entries, Kind, weighted, fractions_kind, end_go, only_go, statement_go, block_go, arms_go}
 
 module _ {X Y : Type 0} (x : Entries X Y) where
   abbrev pub Fits : X → Type 0
@@ -29,6 +31,14 @@ pub record KeepsStates {X Y : Type 0} (k : Kind X Y) : Type 0 where
   pub tidy : (J : List X) → AllFit k.entries J → AllFit k.entries (k.tidy J)
   pub at_loop : (J : List X) → AllFit k.entries J → Each (AllFit k.entries) (k.at_loop J)
   pub class : (b : ℕ) (r : Option ℕ) (c : ℕ) (J : List X) → AllFit k.entries J → AllFit k.entries (k.class b r c J)
+
+fit_scaled : (w : Fraction) (I : Table) → AllFit weighted I → AllFit weighted (scaled w I)
+fit_scaled (zero, d) I h = tt
+fit_scaled (suc n, d) [] h = tt
+fit_scaled (suc n, d) (e ∷ I) h = (h.0, fit_scaled (suc n, d) I h.1)
+
+pub fractions_keep_states : KeepsStates fractions_kind
+fractions_keep_states = record { moved = λ s e. refl; tidy = λ I h. h; at_loop = λ I h. (h, tt); class = λ b r c. fit_scaled (class_weight b r c) }
 
 module _ {X Y : Type 0} (k : Kind X Y) (keeps : KeepsStates k) where
   moved_fits : (e : X) (s : State) → state_fits s ≡ true → Fits k.entries (k.entries.moved_to s e)

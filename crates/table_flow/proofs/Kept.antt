@@ -3,17 +3,19 @@ use Rattle.std.proofs.Common.{◌≡◌, ℕ, zero, suc, ◌+◌, ◌*◌, ◌-�
 use Rattle.std.specs.List.{sum}
 use Rattle.std.proofs.lemmas.List.Sums.{sum_by-cons}
 use Rattle.gcl_core.specs.declared.answers.Limit.TheVariants.{Turns, Attempts}
+use Rattle.gcl_core.specs.declared.syntax.Weight.{Weight}
 use Rattle.gcl_core.specs.meaning.Arms.{parts_of}
 use Rattle.gcl_core.specs.meaning.Syntax.{Statement, Skip, Set, If, While, Choice, Choose, Uniform, Observe, Statements, done, ◌▸◌, ArmList, no_arm, arm}
-use Rattle.gcl_core.specs.meaning.Bounds.{StatementIsWeighed, BlockIsWeighed, ArmsAreWeighed, AreParts}
+use Rattle.gcl_core.specs.meaning.Bounds.{IsWeight, StatementIsWeighed, BlockIsWeighed, ArmsAreWeighed, AreParts}
 use Rattle.gcl_core.specs.meaning.Value.{State, Value, value_of, is_zero}
 use Rattle.gcl_core.specs.meaning.Blocks.{End, failed, limit, by_value, by_bound}
 use Rattle.gcl_core.specs.weighing.Fractions.{Fraction, times, one}
 use Rattle.gcl_core.specs.weighing.WeightedEnds.{Weighted, scaled, class_weight, no_class_weight}
-use Rattle.table_flow.specs.Tables.{Table, Flow, holds, fails, only, faults, all_end, set_to, both, loop_flow, statement_flow, block_flow, arms_flow, draws_each, draw_weights}
-use Rattle.table_flow.specs.Scale.{amount, weight, whole, Whole, Wholes, Within, TablesWithin}
+use Rattle.table_flow.specs.Tables.{Table, Flow, holds, fails, only, faults, all_end, set_to, both, loop_flow, statement_flow, block_flow, arms_flow}
+use Rattle.table_flow.specs.Scale.{amount, weight, whole, Whole, Wholes, Within}
 use Rattle.table_flow.specs.Counts.{sum_below, part_at, rest_at, drawn, undrawn, multiplied}
-use Rattle.table_flow.proofs.Amounts.{amount_append, both_first, both_second, all_second, tables_first, tables_second, ends_first, ends_second, all_first}
+use Rattle.table_flow.proofs.InsideFlows.{head_whole, first_inside, others_inside, turn_inside, turns_inside, side_first, side_second, undecided_whole, choose_inside, first_arm, other_arms}
+use Rattle.table_flow.proofs.Amounts.{ends_whole, amount_append, both_first, both_second, ends_first}
 use Rattle.table_flow.proofs.Spreads.{times_swap}
 use Rattle.table_flow.proofs.Draws.{draw_kept, parts_add_up, each_part, no_part, all_parts, all_parts_pos, share_of, class_pos, no_class_pos, class_share, no_class_share}
 use Rattle.table_flow.proofs.Uniforms.{drawn_next, drawn_ended, drawn_whole}
@@ -36,10 +38,6 @@ guard_weight N v (e ∷ I) = at_head (v e.1) refl (guard_weight N v I)
 pub all_end_weight : (N : ℕ) (x : End) (I : Table) → weight N (all_end x I) ≡ weight N I
 all_end_weight N x [] = refl
 all_end_weight N x (e ∷ I) = let i = all_end_weight N x I in omega arith
-
-pub ends_whole : (N : ℕ) (x : End) (I : Table) → Wholes N (all_end x I) → Wholes N I
-ends_whole N x [] h = tt
-ends_whole N x (e ∷ I) h = (h.0, ends_whole N x I h.1)
 
 -- a table with each weight multiplied by one fraction
 pub amount_scaled : {A : Type 0} (N : ℕ) (G : A → ℕ) (w : Fraction) (n d : ℕ) (I : Weighted A) → 0 < w.1 → w.0 * d ≡ n * w.1 → Wholes N I → Wholes N (scaled w I) → d * amount N G (scaled w I) ≡ n * amount N G I
@@ -153,26 +151,9 @@ drawn_kept N x v r [] h k l = refl
 drawn_kept N x v r (e ∷ I) h k l = let i = drawn_kept N x v r I h.1 k.1 l.1 in let a = state_kept N x v r e.0 e.1 h.0 k.0 l.0 in omega arith
 
 module _ (n : ℕ) (r : Option ℕ) (N L : ℕ) where
-  pub head_whole : (b : Statements) (I : Table) → TablesWithin N L (block_flow n r b I).tables → Wholes N I
-  head_whole done I w = w.0
-  head_whole (st ▸ b) I w = w.0
-
-  -- what is inside a choice among several
-  pub choose_inside : (arms : ArmList) (I : Table) → Within N L (statement_flow n r (Choose arms) I) → Within N L (arms_flow n r (sum (parts_of arms)) arms I)
-  choose_inside arms I s =
-      let b = sum (parts_of arms) in
-      let f = arms_flow n r b arms I in
-      record { tables = s.tables; ended = ends_second N (all_end (limit Attempts) (scaled (no_class_weight b r) I)) f.ended s.ended; draws = all_second N (draws_each (draw_weights b r) I) f.draws s.draws }
-
-  pub first_arm : (b p : ℕ) (a : Statements) (arms : ArmList) (I : Table) → Within N L (arms_flow n r b (arm p a arms) I) → Within N L (block_flow n r a (scaled (class_weight b r p) I))
-  first_arm b p a arms I s = both_first N L [] (block_flow n r a (scaled (class_weight b r p) I)) (arms_flow n r b arms I) s
-
-  pub other_arms : (b p : ℕ) (a : Statements) (arms : ArmList) (I : Table) → Within N L (arms_flow n r b (arm p a arms) I) → Within N L (arms_flow n r b arms I)
-  other_arms b p a arms I s = both_second N L [] (block_flow n r a (scaled (class_weight b r p) I)) (arms_flow n r b arms I) s
-
   pub arms_whole : (b : ℕ) (arms : ArmList) (I : Table) → Within N L (arms_flow n r b arms I) → ArmsWhole N b r (parts_of arms) I
   arms_whole b no_arm I s = tt
-  arms_whole b (arm p a arms) I s = (head_whole a (scaled (class_weight b r p) I) (first_arm b p a arms I s).tables, arms_whole b arms I (other_arms b p a arms I s))
+  arms_whole b (arm p a arms) I s = (head_whole n r N L a (scaled (class_weight b r p) I) (first_arm n r N L b p a arms I s).tables, arms_whole b arms I (other_arms n r N L b p a arms I s))
 
   pub arms_kept : (arms : ArmList) (I : Table) → AreParts (parts_of arms) → Wholes N I → Within N L (statement_flow n r (Choose arms) I) →
       weight N (all_end (limit Attempts) (scaled (no_class_weight (sum (parts_of arms)) r) I)) + arms_weight N (sum (parts_of arms)) r (parts_of arms) I ≡ weight N I
@@ -180,8 +161,14 @@ module _ (n : ℕ) (r : Option ℕ) (N L : ℕ) where
       let b = sum (parts_of arms) in
       let Z = scaled (no_class_weight b r) I in
       let z = all_end_weight N (limit Attempts) Z in
-      let k = choose_kept N r (parts_of arms) I p.positive w (arms_whole b arms I (choose_inside arms I s)) (ends_whole N (limit Attempts) Z (ends_first N (all_end (limit Attempts) Z) (arms_flow n r b arms I).ended s.ended)) in
+      let k = choose_kept N r (parts_of arms) I p.positive w (arms_whole b arms I (choose_inside n r N L arms I s)) (ends_whole N (limit Attempts) Z (ends_first N (all_end (limit Attempts) Z) (arms_flow n r b arms I).ended s.ended)) in
       omega arith
+
+  pub sides_kept : (q : Weight) (a c : Statements) (I : Table) → IsWeight q → Wholes N I → Within N L (statement_flow n r (Choice q a c) I) →
+      weight N (scaled (no_class_weight q.den r) I) + (weight N (scaled (class_weight q.den r q.num) I) + weight N (scaled (class_weight q.den r (q.den - q.num)) I)) ≡ weight N I
+  sides_kept q a c I is w s =
+      choice_kept N q.num q.den r I is.at_most_one (let o = is.positive in omega arith) w (head_whole n r N L a _ (side_first n r N L q a c I s).tables)
+      (head_whole n r N L c _ (side_second n r N L q a c I s).tables) (undecided_whole n r N L q a c I s)
 
   abbrev pub KeepsAll : Statements → Type 0
   KeepsAll b = (I : Table) → Within N L (block_flow n r b I) → weight N (block_flow n r b I).next + weight N (block_flow n r b I).ended ≡ weight N I
@@ -197,11 +184,9 @@ module _ (n : ℕ) (r : Option ℕ) (N L : ℕ) where
       let A = only (holds v) J in
       let f = block_flow n r b A in
       let g = loop_flow v (block_flow n r b) t f.next in
-      let sf : Within N L f = record { tables = tables_first N L f.tables g.tables s.tables.2; ended = ends_first N f.ended g.ended (ends_second N (faults v J) (f.ended ++ g.ended) s.ended); draws = all_first N f.draws g.draws s.draws } in
-      let sg : Within N L g = record { tables = tables_second N L f.tables g.tables s.tables.2; ended = ends_second N f.ended g.ended (ends_second N (faults v J) (f.ended ++ g.ended) s.ended); draws = all_second N f.draws g.draws s.draws } in
       let a = guard_weight N v J in
-      let x = h A sf in
-      let y = kept_turns v b h t f.next sg in
+      let x = h A (turn_inside n r N L v b t J s) in
+      let y = kept_turns v b h t f.next (turns_inside n r N L v b t J s) in
       let o = amount_append N (λ s. 1) (only (fails v) J) g.next in
       let p = amount_append N (λ s. 1) (faults v J) (f.ended ++ g.ended) in
       let q = amount_append N (λ s. 1) f.ended g.ended in
@@ -241,15 +226,11 @@ module _ (n : ℕ) (r : Option ℕ) (N L : ℕ) where
         let Z = scaled (no_class_weight q.den r) I in
         let f = block_flow n r a A in
         let g = block_flow n r c C in
-        let ze = all_end (limit Attempts) Z in
-        let sw : Within N L (both ze f g) = record { tables = s.tables; ended = s.ended; draws = all_second N (draws_each (draw_weights q.den r) I) (f.draws ++ g.draws) s.draws } in
-        let wf = both_first N L ze f g sw in
-        let wg = both_second N L ze f g sw in
-        let b = both_weight N ze f g in
-        let x = kept_all a p.1 A wf in
-        let y = kept_all c p.2 C wg in
+        let b = both_weight N (all_end (limit Attempts) Z) f g in
+        let x = kept_all a p.1 A (side_first n r N L q a c I s) in
+        let y = kept_all c p.2 C (side_second n r N L q a c I s) in
         let z = all_end_weight N (limit Attempts) Z in
-        let k = choice_kept N q.num q.den r I p.0.at_most_one (let o = p.0.positive in omega arith) w (head_whole a A wf.tables) (head_whole c C wg.tables) (ends_whole N (limit Attempts) Z (ends_first N ze (f.ended ++ g.ended) s.ended)) in
+        let k = sides_kept q a c I p.0 w s in
         b ∙ joined _ _ _ _ _ _ _ z x y k
       where
         joined : (l l' f f' g g' W : ℕ) → l ≡ l' → f ≡ f' → g ≡ g' → l' + (f' + g') ≡ W → l + (f + g) ≡ W
@@ -259,7 +240,7 @@ module _ (n : ℕ) (r : Option ℕ) (N L : ℕ) where
         let f = arms_flow n r b arms I in
         let Z = all_end (limit Attempts) (scaled (no_class_weight b r) I) in
         let a = amount_append N (λ s. 1) Z f.ended in
-        let y = kept_arms b arms p.1 I (choose_inside arms I s) in
+        let y = kept_arms b arms p.1 I (choose_inside n r N L arms I s) in
         let k = arms_kept arms I p.0 w s in
         omega arith
     kept_one (While e a) I p w x s = kept_turns (value_of e) a (kept_all a p) n I s
@@ -269,10 +250,9 @@ module _ (n : ℕ) (r : Option ℕ) (N L : ℕ) where
     kept_all (st ▸ b) p I s =
         let f = statement_flow n r st I in
         let g = block_flow n r b f.next in
-        let sf : Within N L f = record { tables = tables_first N L f.tables g.tables s.tables.2; ended = ends_first N f.ended g.ended s.ended; draws = all_first N f.draws g.draws s.draws } in
-        let sg : Within N L g = record { tables = tables_second N L f.tables g.tables s.tables.2; ended = ends_second N f.ended g.ended s.ended; draws = all_second N f.draws g.draws s.draws } in
-        let x = kept_one st I p.0 s.tables.0 (head_whole b f.next sg.tables) sf in
-        let y = kept_all b p.1 f.next sg in
+        let others = others_inside n r N L st b I s in
+        let x = kept_one st I p.0 s.tables.0 (head_whole n r N L b f.next others.tables) (first_inside n r N L st b I s) in
+        let y = kept_all b p.1 f.next others in
         let c = amount_append N (λ s. 1) f.ended g.ended in
         omega arith
 
@@ -283,6 +263,6 @@ module _ (n : ℕ) (r : Option ℕ) (N L : ℕ) where
     kept_arms b (arm q a arms) p I s =
         let A = scaled (class_weight b r q) I in
         let o = both_weight N [] (block_flow n r a A) (arms_flow n r b arms I) in
-        let x = kept_all a p.0 A (first_arm b q a arms I s) in
-        let y = kept_arms b arms p.1 I (other_arms b q a arms I s) in
+        let x = kept_all a p.0 A (first_arm n r N L b q a arms I s) in
+        let y = kept_arms b arms p.1 I (other_arms n r N L b q a arms I s) in
         omega arith

@@ -9,6 +9,7 @@ pub mod KeptEntries
 pub mod Denominators
 pub mod Draws
 pub mod Uniforms
+pub mod InsideFlows
 pub mod Kept
 pub mod Positive
 pub mod Paths

@@ -1,20 +1,20 @@
 -- A table of no weight reaches draws of no weight.
 use Rattle.std.proofs.Common.{◌≡◌, ℕ, zero, suc, ◌*◌, ◌-◌, List, [], ◌∷◌, ◌++◌, Ok, Err, ℤ, pos, negsuc, Option, refl, ap, ◌∙◌, arith}
 use Rattle.std.specs.List.{sum}
-use Rattle.gcl_core.specs.declared.answers.Limit.TheVariants.{Attempts}
 use Rattle.gcl_core.specs.meaning.Arms.{parts_of}
 use Rattle.gcl_core.specs.meaning.Parts.{partial_sums}
 use Rattle.gcl_core.specs.meaning.Syntax.{Statement, Skip, Set, If, While, Choice, Choose, Uniform, Observe, Statements, done, ◌▸◌, ArmList, no_arm, arm}
 use Rattle.gcl_core.specs.meaning.Bounds.{StatementIsWeighed, BlockIsWeighed, ArmsAreWeighed}
 use Rattle.gcl_core.specs.meaning.Value.{State, Value, value_of}
-use Rattle.gcl_core.specs.meaning.Blocks.{limit, by_value, by_bound}
+use Rattle.gcl_core.specs.meaning.Blocks.{by_value, by_bound}
 use Rattle.gcl_core.specs.meaning.Draw.{choice_ends, uniform_ends}
-use Rattle.gcl_core.specs.weighing.WeightedEnds.{Weighted, scaled, class_weight, no_class_weight}
-use Rattle.table_flow.specs.Tables.{Table, holds, fails, only, faults, all_end, both, loop_flow, statement_flow, block_flow, arms_flow, draws_each, draw_weights}
+use Rattle.gcl_core.specs.weighing.WeightedEnds.{Weighted, scaled, class_weight}
+use Rattle.table_flow.specs.Tables.{Table, holds, fails, only, faults, loop_flow, statement_flow, block_flow, arms_flow}
 use Rattle.table_flow.specs.Reached.{drawn_each, drawn_bound, loop_draws, statement_draws, block_draws, arms_draws}
 use Rattle.table_flow.specs.Scale.{whole, amount, weight, Wholes, Within}
-use Rattle.table_flow.proofs.Amounts.{amount_append, both_first, both_second, all_second, tables_first, tables_second, ends_first, ends_second, all_first}
-use Rattle.table_flow.proofs.Kept.{guard_weight, ends_whole, choice_kept, head_whole, arms_weight, choose_inside, first_arm, other_arms, arms_kept, kept_one, kept_all}
+use Rattle.table_flow.proofs.Amounts.{amount_append, both_first, both_second}
+use Rattle.table_flow.proofs.Kept.{guard_weight, sides_kept, arms_weight, arms_kept, kept_one, kept_all}
+use Rattle.table_flow.proofs.InsideFlows.{head_whole, first_inside, others_inside, turn_inside, turns_inside, side_first, side_second, choose_inside, first_arm, other_arms}
 
 -- ---- what draws count, by the states that they are made from
 pub amount_drawn_each : (N : ℕ) (H : List ℕ → ℕ) (ends : List ℕ) (I : Table) → amount N H (drawn_each ends I) ≡ amount N (λ s. H ends) I
@@ -57,13 +57,11 @@ module _ (n : ℕ) (r : Option ℕ) (N L : ℕ) (H : List ℕ → ℕ) where
   none_turns v b w h (suc t) J s z =
       let A = only (holds v) J in
       let f = block_flow n r b A in
-      let g = loop_flow v (block_flow n r b) t f.next in
-      let sf : Within N L f = record { tables = tables_first N L f.tables g.tables s.tables.2; ended = ends_first N f.ended g.ended (ends_second N (faults v J) (f.ended ++ g.ended) s.ended); draws = all_first N f.draws g.draws s.draws } in
-      let sg : Within N L g = record { tables = tables_second N L f.tables g.tables s.tables.2; ended = ends_second N f.ended g.ended (ends_second N (faults v J) (f.ended ++ g.ended) s.ended); draws = all_second N f.draws g.draws s.draws } in
+      let inside = turn_inside n r N L v b t J s in
       let a = guard_weight N v J in
-      let k = kept_all n r N L b w A sf in
-      let x = h A sf (omega arith) in
-      let y = none_turns v b w h t f.next sg (omega arith) in
+      let k = kept_all n r N L b w A inside in
+      let x = h A inside (omega arith) in
+      let y = none_turns v b w h t f.next (turns_inside n r N L v b t J s) (omega arith) in
       let o = amount_append N H (block_draws n r b A) (loop_draws v (block_draws n r b) (block_flow n r b) t f.next) in
       omega arith
 
@@ -86,16 +84,9 @@ module _ (n : ℕ) (r : Option ℕ) (N L : ℕ) (H : List ℕ → ℕ) where
     none_one (Choice q a c) I p w s z =
         let A = scaled (class_weight q.den r q.num) I in
         let C = scaled (class_weight q.den r (q.den - q.num)) I in
-        let Z = scaled (no_class_weight q.den r) I in
-        let f = block_flow n r a A in
-        let g = block_flow n r c C in
-        let ze = all_end (limit Attempts) Z in
-        let sw : Within N L (both ze f g) = record { tables = s.tables; ended = s.ended; draws = all_second N (draws_each (draw_weights q.den r) I) (f.draws ++ g.draws) s.draws } in
-        let wf = both_first N L ze f g sw in
-        let wg = both_second N L ze f g sw in
-        let k = choice_kept N q.num q.den r I p.0.at_most_one (let o = p.0.positive in omega arith) w (head_whole n r N L a A wf.tables) (head_whole n r N L c C wg.tables) (ends_whole N (limit Attempts) Z (ends_first N ze (f.ended ++ g.ended) s.ended)) in
-        let x = none_all a p.1 A wf (omega arith) in
-        let y = none_all c p.2 C wg (omega arith) in
+        let k = sides_kept n r N L q a c I p.0 w s in
+        let x = none_all a p.1 A (side_first n r N L q a c I s) (omega arith) in
+        let y = none_all c p.2 C (side_second n r N L q a c I s) (omega arith) in
         let d = amount_drawn_each N H (choice_ends q) I ∙ none_counts N (λ s. H (choice_ends q)) I z in
         let o = amount_append N H (drawn_each (choice_ends q) I) (block_draws n r a A ++ block_draws n r c C) in
         let u = amount_append N H (block_draws n r a A) (block_draws n r c C) in
@@ -114,12 +105,11 @@ module _ (n : ℕ) (r : Option ℕ) (N L : ℕ) (H : List ℕ → ℕ) where
     none_all done p I s z = refl
     none_all (st ▸ b) p I s z =
         let f = statement_flow n r st I in
-        let g = block_flow n r b f.next in
-        let sf : Within N L f = record { tables = tables_first N L f.tables g.tables s.tables.2; ended = ends_first N f.ended g.ended s.ended; draws = all_first N f.draws g.draws s.draws } in
-        let sg : Within N L g = record { tables = tables_second N L f.tables g.tables s.tables.2; ended = ends_second N f.ended g.ended s.ended; draws = all_second N f.draws g.draws s.draws } in
-        let k = kept_one n r N L st I p.0 s.tables.0 (head_whole n r N L b f.next sg.tables) sf in
-        let x = none_one st I p.0 s.tables.0 sf z in
-        let y = none_all b p.1 f.next sg (omega arith) in
+        let first = first_inside n r N L st b I s in
+        let others = others_inside n r N L st b I s in
+        let k = kept_one n r N L st I p.0 s.tables.0 (head_whole n r N L b f.next others.tables) first in
+        let x = none_one st I p.0 s.tables.0 first z in
+        let y = none_all b p.1 f.next others (omega arith) in
         let o = amount_append N H (statement_draws n r st I) (block_draws n r b f.next) in
         omega arith
 

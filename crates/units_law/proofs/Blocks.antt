@@ -9,12 +9,12 @@ use Rattle.gcl_core.specs.meaning.Bounds.{StatementIsWeighed, BlockIsWeighed, Ar
 use Rattle.gcl_core.specs.meaning.Value.{State, Value, value_of}
 use Rattle.gcl_core.specs.meaning.Blocks.{End, failed, limit}
 use Rattle.gcl_core.specs.weighing.WeightedEnds.{Weighted, scaled, class_weight, no_class_weight}
-use Rattle.table_flow.specs.Tables.{Table, FlowOf, Flow, Kind, holds, fails, only, faults, all_end, both, only_go, faults_go, end_go, loop_go, statement_go, block_go, arms_go, loop_flow, statement_flow, block_flow, arms_flow, draws_each, draw_weights, states}
+use Rattle.table_flow.specs.Tables.{Table, FlowOf, Flow, Kind, holds, fails, only, faults, all_end, both, only_go, faults_go, end_go, loop_go, statement_go, block_go, arms_go, loop_flow, statement_flow, block_flow, arms_flow, states}
 use Rattle.table_flow.specs.Counts.{moved, stopped, kept_if, all_stopped}
 use Rattle.table_flow.specs.Scale.{Wholes, Within}
-use Rattle.table_flow.proofs.Amounts.{both_first, both_second, all_first, all_second, tables_first, tables_second, ends_first, ends_second, amount_set, amount_only, amount_faults, amount_all_end}
+use Rattle.table_flow.proofs.Amounts.{ends_whole, both_first, both_second, ends_first, amount_set, amount_only, amount_faults, amount_all_end}
 use Rattle.table_flow.proofs.Draws.{class_pos, no_class_pos}
-use Rattle.table_flow.proofs.Kept.{ends_whole, head_whole, choose_inside, first_arm, other_arms}
+use Rattle.table_flow.proofs.InsideFlows.{head_whole, first_inside, others_inside, turn_inside, turns_inside, side_first, side_second, undecided_whole, choose_inside, first_arm, other_arms}
 use Rattle.table_flow.proofs.Uniforms.{drawn_next, drawn_ended, drawn_whole}
 use Rattle.units_law.proofs.Counted.{Counts, StandsIn, Stands, counted_as, joined, none_stands, times_stands, of_append, of_only, of_faults, of_end, of_set}
 use Rattle.units_law.proofs.Drawn.{drawn_stands, undrawn_stands}
@@ -101,8 +101,8 @@ module _ {X Y : Type 0} (k : Kind X Y) (c : Counts k.entries) (R : ℕ → ℕ �
         let f' = block_flow n r b B in
         let g = loop_go k.entries k.at_loop v (block_go k n r b) t f.next in
         let g' = loop_flow v (block_flow n r b) t f'.next in
-        let wf : Within N L f' = record { tables = tables_first N L f'.tables g'.tables w.tables.2; ended = ends_first N f'.ended g'.ended (ends_second N (faults v I) (f'.ended ++ g'.ended) w.ended); draws = all_first N f'.draws g'.draws w.draws } in
-        let wg : Within N L g' = record { tables = tables_second N L f'.tables g'.tables w.tables.2; ended = ends_second N f'.ended g'.ended (ends_second N (faults v I) (f'.ended ++ g'.ended) w.ended); draws = all_second N f'.draws g'.draws w.draws } in
+        let wf = turn_inside n r N L v b t I w in
+        let wg = turns_inside n r N L v b t I w in
         let x = m A B wf (only_stands J I h (holds v)) in
         let y = loop_stands v b m t f.next f'.next wg x.next in
         record {
@@ -160,13 +160,12 @@ module _ {X Y : Type 0} (k : Kind X Y) (c : Counts k.entries) (R : ℕ → ℕ �
           let f' = block_flow n r a A' in
           let g' = block_flow n r b B' in
           let ze = all_end (limit Attempts) C' in
-          let sw : Within N L (both ze f' g') = record { tables = s.tables; ended = s.ended; draws = all_second N (draws_each (draw_weights q.den r) I) (f'.draws ++ g'.draws) s.draws } in
-          let wf = both_first N L ze f' g' sw in
-          let wg = both_second N L ze f' g' sw in
+          let wf = side_first n r N L q a b I s in
+          let wg = side_second n r N L q a b I s in
           let d : 0 < q.den = let z = p.0.positive in omega arith in
           let x = class_stands q.den q.num d J I w (head_whole n r N L a A' wf.tables) h in
           let z = class_stands q.den (q.den - q.num) d J I w (head_whole n r N L b B' wg.tables) h in
-          let u = rest_stands q.den d J I w (ends_whole N (limit Attempts) C' (ends_first N ze (f'.ended ++ g'.ended) s.ended)) h in
+          let u = rest_stands q.den d J I w (undecided_whole n r N L q a b I s) h in
           let m = both_stand (end_go k.entries (limit Attempts) C) (block_go k n r a A) (block_go k n r b B) ze f' g' (end_stands C C' u (limit Attempts)) (block_stands a p.1 A A' wf x) (block_stands b p.2 B B' wg z) in
           record { next = m.next; ended = m.ended; few = m.few }
       statement_stands (Choose arms) p J I w y s h =
@@ -189,8 +188,8 @@ module _ {X Y : Type 0} (k : Kind X Y) (c : Counts k.entries) (R : ℕ → ℕ �
           let f' = statement_flow n r st I in
           let g = block_go k n r b f.next in
           let g' = block_flow n r b f'.next in
-          let sf : Within N L f' = record { tables = tables_first N L f'.tables g'.tables s.tables.2; ended = ends_first N f'.ended g'.ended s.ended; draws = all_first N f'.draws g'.draws s.draws } in
-          let sg : Within N L g' = record { tables = tables_second N L f'.tables g'.tables s.tables.2; ended = ends_second N f'.ended g'.ended s.ended; draws = all_second N f'.draws g'.draws s.draws } in
+          let sf = first_inside n r N L st b I s in
+          let sg = others_inside n r N L st b I s in
           let x = statement_stands st p.0 (k.tidy J) I s.tables.0 (head_whole n r N L b f'.next sg.tables) sf (tidied J I h) in
           let y = block_stands b p.1 f.next f'.next sg x.next in
           record {

@@ -6,23 +6,22 @@ use Rattle.std.specs.List.{sum}
 use Rattle.gcl_core.proofs.FittingValues.{zeros_fit}
 use Rattle.std.specs.Prelude.{All}
 use Rattle.numbers.specs.declared.units.TheConstants.{ALL}
-use Rattle.gcl_core.specs.declared.answers.Limit.TheVariants.{Attempts}
 use Rattle.gcl_core.specs.meaning.Arms.{parts_of}
 use Rattle.gcl_core.specs.meaning.Bounds.{StatementIsWeighed, BlockIsWeighed, ArmsAreWeighed, StatementFits, BlockFits, ArmsFit}
 use Rattle.gcl_core.specs.meaning.Fitting.{state_fits}
-use Rattle.gcl_core.specs.meaning.Blocks.{by_value, by_bound, limit}
+use Rattle.gcl_core.specs.meaning.Blocks.{by_value, by_bound}
 use Rattle.gcl_core.specs.meaning.Outcomes.{zeros}
 use Rattle.gcl_core.specs.meaning.Syntax.{Statement, Skip, Set, If, While, Choice, Choose, Uniform, Observe, Statements, done, ◌▸◌, ArmList, no_arm, arm, SourceProgram}
 use Rattle.gcl_core.specs.meaning.Value.{State, Value, value_of}
 use Rattle.gcl_core.specs.text.ReadingOrder.{statement_listed, listed, arms_listed}
-use Rattle.gcl_core.specs.weighing.WeightedEnds.{sure, scaled, class_weight, no_class_weight}
+use Rattle.gcl_core.specs.weighing.WeightedEnds.{sure, scaled, class_weight}
 use Rattle.table_flow.specs.Scale.{Wholes, Within}
-use Rattle.table_flow.specs.Tables.{Table, holds, fails, only, faults, all_end, both, loop_flow, statement_flow, block_flow, arms_flow, draws_each, draw_weights, peak_of, tables_of}
+use Rattle.table_flow.specs.Tables.{Table, holds, fails, only, faults, loop_flow, statement_flow, block_flow, arms_flow, peak_of, tables_of}
 use Rattle.table_flow.specs.Width.{round_width}
-use Rattle.table_flow.proofs.Amounts.{both_first, both_second, all_first, all_second, tables_first, tables_second, ends_first, ends_second}
+use Rattle.table_flow.proofs.Amounts.{both_first, both_second}
 use Rattle.table_flow.proofs.AtWidth.{at_width}
 use Rattle.table_flow.proofs.FittingTables.{fit_only, statement_fit, block_fit}
-use Rattle.table_flow.proofs.Kept.{head_whole, choose_inside, first_arm, other_arms}
+use Rattle.table_flow.proofs.InsideFlows.{head_whole, first_inside, others_inside, turn_inside, turns_inside, side_first, side_second, choose_inside, first_arm, other_arms}
 use Rattle.units_law.specs.Below.{IsBelow}
 use Rattle.units_law.specs.Flows.{statement_units, block_units}
 use Rattle.units_law.specs.Merged.{merged}
@@ -88,8 +87,8 @@ module _ (cut : Rounding) (c : RoundsDown cut) (N L n : ℕ) (some : 0 < N) (r :
       let f = block_units cut n r b A in
       let f' = block_flow n r b B in
       let g' = loop_flow v (block_flow n r b) k f'.next in
-      let wf : Within N L f' = record { tables = tables_first N L f'.tables g'.tables w.tables.2; ended = ends_first N f'.ended g'.ended (ends_second N (faults v I) (f'.ended ++ g'.ended) w.ended); draws = all_first N f'.draws g'.draws w.draws } in
-      let wg : Within N L g' = record { tables = tables_second N L f'.tables g'.tables w.tables.2; ended = ends_second N f'.ended g'.ended (ends_second N (faults v I) (f'.ended ++ g'.ended) w.ended); draws = all_second N f'.draws g'.draws w.draws } in
+      let wf = turn_inside n r N L v b k I w in
+      let wg = turns_inside n r N L v b k I w in
       let hh = only_below cut c N L n some r J I h (holds v) in
       let u = fit_only counted_units (holds v) J t in
       let x = m A B u wf hh in
@@ -133,10 +132,8 @@ module _ (cut : Rounding) (c : RoundsDown cut) (N L n : ℕ) (some : 0 < N) (r :
         let B' = scaled (class_weight q.den r (q.den - q.num)) I in
         let f' = block_flow n r a A' in
         let g' = block_flow n r b B' in
-        let ze = all_end (limit Attempts) (scaled (no_class_weight q.den r) I) in
-        let sw : Within N L (both ze f' g') = record { tables = s.tables; ended = s.ended; draws = all_second N (draws_each (draw_weights q.den r) I) (f'.draws ++ g'.draws) s.draws } in
-        let wf = both_first N L ze f' g' sw in
-        let wg = both_second N L ze f' g' sw in
+        let wf = side_first n r N L q a b I s in
+        let wg = side_second n r N L q a b I s in
         let t : 0 < q.den = let z = p.0.positive in omega arith in
         let x = block_few a p.1 g.0 (all_left (DrawsWithin M) (listed a) (listed b) within) A A' (fit_class cut q.den r q.num J fit) wf (class_below cut c N L n some r q.den q.num t J I w (head_whole n r N L a A' wf.tables) h) in
         let y = block_few b p.2 g.1 (all_right (DrawsWithin M) (listed a) (listed b) within) B B' (fit_class cut q.den r (q.den - q.num) J fit) wg (class_below cut c N L n some r q.den (q.den - q.num) t J I w (head_whole n r N L b B' wg.tables) h) in
@@ -160,8 +157,8 @@ module _ (cut : Rounding) (c : RoundsDown cut) (N L n : ℕ) (some : 0 < N) (r :
         let f = statement_units cut n r st (merged J) in
         let f' = statement_flow n r st I in
         let g' = block_flow n r b f'.next in
-        let sf : Within N L f' = record { tables = tables_first N L f'.tables g'.tables s.tables.2; ended = ends_first N f'.ended g'.ended s.ended; draws = all_first N f'.draws g'.draws s.draws } in
-        let sg : Within N L g' = record { tables = tables_second N L f'.tables g'.tables s.tables.2; ended = ends_second N f'.ended g'.ended s.ended; draws = all_second N f'.draws g'.draws s.draws } in
+        let sf = first_inside n r N L st b I s in
+        let sg = others_inside n r N L st b I s in
         let m = merged_below cut c N L n some r J I h in
         let below = statement_below cut c N L n some r st p.0 (merged J) I s.tables.0 (head_whole n r N L b f'.next sg.tables) sf m in
         let v = fit_merged J t in
