@@ -14,7 +14,7 @@ use Rattle.gcl_core.specs.weighing.WeightedEnds.{scaled, class_weight}
 use Rattle.gcl_core.proofs.PartialSums.{last_is}
 use Rattle.table_flow.specs.Tables.{Table, holds, fails, only, statement_flow, block_flow, arms_flow}
 use Rattle.table_flow.specs.Reached.{ReachedDraws, drawn_each, drawn_bound, statement_draws, block_draws, arms_draws}
-use Rattle.table_flow.proofs.Positive.{Positive, p_append, p_scaled, p_only, p_one, p_all}
+use Rattle.table_flow.proofs.Positive.{Positive, p_scaled, p_only, p_one, p_all, p_arms}
 use Rattle.weighing_law.proofs.Shares.{product_pos}
 use Rattle.unlimited_law.specs.LoopFree.{StatementFree, BlockFree, ArmsFree}
 use Rattle.unlimited_law.proofs.FreeBlocks.{alike_itself}
@@ -51,11 +51,6 @@ comes J bits read h e some = record {
 }
 
 module _ (n : ℕ) where
-  arms_next : (b : ℕ) → 0 < b → (arms : ArmList) (I : Table) → ArmsAreWeighed arms → Positive I → Positive (arms_flow n None b arms I).next
-  arms_next b some no_arm I w h = tt
-  arms_next b some (arm p a arms) I w h =
-      p_append _ _ (p_all n None a (scaled (class_weight b None p) I) w.0 (p_scaled (class_weight b None p) I some h)).next (arms_next b some arms I w.1 h)
-
   mutual
     statement_free : (st : Statement) → StatementFree st → StatementIsWeighed st → (I : Table) → Positive I → StatementReads st I (statement_flow n None st I).next (bits_of_draws (statement_draws n None st I))
     statement_free Skip free w I h = comes _ _ zero_share (p_one n None Skip I w h).next refl (omega arith)
@@ -152,5 +147,5 @@ module _ (n : ℕ) where
           bits_of_draws E,
           x,
           y,
-          comes _ _ (plus (bits_of_draws D) (bits_of_draws E)) (arms_next b some (arm p a arms) I w h) (draws_both D E) (product_pos (bits_of_draws D).1 (bits_of_draws E).1 xs ys),
+          comes _ _ (plus (bits_of_draws D) (bits_of_draws E)) (p_arms n None b some (arm p a arms) I w h).next (draws_both D E) (product_pos (bits_of_draws D).1 (bits_of_draws E).1 xs ys),
         )

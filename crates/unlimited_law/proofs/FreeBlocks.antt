@@ -8,7 +8,7 @@ use Rattle.gcl_core.specs.meaning.Value.{value_of}
 use Rattle.gcl_core.specs.weighing.Fractions.{Fraction, zero_share, plus}
 use Rattle.gcl_core.specs.weighing.WeightedEnds.{Weighted, scaled, class_weight}
 use Rattle.table_flow.specs.Tables.{Table, Flow, holds, fails, only, statement_flow, block_flow, arms_flow}
-use Rattle.table_flow.proofs.Positive.{Positive, p_append, p_scaled, p_only, p_one, p_all}
+use Rattle.table_flow.proofs.Positive.{Positive, p_scaled, p_only, p_one, p_all, p_arms}
 use Rattle.unlimited_law.specs.Alike.{Alike}
 use Rattle.unlimited_law.specs.LoopFree.{StatementFree, BlockFree, ArmsFree, flowed_out}
 use Rattle.unlimited_law.specs.Settling.{IsOutflow, StatementSettles, BlockSettles, ArmsSettle}
@@ -22,16 +22,6 @@ flow_is : (f : Flow) → Positive f.next → Positive f.ended → (cost : Fracti
 flow_is f h k cost e = record { next = alike_itself f.next h; ended = alike_itself f.ended k; turns = omega arith; fraction = omega arith }
 
 module _ (n : ℕ) where
-  arms_next : (b : ℕ) → 0 < b → (arms : ArmList) (I : Table) → ArmsAreWeighed arms → Positive I → Positive (arms_flow n None b arms I).next
-  arms_next b some no_arm I w h = tt
-  arms_next b some (arm p a arms) I w h =
-      p_append _ _ (p_all n None a (scaled (class_weight b None p) I) w.0 (p_scaled (class_weight b None p) I some h)).next (arms_next b some arms I w.1 h)
-
-  arms_ended : (b : ℕ) → 0 < b → (arms : ArmList) (I : Table) → ArmsAreWeighed arms → Positive I → Positive (arms_flow n None b arms I).ended
-  arms_ended b some no_arm I w h = tt
-  arms_ended b some (arm p a arms) I w h =
-      p_append _ _ (p_all n None a (scaled (class_weight b None p) I) w.0 (p_scaled (class_weight b None p) I some h)).ended (arms_ended b some arms I w.1 h)
-
   mutual
     statement_free : (st : Statement) → StatementFree st → StatementIsWeighed st → (I : Table) → Positive I → StatementSettles Alike Alike st I (flowed_out (statement_flow n None st I))
     statement_free Skip free w I h = let f = p_one n None Skip I w h in flow_is (statement_flow n None Skip I) f.next f.ended zero_share refl
@@ -78,10 +68,11 @@ module _ (n : ℕ) where
     arms_free : (b : ℕ) → 0 < b → (arms : ArmList) → ArmsFree arms → ArmsAreWeighed arms → (I : Table) → Positive I → ArmsSettle Alike Alike b arms I (flowed_out (arms_flow n None b arms I))
     arms_free b some no_arm free w I h = flow_is (arms_flow n None b no_arm I) tt tt zero_share refl
     arms_free b some (arm p a arms) free w I h =
-        let A = scaled (class_weight b None p) I in (
+        let A = scaled (class_weight b None p) I in
+        let f = p_arms n None b some (arm p a arms) I w h in (
           flowed_out (block_flow n None a A),
           flowed_out (arms_flow n None b arms I),
           block_free a free.0 w.0 A (p_scaled (class_weight b None p) I some h),
           arms_free b some arms free.1 w.1 I h,
-          flow_is (arms_flow n None b (arm p a arms) I) (arms_next b some (arm p a arms) I w h) (arms_ended b some (arm p a arms) I w h) (plus zero_share zero_share) refl,
+          flow_is (arms_flow n None b (arm p a arms) I) f.next f.ended (plus zero_share zero_share) refl,
         )
