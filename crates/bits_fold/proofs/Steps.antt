@@ -29,7 +29,7 @@ use Rattle.exact_fold.specs.inner.Settled.{as_table, AreAbove}
 use Rattle.exact_fold.proofs.SameLists.{alike_refl, alike_sym}
 use Rattle.exact_fold.proofs.Steps.{above_fractions, alone_settles, set_back, uniform_back, observe_back, guarded, merged_alike}
 use Rattle.exact_fold.proofs.Turns.{sides_alike}
-use Rattle.exact_fold.proofs.Unlimited.{set_unlimited, observe_unlimited, draw_unlimited}
+use Rattle.exact_fold.proofs.FreeFlows.{one_unlimited}
 use Rattle.bits_law.specs.Reading.{Comes, StatementReads, BlockReads, ArmsRead}
 use Rattle.bits_law.proofs.BlockTends.{statement_some, block_some, arms_some}
 use Rattle.bits_fold.specs.inner.Reading.{DrawsRead, ReadsFrom}
@@ -51,17 +51,17 @@ skip_reads es bits e h = record { above = h; reads = nothing _ _ bits e (alike_r
 
 pub set_reads : (x : ℕ) (e : Expression) (es fs : Entries) (E F : Ended) (bits : Fraction) → bits ≡ (0, 1) → AreFractions (rows_of E) → FoldsOne (statement_flow 0 None (Set x e)) es E fs F → ReadsFrom (StatementReads (Set x e)) es fs bits
 set_reads x e es fs E F bits z u d h =
-    let s = alone_settles (Set x e) es E fs F tt (set_back x e es) (set_unlimited x e (as_table es)) d h u in
+    let s = alone_settles (Set x e) es E fs F tt (set_back x e es) (one_unlimited 0 (Set x e) tt (as_table es)) d h u in
     record { above = s.above; reads = nothing _ _ bits z (s.settles).next }
 
 pub observe_reads : (e : Expression) (es fs : Entries) (E F : Ended) (bits : Fraction) → bits ≡ (0, 1) → AreFractions (rows_of E) → FoldsOne (statement_flow 0 None (Observe e)) es E fs F → ReadsFrom (StatementReads (Observe e)) es fs bits
 observe_reads e es fs E F bits z u d h =
-    let s = alone_settles (Observe e) es E fs F tt (observe_back e es) (observe_unlimited e (as_table es)) d h u in
+    let s = alone_settles (Observe e) es E fs F tt (observe_back e es) (one_unlimited 0 (Observe e) tt (as_table es)) d h u in
     record { above = s.above; reads = nothing _ _ bits z (s.settles).next }
 
 pub uniform_reads : (x : ℕ) (e : Expression) (es fs : Entries) (E F : Ended) (bits : Fraction) → AreFractions (rows_of E) → DrawsRead (drawn_bound (value_of e)) es bits → FoldsOne (statement_flow 0 None (Uniform x e)) es E fs F → ReadsFrom (StatementReads (Uniform x e)) es fs bits
 uniform_reads x e es fs E F bits u b d h =
-    let s = alone_settles (Uniform x e) es E fs F tt (uniform_back x e es) (draw_unlimited x e (as_table es)) d h u in
+    let s = alone_settles (Uniform x e) es E fs F tt (uniform_back x e es) (one_unlimited 0 (Uniform x e) tt (as_table es)) d h u in
     let r = b h in
     record { above = s.above; reads = record { next = (s.settles).next; equal = r.1; fraction = r.0 } }
 

@@ -27,7 +27,7 @@ use Rattle.unlimited_law.proofs.BlockLimits.{behind_fractions}
 use Rattle.unlimited_law.proofs.ByState.{append_fractions}
 use Rattle.exact_fold.proofs.SameLists.{alike_refl, alike_append, alike_chain, product_some}
 use Rattle.exact_fold.proofs.SameInputs.{block_from}
-use Rattle.exact_fold.proofs.Unlimited.{unlimited_append}
+use Rattle.exact_fold.proofs.FreeFlows.{unlimited_append}
 use Rattle.exact_fold.proofs.Steps.{at_scale, above_positive, above_fractions, stands_itself, stands_alike, held_above, merged_alike}
 
 -- ---- one arm's side

@@ -1,6 +1,5 @@
 pub mod SameLists
 pub mod SameInputs
-pub mod Unlimited
 pub mod FreeFlows
 pub mod RowsOfOne
 pub mod FreeMasses

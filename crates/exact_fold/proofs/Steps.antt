@@ -32,7 +32,7 @@ use Rattle.unlimited_law.proofs.ByState.{alike_amounts}
 use Rattle.exact_fold.specs.inner.Settled.{as_table, AreAbove, AreUnlimited, SettlesFrom}
 use Rattle.exact_fold.proofs.SameLists.{alike_refl, alike_chain, product_some}
 use Rattle.exact_fold.proofs.SameInputs.{block_from}
-use Rattle.exact_fold.proofs.Unlimited.{unlimited_append, unlimited_faults}
+use Rattle.exact_fold.proofs.FreeFlows.{unlimited_append, unlimited_faults}
 
 -- ---- a common scale
 pub record AtScale (ps : List Fraction) : Type 0 where

@@ -37,7 +37,7 @@ use Rattle.unlimited_law.proofs.BlockLimits.{behind_fractions, all_positive}
 use Rattle.unlimited_law.proofs.ByState.{kept_fractions, append_fractions}
 use Rattle.exact_fold.proofs.SameLists.{alike_of, alike_refl, alike_append, alike_chain, product_some}
 use Rattle.exact_fold.proofs.SameInputs.{block_from}
-use Rattle.exact_fold.proofs.Unlimited.{unlimited_append, unlimited_faults}
+use Rattle.exact_fold.proofs.FreeFlows.{unlimited_append, unlimited_faults}
 use Rattle.exact_fold.proofs.Steps.{at_scale, together_at, above_positive, above_fractions, stands_itself, stands_alike, end_itself, end_alike, held_above, only_whole, wholes_append, guarded, merged_alike}
 
 -- ---- a list in two orders, and in two parts

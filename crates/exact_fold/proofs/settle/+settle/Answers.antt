@@ -21,7 +21,7 @@ use Rattle.exact_fold.proofs.Arms.{arms_start, arms_as, arm_turn, arms_end}
 use Rattle.exact_fold.specs.inner.Settled.{as_table}
 use Rattle.exact_fold.specs.inner.Turning.{StaysIn, keys_in}
 use Rattle.exact_fold.proofs.Steps.{alone_settles, skip_back, set_back, uniform_back, observe_back, branch_settles, statement_as, rest_next, rest_none}
-use Rattle.exact_fold.proofs.Unlimited.{skip_unlimited, set_unlimited, observe_unlimited, draw_unlimited}
+use Rattle.exact_fold.proofs.FreeFlows.{one_unlimited}
 use Rattle.exact_fold.proofs.Turns.{turn_settles, state_stays, stays_next, choice_settles}
 use Rattle.exact_fold.proofs.settle.+settle.Goals as goal
 
@@ -54,7 +54,7 @@ pub settle_stmt-returns-in-Skip-clause-ok : goal.settle_stmt-returns-in-Skip-cla
 settle_stmt-returns-in-Skip-clause-ok t c =
     let q = ap statement_of c.in-Skip.is ∙ skip_view in
     let es = c.args.table.states.entries in
-    statement_as _ _ es es c.args.ended.now c.args.ended.now q (alone_settles Skip es c.args.ended.now es c.args.ended.now tt (skip_back es) (skip_unlimited (as_table es)) (fold_skip 0 None es c.args.ended.now))
+    statement_as _ _ es es c.args.ended.now c.args.ended.now q (alone_settles Skip es c.args.ended.now es c.args.ended.now tt (skip_back es) (one_unlimited 0 Skip tt (as_table es)) (fold_skip 0 None es c.args.ended.now))
 
 pub settle_stmt-returns-in_ok-assign-in-Set-clause-ok : goal.settle_stmt-returns-in_ok-assign-in-Set-clause-ok
 settle_stmt-returns-in_ok-assign-in-Set-clause-ok t c =
@@ -62,7 +62,7 @@ settle_stmt-returns-in_ok-assign-in-Set-clause-ok t c =
     let es = c.args.table.states.entries in
     let E = c.args.ended.now in
     let ex = expression_of c.in-Set.e in
-    statement_as _ _ es _ E _ q (alone_settles (Set c.in-Set.x ex) es E _ _ tt (set_back c.in-Set.x ex es) (set_unlimited c.in-Set.x ex (as_table es)) (fold_assign 0 None c.in-Set.x ex es E _ _ c.in_ok-assign-in-Set.ensures.ok))
+    statement_as _ _ es _ E _ q (alone_settles (Set c.in-Set.x ex) es E _ _ tt (set_back c.in-Set.x ex es) (one_unlimited 0 (Set c.in-Set.x ex) tt (as_table es)) (fold_assign 0 None c.in-Set.x ex es E _ _ c.in_ok-assign-in-Set.ensures.ok))
 
 pub settle_stmt-returns-in_ok-draw-in-Uniform-clause-ok : goal.settle_stmt-returns-in_ok-draw-in-Uniform-clause-ok
 settle_stmt-returns-in_ok-draw-in-Uniform-clause-ok t c =
@@ -74,7 +74,7 @@ settle_stmt-returns-in_ok-draw-in-Uniform-clause-ok t c =
     let drawn : UniformTo c.in-Uniform.x (value_of ex) None es E after c.draw.new.ended =
     subst (λ r. UniformTo c.in-Uniform.x (value_of ex) r es E after c.draw.new.ended) c.unlimited.ensures c.in_ok-draw-in-Uniform.ensures.ok in
     statement_as _ _ es _ E _ q (alone_settles (Uniform c.in-Uniform.x ex) es E _ _ tt (uniform_back c.in-Uniform.x ex es)
-    (draw_unlimited c.in-Uniform.x ex (as_table es)) (fold_draw 0 None c.in-Uniform.x ex es E c.len-count.ensures.ordered _ _ drawn))
+    (one_unlimited 0 (Uniform c.in-Uniform.x ex) tt (as_table es)) (fold_draw 0 None c.in-Uniform.x ex es E c.len-count.ensures.ordered _ _ drawn))
 
 pub settle_stmt-returns-in_ok-end_all-in-Observe-clause-ok : goal.settle_stmt-returns-in_ok-end_all-in-Observe-clause-ok
 settle_stmt-returns-in_ok-end_all-in-Observe-clause-ok t c =
@@ -82,7 +82,7 @@ settle_stmt-returns-in_ok-end_all-in-Observe-clause-ok t c =
     let es = c.args.table.states.entries in
     let E = c.args.ended.now in
     let ex = expression_of c.in-Observe.e in
-    statement_as _ _ es _ E _ q (alone_settles (Observe ex) es E _ _ tt (observe_back ex es) (observe_unlimited ex (as_table es)) (fold_observe 0 None ex es E _ _ _ _ c.in_ok-first-in-Observe.ensures.first c.in_ok-first-in-Observe.ensures.second c.in_ok-end_all-in-Observe.ensures.ok))
+    statement_as _ _ es _ E _ q (alone_settles (Observe ex) es E _ _ tt (observe_back ex es) (one_unlimited 0 (Observe ex) tt (as_table es)) (fold_observe 0 None ex es E _ _ _ _ c.in_ok-first-in-Observe.ensures.first c.in_ok-first-in-Observe.ensures.second c.in_ok-end_all-in-Observe.ensures.ok))
 
 pub settle_stmt-settle_block-requires : goal.settle_stmt-settle_block-requires
 settle_stmt-settle_block-requires t c =
