@@ -1,20 +1,19 @@
 -- What a roll has read so far of a source of bits, whatever it makes of them. The words for a source are parameters.
-use Rattle.std.proofs.Common.{◌≡◌, ◌∙◌, ℕ, ◌+◌, Bool, Option, Some, None, Result, Ok, List, [], drop, drop-drop, refl, sym, ap}
+use Rattle.std.proofs.Common.{◌≡◌, ◌∙◌, ℕ, Bool, Option, Some, None, Result, Ok, List, [], refl}
 use Rattle.std.specs.Prelude.{IsTrue}
 use Rattle.zar_io.specs.declared.outside.Failed.{Failed}
 use Rattle.zar_io.specs.declared.trace.Event.{Event}
 use Rattle.zar_io.specs.GoesOn.{GoesOn}
-use Rattle.zar_io.specs.Trace.{World, Agrees, failures}
-use Rattle.zar_io.proofs.TraceLemmas.{agrees_before, goes_on-none, goes_on-more}
+use Rattle.zar_io.specs.Trace.{failures}
+use Rattle.zar_io.proofs.TraceLemmas.{goes_on-none, goes_on-more}
 
 -- what has ended answers nothing more
 pub still_there : {A : Type 0} {a : A} (o : Option A) → ◌≡◌ {A = Result (Option A) Failed} (Ok o) (Ok None) → o ≡ Some a → ⊥
 still_there o e f = cc
 
-module _ {B : Type 0} (answered : B → List Event) (left : B → World → List Bool) (ended broken : B → Bool) (source : B → ℕ) where
-  -- of the bits that were left at first so many were taken, and none was missing
+module _ {B : Type 0} (answered : B → List Event) (ended broken : B → Bool) (source : B → ℕ) where
+  -- so many bits were taken, and none was missing
   pub record HasRead (first now : B) (read : ℕ) : Type 0 where
-    pub taken : (file : World) → Agrees file (answered now) → drop read (left first file) ≡ left now file
     pub alive : IsTrue (ended first) → read ≡ 0
     pub fails : failures (answered now) ≡ failures (answered first)
     pub goes_on : GoesOn [] (answered first) (answered now)
@@ -24,7 +23,6 @@ module _ {B : Type 0} (answered : B → List Event) (left : B → World → List
 
   pub none_read : (bits : B) → HasRead bits bits 0
   none_read bits = record {
-    taken = λ file agrees. refl;
     alive = λ had_ended. refl;
     fails = refl;
     goes_on = goes_on-none (answered bits) (answered bits) refl;
@@ -34,14 +32,10 @@ module _ {B : Type 0} (answered : B → List Event) (left : B → World → List
   }
 
   -- some more are taken
-  pub read_on : (first now next : B) (read more after : ℕ) → after ≡ read + more → HasRead first now read
-      → ((file : World) → Agrees file (answered next) → drop more (left now file) ≡ left next file) → ¬ (IsTrue (ended now))
+  pub read_on : (first now next : B) (read after : ℕ) → HasRead first now read → ¬ (IsTrue (ended now))
       → failures (answered next) ≡ failures (answered now) → GoesOn [] (answered now) (answered next)
       → ended next ≡ ended now → broken next ≡ broken now → source next ≡ source now → HasRead first next after
-  read_on first now next read more after sum so_far takes not_ended fails on end break same = record {
-    taken = λ file agrees.
-        let earlier = agrees_before file [] (answered now) (answered next) on agrees in
-        ap (λ n. drop n (left first file)) sum ∙ sym (drop-drop more read (left first file)) ∙ ap (drop more) (so_far.taken file earlier) ∙ takes file agrees;
+  read_on first now next read after so_far not_ended fails on end break same = record {
     alive = λ had_ended. absurd (not_ended (so_far.same_end ∙ had_ended));
     fails = fails ∙ so_far.fails;
     goes_on = goes_on-more [] (answered first) (answered now) (answered next) so_far.goes_on on;

@@ -1,5 +1,5 @@
 //! A draw by the Fast Dice Roller over a source of bits.
-ghost use Rattle.std.specs.Prelude.{◌≡◌, ◌<◌, ◌≤◌, ◌^◌, [], IfOk, IsTrue};
+ghost use Rattle.std.specs.Prelude.{◌≡◌, ◌<◌, ◌≤◌, [], refl, IfOk, IsTrue};
 ghost use Rattle.zar_io.specs.Bits.{broken_after};
 ghost use Rattle.zar_io.specs.GoesOn.{GoesOn};
 ghost use Rattle.zar_io.specs.Trace.{World, Agrees, Fails};
@@ -7,9 +7,48 @@ ghost use Rattle.dice_roll.specs.declared.rules.TheConstants as rule;
 ghost use Rattle.dice_roll.specs.FastRoll.{fast_roll};
 ghost use Rattle.dice_roll.specs.Fair.{IsFair};
 ghost use Rattle.dice_roll.specs.Rolled.{TookEach, IsWithin, ended_by};
+ghost use Rattle.dice_roll.specs.inner.Dice.{dice_from, StandsAmong};
 
 use crate::answers::Roll;
+use crate::flipping::roll_on;
+use crate::flips::Flips;
 use zar_io::{Bits, Failed};
+
+// A number below `range`, each as likely: the strings of the bits so far that have no label, numbered.
+#[derive(Drop)]
+struct Dice {
+    m: u64,
+    range: u64,
+    number: u64,
+}
+
+impl Flips for Dice {
+    ghost rolls = { λ s. dice_from s.m s.range s.number };
+
+    ghost labels = { λ s. s.m };
+
+    ghost Stands = { λ s n. StandsAmong s.m s.range s.number };
+
+    ghost no_flip_left = { λ s n bits. refl };
+
+    ghost no_bit_left = { λ s h n. refl };
+
+    fn flip(&mut self, _read: u64, bit: bool) -> Option<u64> {
+        let range = 2 * self.range;
+        let number = 2 * self.number + u64::from(bit);
+        if range < self.m {
+            self.range = range;
+            self.number = number;
+            return None;
+        }
+        if number < self.m {
+            return Some(number);
+        }
+        self.range = range - self.m;
+        self.number = number - self.m;
+        None
+    }
+}
 
 /// Draws one of `m` labels, each as likely, by fair bits, of which it reads at most `flips`: the Fast Dice Roller
 /// (Lumbroso 2013). It takes no memory.
@@ -35,24 +74,10 @@ pub fn roll<B: Bits>(m: u64, flips: u64, bits: &mut B) -> Result<Roll, Failed>
     ensures same_source { B.source bits.new ≡ B.source bits.old }
     ensures law { IsFair m }
 {
-    // A number below `range`, each as likely: the strings of the bits so far that have no label, numbered.
-    let mut range: u64 = 1;
-    let mut number: u64 = 0;
-    for read in 0..flips {
-        match bits.next()? {
-            None => return Ok(Roll::MoreBits(read)),
-            Some(bit) => {
-                range = 2 * range;
-                number = 2 * number + u64::from(bit);
-                if m <= range {
-                    if number < m {
-                        return Ok(Roll::Label(number, read + 1));
-                    }
-                    range -= m;
-                    number -= m;
-                }
-            }
-        }
-    }
-    Ok(Roll::Limit(flips))
+    let mut dice = Dice {
+        m,
+        range: 1,
+        number: 0,
+    };
+    roll_on(&mut dice, flips, bits)
 }

@@ -5,7 +5,6 @@ pub mod Passing
 pub mod Leading
 pub mod Walking
 pub mod Costs
-pub mod Taking
 pub mod Places
 pub mod Tabled
 pub mod Stepping

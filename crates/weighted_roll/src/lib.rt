@@ -23,7 +23,6 @@ mod rules;
 mod sharing;
 mod table;
 mod weights;
-mod word_flips;
 
 pub use drawn::draws_by_attempts_stay_behind;
 pub use laws::{equal_weights_roll_fast, exact_rollers_stay_below, weighted_rolls_are_optimal};

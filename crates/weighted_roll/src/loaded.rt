@@ -1,5 +1,5 @@
 //! Weights that are laid out once and rolled by often: a loaded die.
-ghost use Rattle.std.specs.Prelude.{◌≡◌, ◌<◌, ◌≤◌, [], length, IfOk, IsTrue};
+ghost use Rattle.std.specs.Prelude.{◌≡◌, ◌<◌, ◌≤◌, [], length, refl, IfOk, IsTrue};
 ghost use Rattle.zar_io.specs.Bits.{broken_after};
 ghost use Rattle.zar_io.specs.GoesOn.{GoesOn};
 ghost use Rattle.zar_io.specs.Trace.{World, Agrees, Fails};
@@ -8,14 +8,48 @@ ghost use Rattle.dice_roll.specs.declared.rules.TheConstants as dice_rule;
 ghost use Rattle.weighted_roll.specs.declared.rules.TheConstants as rule;
 ghost use Rattle.weighted_roll.specs.Weights.{AreWeights};
 ghost use Rattle.weighted_roll.specs.WeightedRoll.{weighted_roll};
+ghost use Rattle.weighted_roll.specs.inner.Walks.{rolls_on, Stands};
 
 use crate::columns::Column;
 use crate::table::Table;
-use crate::word_flips::walk_on;
-use dice_roll::Roll;
+use dice_roll::{Flips, Roll, roll_on};
 use std::alloc::{AllocError, Global};
 use std::marker::Model;
 use zar_io::{Bits, Failed};
+
+// The number of the string so far among those as long that have no label, in the columns that are laid out or behind them, where the
+// room holds what is left of the strings of each label.
+#[derive(Drop)]
+struct Columns<'a> {
+    table: &'a Table,
+    room: &'a mut [u64],
+    number: u64,
+}
+
+impl Flips for Columns<'_> {
+    ghost rolls = { λ s. rolls_on s.table.now.whole s.table.now.weights.items s.number };
+
+    ghost labels = { λ s. length s.room.now };
+
+    ghost Stands = { λ s t. Stands s.table.now.whole s.table.now.depth s.table.now.weights.items s.room.now t s.number };
+
+    ghost no_flip_left = { λ s n bits. refl };
+
+    ghost no_bit_left = { λ s h n. refl };
+
+    fn flip(&mut self, read: u64, bit: bool) -> Option<u64> {
+        match self
+            .table
+            .step(self.room, read as usize, 2 * self.number + u64::from(bit))
+        {
+            Column::Leaf(label) => Some(label),
+            Column::Rest(left) => {
+                self.number = left;
+                None
+            }
+        }
+    }
+}
 
 /// Weights to roll by, with the first columns of their tree laid out, so that a flip costs one comparison. Threads may share it
 /// by reference, each with a room and bits of its own.
@@ -67,19 +101,11 @@ impl Loaded {
         ensures same_source { B.source bits.new ≡ B.source bits.old }
         ensures same_room { length room.new ≡ length room.old }
     {
-        let table = &self.table;
-        let mut read: u64 = 0;
-        let mut number: u64 = 0;
-        while read < flips {
-            match walk_on(table, room, read, number, flips, bits)? {
-                None => return Ok(Roll::MoreBits(read)),
-                Some((Column::Leaf(label), after)) => return Ok(Roll::Label(label, after)),
-                Some((Column::Rest(left), after)) => {
-                    number = left;
-                    read = after;
-                }
-            }
-        }
-        Ok(Roll::Limit(flips))
+        let mut columns = Columns {
+            table: &self.table,
+            room,
+            number: 0,
+        };
+        roll_on(&mut columns, flips, bits)
     }
 }

@@ -1,5 +1,5 @@
 //! A draw by weights over a source of bits.
-ghost use Rattle.std.specs.Prelude.{◌≡◌, ◌<◌, ◌≤◌, [], length, IfOk, IsTrue};
+ghost use Rattle.std.specs.Prelude.{◌≡◌, ◌<◌, ◌≤◌, [], length, refl, IfOk, IsTrue};
 ghost use Rattle.std.specs.List.{sum};
 ghost use Rattle.zar_io.specs.Bits.{broken_after};
 ghost use Rattle.zar_io.specs.GoesOn.{GoesOn};
@@ -8,12 +8,43 @@ ghost use Rattle.dice_roll.specs.Rolled.{TookEach, IsWithin, ended_by};
 ghost use Rattle.dice_roll.specs.declared.rules.TheConstants as dice_rule;
 ghost use Rattle.weighted_roll.specs.declared.rules.TheConstants as rule;
 ghost use Rattle.weighted_roll.specs.Weights.{AreWeights};
-ghost use Rattle.weighted_roll.specs.WeightedRoll.{weighted_roll};
+ghost use Rattle.weighted_roll.specs.WeightedRoll.{weighted_from, weighted_roll};
+ghost use Rattle.weighted_roll.specs.inner.Walks.{StandsAmong};
 
 use crate::columns::{Column, pass_labels};
 use crate::weights::weights_are_small;
-use dice_roll::Roll;
+use dice_roll::{Flips, Roll, roll_on};
 use zar_io::{Bits, Failed};
+
+// What is left of the strings of each label, and the number of the string so far among those as long that have no label.
+#[derive(Drop)]
+struct Remainders<'a> {
+    rests: &'a mut [u64],
+    whole: u64,
+    number: u64,
+}
+
+impl Flips for Remainders<'_> {
+    ghost rolls = { λ s h n w. weighted_from s.whole h s.rests.now s.number n w };
+
+    ghost labels = { λ s. length s.rests.now };
+
+    ghost Stands = { λ s n. StandsAmong s.whole s.rests.now s.number };
+
+    ghost no_flip_left = { λ s n bits. refl };
+
+    ghost no_bit_left = { λ s h n. refl };
+
+    fn flip(&mut self, _read: u64, bit: bool) -> Option<u64> {
+        match pass_labels(self.rests, self.whole, 2 * self.number + u64::from(bit)) {
+            Column::Leaf(label) => Some(label),
+            Column::Rest(left) => {
+                self.number = left;
+                None
+            }
+        }
+    }
+}
 
 // The sum, where it is known to be small.
 pub(crate) fn sum_of(weights: &[u64]) -> u64
@@ -54,16 +85,10 @@ pub fn roll<B: Bits>(
     weights_are_small(weights);
     let whole = sum_of(weights);
     rests.copy_from_slice(weights);
-    // The number of the string so far among those as long that have no label.
-    let mut number: u64 = 0;
-    for read in 0..flips {
-        match bits.next()? {
-            None => return Ok(Roll::MoreBits(read)),
-            Some(bit) => match pass_labels(rests, whole, 2 * number + u64::from(bit)) {
-                Column::Leaf(label) => return Ok(Roll::Label(label, read + 1)),
-                Column::Rest(left) => number = left,
-            },
-        }
-    }
-    Ok(Roll::Limit(flips))
+    let mut remainders = Remainders {
+        rests,
+        whole,
+        number: 0,
+    };
+    roll_on(&mut remainders, flips, bits)
 }
