@@ -1,5 +1,7 @@
 -- Why lines are refused: each code has a cause, which holds of the program.
 use Rattle.std.specs.Prelude.{◌≡◌, ℕ, Option, None}
+use Rattle.bits_fold.specs.declared.error.BitsError.{BitsError}
+use Rattle.bits_fold.specs.declared.error.BitsError.TheVariants as bits
 use Rattle.cost_fold.specs.Refused.{CostRefused}
 use Rattle.cost_fold.specs.declared.error.CostError.{CostError}
 use Rattle.cost_fold.specs.declared.error.CostError.TheVariants as cost
@@ -31,6 +33,13 @@ cost_reason cost.TooWide = Coded TOO_WIDE
 cost_reason cost.TooManyStates = Coded TOO_MANY_STATES
 cost_reason cost.OutOfMemory = Memory
 
+-- what is not found is too wide, as it is for masses
+abbrev pub expected_reason : BitsError → Reason
+expected_reason bits.TooWide = Coded TOO_WIDE
+expected_reason bits.NotFound = Coded TOO_WIDE
+expected_reason bits.TooManyStates = Coded TOO_MANY_STATES
+expected_reason bits.OutOfMemory = Memory
+
 abbrev pub enclose_reason : EncloseError → Reason
 enclose_reason enclose.TooManyStates = Coded TOO_MANY_STATES
 enclose_reason enclose.AllFailed = Coded ALL_FAILED
@@ -59,6 +68,10 @@ WhyNoBounds p turns = WhyNoMasses p turns None None
 
 abbrev pub WhyNoBits : SourceProgram → Limits → ℕ → Type 0
 WhyNoBits p l = IsCause cost_reason (λ e. CostRefused e p l)
+
+-- where nothing is limited no more is said of it than its code
+abbrev pub WhyNotExpected : ℕ → Type 0
+WhyNotExpected = IsCause expected_reason (λ e. Unit {0})
 
 abbrev pub WhyNotEnclosed : SourceProgram → ℕ → Option ℕ → Option ℕ → ℕ → Type 0
 WhyNotEnclosed p turns attempts rounds = IsCause enclose_reason (λ e. EncloseRefused e p turns attempts rounds)

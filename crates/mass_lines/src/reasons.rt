@@ -1,8 +1,9 @@
 // Why lines are refused, by codes.
 
 ghost use Rattle.std.specs.Prelude.{◌≡◌};
-ghost use Rattle.mass_lines.specs.Reasons.{mass_reason, cost_reason, enclose_reason, exact_reason};
+ghost use Rattle.mass_lines.specs.Reasons.{mass_reason, cost_reason, expected_reason, enclose_reason, exact_reason};
 
+use bits_fold::BitsError;
 use cost_fold::CostError;
 use enclose_fold::EncloseError;
 use exact_fold::ExactError;
@@ -50,6 +51,18 @@ impl From<CostError> for Reason {
             CostError::TooWide => Reason::Coded(TOO_WIDE),
             CostError::TooManyStates => Reason::Coded(TOO_MANY_STATES),
             CostError::OutOfMemory => Reason::Memory,
+        }
+    }
+}
+
+impl From<BitsError> for Reason {
+    ghost from_gives = { λ e r. r ≡ expected_reason e };
+
+    fn from(error: BitsError) -> Self {
+        match error {
+            BitsError::TooWide | BitsError::NotFound => Reason::Coded(TOO_WIDE),
+            BitsError::TooManyStates => Reason::Coded(TOO_MANY_STATES),
+            BitsError::OutOfMemory => Reason::Memory,
         }
     }
 }

@@ -1,7 +1,7 @@
 // The lines of rows, one for each.
 
 ghost use Rattle.std.specs.Prelude.{◌≡◌, All, IfOk};
-ghost use Rattle.report_text.specs.Lines.{cost_text};
+ghost use Rattle.report_text.specs.Lines.{cost_text, unbounded_text};
 ghost use Rattle.mass_lines.specs.Narrow.{IsNarrow};
 ghost use Rattle.mass_lines.specs.BoundLines.{bound_rows_text, bound_lines};
 ghost use Rattle.mass_lines.specs.ExactLines.{exact_lines};
@@ -13,7 +13,9 @@ use gcl_print::Text;
 use mass_fold::FracRows;
 use numbers::Frac;
 use posterior_bounds::{BoundRows, Bounds};
-use report_text::{Decimals, bound_line, cost_line, endless_line, mass_line, other_line};
+use report_text::{
+    Decimals, bound_line, cost_line, endless_line, mass_line, other_line, unbounded_line,
+};
 use std::alloc::{AllocError, Global};
 
 // The lines of masses. An error comes only where memory runs out.
@@ -97,5 +99,14 @@ pub(crate) fn bit_line(alloc: Global, bits: &Frac, decimals: Decimals) -> Result
     is_narrow(bits);
     let mut text = Text::new(alloc);
     text.push(cost_line(bits, decimals).bytes())?;
+    Ok(text)
+}
+
+// The line of an expected number of bits that has no bound. An error comes only where memory runs out.
+pub(crate) fn unbounded_bit_line(alloc: Global) -> Result<Text, AllocError>
+    ensures { IfOk result (λ text. text ≡ unbounded_text) }
+{
+    let mut text = Text::new(alloc);
+    text.push(unbounded_line().bytes())?;
     Ok(text)
 }

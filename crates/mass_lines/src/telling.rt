@@ -9,11 +9,13 @@ ghost use Rattle.mass_lines.specs.BitLines.{IsBitLine};
 ghost use Rattle.mass_lines.specs.BoundLines.{AreBoundLines};
 ghost use Rattle.mass_lines.specs.EnclosedLines.{AreEnclosedLines};
 ghost use Rattle.mass_lines.specs.ExactLines.{AreExactLines};
+ghost use Rattle.mass_lines.specs.ExpectedLines.{IsExpectedLine};
 ghost use Rattle.mass_lines.specs.MassLines.{AreMassLines};
-ghost use Rattle.mass_lines.specs.Reasons.{IsReason, WhyNoBits, WhyNoBounds, WhyNoMasses, WhyNotEnclosed, WhyNotExact};
+ghost use Rattle.mass_lines.specs.Reasons.{IsReason, WhyNoBits, WhyNoBounds, WhyNoMasses, WhyNotEnclosed, WhyNotExact, WhyNotExpected};
 
 use crate::reasons::Reason;
-use crate::rows::{bit_line, bound_lines, exact_lines, mass_rows_text};
+use crate::rows::{bit_line, bound_lines, exact_lines, mass_rows_text, unbounded_bit_line};
+use bits_fold::{Bits, cost_in_the_limit};
 use cost_fold::cost;
 use enclose_fold::enclose;
 use exact_fold::exact;
@@ -88,7 +90,7 @@ pub fn exact_text(alloc: Global, program: &Checked, decimals: Decimals) -> Resul
     Ok(exact_lines(alloc, &masses, decimals)?)
 }
 
-/// The line of the bits that a run of a program reads on average.
+/// The line of the bits that a run of a program reads on average under limits.
 pub fn bits_text(
     alloc: Global,
     program: &Checked,
@@ -101,4 +103,15 @@ pub fn bits_text(
 {
     let bits = cost(alloc, program, limits)?;
     Ok(bit_line(alloc, &bits, decimals)?)
+}
+
+/// The line of the bits that a run of a program reads on average where nothing is limited, or of there being no bound.
+pub fn expected_text(alloc: Global, program: &Checked, decimals: Decimals) -> Result<Text, Reason>
+    ensures line { IfOk result (IsExpectedLine (source_of program.now) decimals) }
+    ensures refused { IfErr result (IsReason WhyNotExpected) }
+{
+    match cost_in_the_limit(alloc, program)? {
+        Bits::Expected(bits) => Ok(bit_line(alloc, &bits, decimals)?),
+        Bits::Unbounded => Ok(unbounded_bit_line(alloc)?),
+    }
 }

@@ -73,6 +73,10 @@ endless_text d mass = codes "endless mass " ++ fraction_text mass ++ decimals_te
 abbrev pub cost_text : ℕ → ℕ × ℕ → List ℕ
 cost_text d bits = codes "bits " ++ fraction_text bits ++ decimals_text Nearest d bits ++ codes "\n"
 
+-- that the expected number of bits has no bound
+abbrev pub unbounded_text : List ℕ
+unbounded_text = codes "bits unbounded\n"
+
 -- that a run ends in an outcome, or that it needs more bits
 abbrev pub key_text : TallyKey → List ℕ
 key_text (key.Outcome outcome) = outcome_text outcome

@@ -26,6 +26,8 @@ pub use line::{LINE_BYTES, Line};
 pub use outcomes::key_line;
 pub use refusals::{Refusal, fault_line};
 pub use rolls::{each_line, flips_line, roll_line};
-pub use shares::{bound_line, cost_line, endless_line, mass_line, other_line, undecided_line};
+pub use shares::{
+    bound_line, cost_line, endless_line, mass_line, other_line, unbounded_line, undecided_line,
+};
 pub use streams::hunt_line;
 pub use version::VERSION_LINE;

@@ -1,7 +1,7 @@
 // The lines of shares.
 
 ghost use Rattle.std.specs.Prelude.{◌≡◌, ◌+◌, ◌≤◌, ◌++◌, length};
-ghost use Rattle.report_text.specs.Lines.{mass_text, bounds_text, bound_text, other_text, undecided_text, endless_text, cost_text};
+ghost use Rattle.report_text.specs.Lines.{mass_text, bounds_text, bound_text, other_text, undecided_text, endless_text, cost_text, unbounded_text};
 ghost use Rattle.report_text.specs.declared.line.TheConstants as rule;
 
 use crate::decimals::{Decimals, Rounding};
@@ -76,4 +76,11 @@ pub fn cost_line(bits: &Frac, decimals: Decimals) -> Line
     ensures { result ≡ cost_text decimals bits.now }
 {
     Line::of_fraction(b"bits ", bits, decimals)
+}
+
+/// The line of an expected number of bits that has no bound. It takes no memory.
+pub fn unbounded_line() -> Line
+    ensures { result ≡ unbounded_text }
+{
+    Line::of(b"bits unbounded\n")
 }

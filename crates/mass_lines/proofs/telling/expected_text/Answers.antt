@@ -1,0 +1,12 @@
+use Rattle.std.proofs.Common.{subst}
+use Rattle.bits_fold.specs.Expected.{IsAnswer}
+use Rattle.gcl_core.specs.meaning.Views.{source_of}
+use Rattle.mass_lines.specs.ExpectedLines.{expected}
+use Rattle.mass_lines.proofs.telling.expected_text.Goals as goal
+
+pub returns-in_ok-bit_line-in-Expected-clause-line :
+    goal.returns-in_ok-bit_line-in-Expected-clause-line
+returns-in_ok-bit_line-in-Expected-clause-line c =
+    let text = c.in_ok-bit_line-in-Expected.ensures in
+    let is = subst (IsAnswer (source_of c.args.program.now)) c.in-Expected.is c.in_ok-bits.ensures in
+    expected c.in-Expected.bits is.0 is.1 text.narrow text.line
