@@ -149,7 +149,7 @@ const SAMPLES: [Row; 13] = [
 ];
 
 // Calls without one.
-const ANSWERS: [Row; 18] = [
+const ANSWERS: [Row; 20] = [
     Row {
         words: &["check", "p.gcl"],
         program: Some(b"return 7;"),
@@ -240,6 +240,22 @@ const ANSWERS: [Row; 18] = [
         bits: None,
         status: 0,
         out: b"bits 15/8\n",
+        err: b"",
+    },
+    Row {
+        words: &["cost", "p.gcl"],
+        program: Some(TWO_THIRDS),
+        bits: None,
+        status: 0,
+        out: b"bits 2/1\n",
+        err: b"",
+    },
+    Row {
+        words: &["cost", "p.gcl"],
+        program: Some(b"x ~ uniform(2); observe false; return x;"),
+        bits: None,
+        status: 0,
+        out: b"bits unbounded\n",
         err: b"",
     },
     Row {

@@ -303,6 +303,10 @@ fn of_end(alloc: Global, row: &Row, words: &[String]) -> Result<String, AllocErr
             alloc,
             "where bits come from is missing: --seed N or --bits FILE",
         ),
+        Verb::Cost => String::from_str(
+            alloc,
+            "with a limit --attempts N and --rounds N are both needed; with none nothing is limited",
+        ),
         Verb::Fast => String::from_str(alloc, "--stream and --budget need a --seed"),
         _ => String::from_str(
             alloc,

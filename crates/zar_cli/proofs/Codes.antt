@@ -1,5 +1,7 @@
 -- By which refusals a command may end: a code of texts or of work, or the outside, and never a failed write.
 use Rattle.std.proofs.Common.{◌≡◌, ◌≢◌, ℕ, ◌<◌, Bool, List, Option, Some, None, Ok, Err, ◌⊎◌, inl, inr, sym, subst, arith}
+use Rattle.bits_fold.specs.declared.error.BitsError.{BitsError}
+use Rattle.bits_fold.specs.declared.error.BitsError.TheVariants as bits
 use Rattle.cost_fold.specs.declared.error.CostError.{CostError}
 use Rattle.cost_fold.specs.declared.error.CostError.TheVariants as cost
 use Rattle.dice_roll.specs.FastRoll.{fast_roll}
@@ -14,7 +16,7 @@ use Rattle.gcl_core.specs.text.Acceptance.{Flaw, kind_mismatch, unknown_name, ze
 use Rattle.gcl_core.specs.text.Texts.{IsRefusedText, too_long, no_piece, wide_number, long_name, unexpected, too_deep, flaw_code, IsRefusedProgram, many_names, has_flaw, SpellsNone, as_text, as_program}
 use Rattle.mass_fold.specs.declared.error.MassError.{MassError}
 use Rattle.mass_fold.specs.declared.error.MassError.TheVariants as mass
-use Rattle.mass_lines.specs.Reasons.{IsCause, mass_reason, cost_reason, enclose_reason, exact_reason}
+use Rattle.mass_lines.specs.Reasons.{IsCause, mass_reason, cost_reason, expected_reason, enclose_reason, exact_reason}
 use Rattle.mass_lines.specs.declared.reasons.Reason.{Reason}
 use Rattle.mass_lines.specs.declared.reasons.Reason.TheVariants as reasons
 use Rattle.report_text.specs.declared.refusals.Refusal.{Refusal}
@@ -88,6 +90,12 @@ cost_codes cost.TooWide = omega arith
 cost_codes cost.TooManyStates = omega arith
 cost_codes cost.OutOfMemory = tt
 
+expected_codes : (e : BitsError) → IsApart (expected_reason e)
+expected_codes bits.TooWide = omega arith
+expected_codes bits.NotFound = omega arith
+expected_codes bits.TooManyStates = omega arith
+expected_codes bits.OutOfMemory = tt
+
 enclose_codes : (e : EncloseError) → IsApart (enclose_reason e)
 enclose_codes enclose.TooManyStates = omega arith
 enclose_codes enclose.AllFailed = omega arith
@@ -152,7 +160,8 @@ module _ (e : Refusal) where
   work_codes file p (Sample (File bits) limits) is = of_bits (file bits) (λ w. Answered (run_on p limits w)) is
   work_codes file p (Sample (Stream seed stream budget) limits) is = of_said _ is
   work_codes file p (Mass turns attempts rounds d) is = lines_codes mass_reason _ mass_codes _ e is
-  work_codes file p (Cost limits d) is = lines_codes cost_reason _ cost_codes _ e is
+  work_codes file p (Cost (Some limits) d) is = lines_codes cost_reason _ cost_codes _ e is
+  work_codes file p (Cost None d) is = lines_codes expected_reason _ expected_codes _ e is
   work_codes file p (Posterior turns d) is = lines_codes mass_reason _ mass_codes _ e is
   work_codes file p (Exact d) is = lines_codes exact_reason _ exact_codes _ e is
   work_codes file p (Enclose turns attempts rounds all_turns d) is = lines_codes enclose_reason _ enclose_codes _ e is

@@ -14,7 +14,7 @@ use Rattle.zar_cli.specs.declared.command.Source.{Source}
 use Rattle.zar_cli.specs.declared.command.Source.TheVariants as source
 use Rattle.zar_cli.specs.declared.settings.Form.{Form}
 use Rattle.zar_cli.specs.declared.settings.Form.TheVariants as form
-use Rattle.zar_cli.specs.declared.settings.TheConstants.{BITS, SEED, STREAM, BUDGET, FROM, TO, WORKERS, TURNS, ATTEMPTS, ROUNDS, WANT, USUAL_LIMIT, USUAL_BUDGET, USUAL_WORKERS}
+use Rattle.zar_cli.specs.declared.settings.TheConstants.{BITS, SEED, STREAM, BUDGET, FROM, TO, WORKERS, TURNS, ATTEMPTS, ROUNDS, WANT, USUAL_LIMIT, USUAL_MASS_TURNS, USUAL_BUDGET, USUAL_WORKERS}
 use Rattle.gcl_core.specs.text.Numbers.{number_in}
 use Rattle.zar_cli.specs.Forms.{CallWord, is_name, key_named}
 
@@ -110,17 +110,21 @@ number_given s o = option_and_then (number_of s.1) (value_of s.0 o)
 abbrev pub number_or : ℕ → Setting → Options → ℕ
 number_or usual s o = unwrap_or (number_given s o) usual
 
--- the limits of a run, each this number where it is not given
-abbrev pub limits_with : ℕ → ℕ → ℕ → Options → Limits
-limits_with turns attempts rounds o =
-    record {
-      turns = number_or turns (of_code TURNS) o;
-      attempts = number_or attempts (of_code ATTEMPTS) o;
-      rounds = number_or rounds (of_code ROUNDS) o;
-    }
-
+-- the limits of a run, each the usual where it is not given
 abbrev pub limits_of : Options → Limits
-limits_of o = limits_with USUAL_LIMIT USUAL_LIMIT USUAL_LIMIT o
+limits_of o = record {
+  turns = number_or USUAL_LIMIT (of_code TURNS) o;
+  attempts = number_or USUAL_LIMIT (of_code ATTEMPTS) o;
+  rounds = number_or USUAL_LIMIT (of_code ROUNDS) o;
+}
+
+-- the limits of expected bits, if one of attempts and one of rounds are given
+abbrev pub limits_if_both : ℕ → Option ℕ → Option ℕ → Option Limits
+limits_if_both turns (Some attempts) (Some rounds) = Some (record { turns = turns; attempts = attempts; rounds = rounds })
+limits_if_both turns attempts rounds = None
+
+abbrev pub cost_limits : Options → Option Limits
+cost_limits o = limits_if_both (number_or USUAL_MASS_TURNS (of_code TURNS) o) (number_given (of_code ATTEMPTS) o) (number_given (of_code ROUNDS) o)
 
 -- where bits come from, where that is given
 abbrev pub has_source : Options → Bool

@@ -23,7 +23,7 @@ SourceHasRange (Stream seed stream budget) = budget ≤ MOST_BUDGET
 abbrev pub WorkHasRange : Work → Type 0
 WorkHasRange (Sample source limits) = InRange limits × SourceHasRange source
 WorkHasRange (Mass turns attempts rounds d) = (turns ≤ MOST_LIMIT) × IfSome attempts IsLimit × IfSome rounds IsLimit
-WorkHasRange (Cost limits d) = InRange limits
+WorkHasRange (Cost limits d) = IfSome limits InRange
 WorkHasRange (Posterior turns d) = turns ≤ MOST_LIMIT
 WorkHasRange (Exact d) = Unit {0}
 WorkHasRange (Enclose turns attempts rounds all_turns d) =

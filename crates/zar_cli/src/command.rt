@@ -91,8 +91,8 @@ pub enum Work {
     Sample(Source, Limits),
     /// The mass of each outcome, with limits of turns, attempts and rounds.
     Mass(u64, Option<u64>, Option<u64>, Decimals),
-    /// How many bits a run reads on average.
-    Cost(Limits, Decimals),
+    /// How many bits a run reads on average, under limits or where nothing is limited.
+    Cost(Option<Limits>, Decimals),
     /// The bounds of each outcome for every greater limit of turns.
     Posterior(u64, Decimals),
     /// The mass of each outcome with no limit, and what never ends.

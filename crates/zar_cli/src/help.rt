@@ -7,8 +7,8 @@ ghost use Rattle.zar_cli.specs.declared.settings.TheConstants.{HELP};
 
 use crate::explained::REFUSALS;
 use crate::settings::{
-    HELP, LEAST_GENERATED, USUAL_BUDGET, USUAL_COST_ATTEMPTS, USUAL_COST_ROUNDS, USUAL_FLIPS,
-    USUAL_LIMIT, USUAL_MASS_TURNS, USUAL_WEIGHED_FLIPS, USUAL_WORKERS, Verb, row_named,
+    HELP, LEAST_GENERATED, USUAL_BUDGET, USUAL_FLIPS, USUAL_LIMIT, USUAL_MASS_TURNS,
+    USUAL_WEIGHED_FLIPS, USUAL_WORKERS, Verb, row_named,
 };
 use audit_walk::MOST_DEPTH;
 use dice_roll::{LEAST_LABELS, MOST_FLIPS, MOST_LABELS};
@@ -238,18 +238,13 @@ pub const MASS: Page = (
 
 pub const COST: Page = (
     "zar cost FILE
-    print how many bits a run reads on average, under limits
+    print how many bits a run reads on average where nothing is limited
+zar cost FILE --attempts N --rounds N
+    print how many under limits, of turns too
 
 ",
     &[
-        &[
-            ATTEMPTS,
-            (" (", Some(USUAL_COST_ATTEMPTS)),
-            END,
-            ROUNDS,
-            (" (", Some(USUAL_COST_ROUNDS)),
-            END,
-        ],
+        &[ATTEMPTS, REQUIRED, ROUNDS, REQUIRED],
         MASS_TURNS,
         DECIMALS,
         EXPLAIN,

@@ -2,19 +2,18 @@
 
 ghost use Rattle.std.specs.Prelude.{◌≡◌, ◌+◌, ◌^◌, ◌<◌, ◌≤◌, [], ◌∷◌, length, map, option_map, take, None, IfSome};
 ghost use Rattle.std.specs.List.{list_all};
-ghost use Rattle.gcl_core.specs.declared.rules.TheConstants.{MOST_LIMIT};
 ghost use Rattle.gcl_core.specs.meaning.LimitRange.{InRange};
 ghost use Rattle.gcl_core.specs.text.Names.{value_named};
 ghost use Rattle.zar_io.specs.declared.stream_bits.TheConstants.{MOST_BUDGET};
 ghost use Rattle.zar_cli.specs.OptionWords.{excludes, bars, is_alone, is_barred, form_behind, wrong_behind, words_of, wrong_option};
-ghost use Rattle.zar_cli.specs.OptionWords.{value_of, is_given, number_given, number_or, limits_with, limits_of, has_source, no_options, range_of, is_range, wanted};
+ghost use Rattle.zar_cli.specs.OptionWords.{value_of, is_given, number_given, number_or, limits_of, cost_limits, has_source, no_options, range_of, is_range, wanted};
 ghost use Rattle.stream_runs.specs.Ranges.{IsWorkers};
 ghost use Rattle.zar_cli.specs.inner.OptionsView.{options_of, IsIn};
 
 use crate::keys::key_named;
 use crate::settings::{
     ATTEMPTS, BITS, BUDGET, FROM, Form, ROUNDS, SEED, STREAM, Setting, TO, TURNS, USUAL_BUDGET,
-    USUAL_LIMIT, USUAL_WORKERS, WANT, WORKERS,
+    USUAL_LIMIT, USUAL_MASS_TURNS, USUAL_WORKERS, WANT, WORKERS,
 };
 use gcl_core::{Limits, TallyKey, number_in, value_named};
 use stream_runs::{MOST_STREAMS, SeedRange};
@@ -271,26 +270,29 @@ impl<'a> Options<'a> {
         }
     }
 
-    /// The limits of a run, each the number here where it is not given.
-    pub(crate) fn limits_with(self, turns: u64, attempts: u64, rounds: u64) -> Limits
-        requires turns { turns ≤ MOST_LIMIT }
-        requires attempts { (1 ≤ attempts) × (attempts ≤ MOST_LIMIT) }
-        requires rounds { (1 ≤ rounds) × (rounds ≤ MOST_LIMIT) }
-        ensures limits { result ≡ limits_with turns attempts rounds (options_of self.entry) }
-        ensures range { InRange result }
-    {
-        Limits {
-            turns: self.number_or(turns, TURNS),
-            attempts: self.number_or(attempts, ATTEMPTS),
-            rounds: self.number_or(rounds, ROUNDS),
-        }
-    }
-
     /// The limits of a run, each the usual where it is not given.
     pub(crate) fn limits(self) -> Limits
         ensures limits { result ≡ limits_of (options_of self.entry) }
         ensures range { InRange result }
     {
-        self.limits_with(USUAL_LIMIT, USUAL_LIMIT, USUAL_LIMIT)
+        Limits {
+            turns: self.number_or(USUAL_LIMIT, TURNS),
+            attempts: self.number_or(USUAL_LIMIT, ATTEMPTS),
+            rounds: self.number_or(USUAL_LIMIT, ROUNDS),
+        }
+    }
+
+    /// The limits of expected bits, if one of attempts and one of rounds are given.
+    pub(crate) fn cost_limits(self) -> Option<Limits>
+        ensures limits { result ≡ cost_limits (options_of self.entry) }
+        ensures range { IfSome result InRange }
+    {
+        let attempts = self.number(ATTEMPTS)?;
+        let rounds = self.number(ROUNDS)?;
+        Some(Limits {
+            turns: self.number_or(USUAL_MASS_TURNS, TURNS),
+            attempts,
+            rounds,
+        })
     }
 }

@@ -164,12 +164,8 @@ pub const VERSION_WORD: &str = "--version";
 
 /// The limit of turns, of attempts and of rounds where none is given.
 pub const USUAL_LIMIT: u64 = 1000;
-/// The limit of turns under which masses, expected bits and bounds are worked out where none is given.
+/// The limit of turns under which masses, bounds and, where they have limits, expected bits are worked out where none is given.
 pub const USUAL_MASS_TURNS: u64 = 30;
-/// The limit of attempts under which expected bits are worked out where none is given.
-pub const USUAL_COST_ATTEMPTS: u64 = 2;
-/// The limit of rounds under which they are where none is given.
-pub const USUAL_COST_ROUNDS: u64 = 1;
 /// The budget of bits of a stream where none is given.
 pub const USUAL_BUDGET: u64 = 65_536;
 /// The workers on a range of streams where no number is given.

@@ -1,6 +1,6 @@
 // The masses of a program, and the bits that a run of it reads on average.
 
-ghost use Rattle.std.specs.Prelude.{◌≤◌, IfSome};
+ghost use Rattle.std.specs.Prelude.{◌≤◌, None, Some, IfSome};
 ghost use Rattle.gcl_core.specs.declared.rules.TheConstants.{MOST_LIMIT};
 ghost use Rattle.gcl_core.specs.meaning.LimitRange.{InRange};
 ghost use Rattle.gcl_core.specs.meaning.Views.{source_of};
@@ -11,7 +11,7 @@ ghost use Rattle.zar_cli.specs.inner.Works.{WorksAlone};
 use crate::refusing::refusal_by;
 use crate::said::Said;
 use gcl_core::{Checked, Limits};
-use mass_lines::{bits_text, masses_text};
+use mass_lines::{bits_text, expected_text, masses_text};
 use report_text::{Decimals, Refusal};
 use std::alloc::Global;
 
@@ -35,18 +35,44 @@ pub fn masses_of(
     }
 }
 
-/// The line of the bits that a run of a program reads on average.
-pub fn bits_of(
+// The line of the bits that a run of a program reads on average under limits.
+fn bits_under(
     alloc: Global,
     program: &Checked,
     limits: &Limits,
     decimals: Decimals,
 ) -> Result<Said, Refusal>
     requires { InRange limits.now }
-    ensures { WorksAlone (Cost limits.now decimals) (source_of program.now) result }
+    ensures { WorksAlone (Cost (Some limits.now) decimals) (source_of program.now) result }
 {
     match bits_text(alloc, program, limits, decimals) {
         Ok(line) => Ok(Said::Shown(line)),
         Err(reason) => Err(refusal_by(reason)),
+    }
+}
+
+// The line of those that it reads where nothing is limited.
+fn bits_expected(alloc: Global, program: &Checked, decimals: Decimals) -> Result<Said, Refusal>
+    ensures { WorksAlone (Cost None decimals) (source_of program.now) result }
+{
+    match expected_text(alloc, program, decimals) {
+        Ok(line) => Ok(Said::Shown(line)),
+        Err(reason) => Err(refusal_by(reason)),
+    }
+}
+
+/// The line of the bits that a run of a program reads on average, under limits or where nothing is limited.
+pub fn bits_of(
+    alloc: Global,
+    program: &Checked,
+    limits: &Option<Limits>,
+    decimals: Decimals,
+) -> Result<Said, Refusal>
+    requires { IfSome limits.now InRange }
+    ensures { WorksAlone (Cost limits.now decimals) (source_of program.now) result }
+{
+    match limits {
+        Some(limits) => bits_under(alloc, program, limits, decimals),
+        None => bits_expected(alloc, program, decimals),
     }
 }

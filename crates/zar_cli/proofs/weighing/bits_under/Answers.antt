@@ -5,7 +5,7 @@ use Rattle.mass_lines.specs.Reasons.{WhyNoBits}
 use Rattle.zar_cli.specs.Weighed.{ShowsOrRefuses, shown}
 use Rattle.zar_cli.specs.inner.Works.{Gives}
 use Rattle.zar_cli.proofs.Refusals.{lines_refused}
-use Rattle.zar_cli.proofs.weighing.bits_of.Goals as goal
+use Rattle.zar_cli.proofs.weighing.bits_under.Goals as goal
 
 pub returns-in-Ok : goal.returns-in-Ok
 returns-in-Ok c = record { gives = λ file. shown c.in-Ok.line c.in-Ok.ensures.line }
