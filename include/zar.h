@@ -179,10 +179,14 @@ zar_said zar_enclose(const uint8_t *text, size_t text_length, uint64_t turns, ui
  * ZAR_MASS_REFUSED are those of zar_mass. */
 zar_said zar_exact(const uint8_t *text, size_t text_length, uint8_t *lines, size_t capacity);
 
-/* The line of `zar cost`: how many bits a run reads on average. The limits have the ranges of `zar_limits`; the codes of
+/* The line of `zar cost` under limits: how many bits a run reads on average. The limits have the ranges of `zar_limits`; the codes of
  * ZAR_MASS_REFUSED are 13 and 14. */
 zar_said zar_cost(const uint8_t *text, size_t text_length, uint64_t turns, uint64_t attempts, uint64_t rounds,
                   uint8_t *lines, size_t capacity);
+
+/* The line of `zar cost` where nothing is limited: `bits P/Q`, or `bits unbounded` where there is no bound. The codes of
+ * ZAR_MASS_REFUSED are those of zar_cost. */
+zar_said zar_cost_in_the_limit(const uint8_t *text, size_t text_length, uint8_t *lines, size_t capacity);
 
 /* The lines of `zar audit`: for each outcome the share of all strings of `depth` bits, 0 to 20, on which the run ends in it, and the share
  * of those on which it needs more. The limits have the ranges of `zar_limits`. The time may double with each bit. */

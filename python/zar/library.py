@@ -71,6 +71,7 @@ CALLS = {
     "zar_enclose": (*TEXT, NUMBER, NUMBER, NUMBER, ctypes.c_bool, *ARRAY),
     "zar_explain": (*TEXT, ctypes.c_uint8, ctypes.c_uint32, *ARRAY),
     "zar_cost": (*TEXT, NUMBER, NUMBER, NUMBER, *ARRAY),
+    "zar_cost_in_the_limit": (*TEXT, *ARRAY),
     "zar_draws": (*TEXT, NUMBER, NUMBER, ctypes.POINTER(Limits), *ARRAY, *ARRAY),
     "zar_tally": (*TEXT, NUMBER, NUMBER, NUMBER, ctypes.POINTER(Limits), *ARRAY),
     "zar_hunt": (*TEXT, NUMBER, NUMBER, NUMBER, ctypes.POINTER(Limits), ctypes.c_int64, ctypes.c_uint8, ctypes.POINTER(Found)),

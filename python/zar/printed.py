@@ -5,6 +5,7 @@ This is the one reader of these lines: the package and the scripts of the reposi
 from __future__ import annotations
 
 import enum
+import math
 import re
 import typing
 from fractions import Fraction
@@ -49,7 +50,7 @@ KINDS = {
     "count": (re.compile(COUNT), "a number above 0 without leading zeros", int, (Rest.MORE_BITS,)),
 }
 BOUNDS = re.compile(rf"(.*) from ({FRACTION}) to ({FRACTION})\n")
-BITS = re.compile(rf"bits ({FRACTION})\n")
+BITS = re.compile(rf"bits (?:({FRACTION})|unbounded)\n")
 
 
 # The most characters of a text that a message quotes.
@@ -123,6 +124,7 @@ def bounds(text: str) -> dict[Outcome, Bounds]:
     return {outcome(it[1]): Bounds(Fraction(it[2]), Fraction(it[3])) for it in rows}
 
 
-def bits(text: str) -> Fraction:
-    """The number of bits in the line of an expected cost."""
-    return Fraction(told(BITS, text)[1])
+def bits(text: str) -> Fraction | float:
+    """The number of bits in the line of an expected cost, which is math.inf where it has no bound."""
+    number = told(BITS, text)[1]
+    return Fraction(number) if number else math.inf

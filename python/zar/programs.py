@@ -113,12 +113,17 @@ class Program:
         limits = {"attempts": or_none("attempts", attempts), "rounds": or_none("rounds", rounds)}
         return printed.bounds(library.lines("zar_enclose", self._text, turns=turns, **limits, all_turns=bool(all_turns)))
 
-    def cost(self, *, turns: int = WEIGHED_TURNS, attempts: int = 2, rounds: int = 1) -> Fraction:
-        """How many bits a run reads on average under these limits.
+    def cost(self, *, turns: int | None = None, attempts: int | None = None, rounds: int | None = None) -> Fraction | float:
+        """How many bits a run reads on average: a Fraction, or math.inf where there is no bound.
 
-        The limits: `turns` 30 of each entry of a loop, `attempts` 2 of each draw, `rounds` 1. Each attempt makes the figure wider.
-        Refused with E13 or E14 as `mass`.
+        Nothing is limited where no limit is given. Else `attempts` of each draw and `rounds` are both to be given; `turns` are 30 of each entry
+        of a loop where they are not. Refused with E13 or E14 as `exact`, and under limits as `mass`.
         """
+        if turns is attempts is rounds is None:
+            return printed.bits(library.lines("zar_cost_in_the_limit", self._text))
+        if attempts is None or rounds is None:
+            raise TypeError("attempts and rounds are both to be given, or no limit at all")
+        turns = WEIGHED_TURNS if turns is None else turns
         return printed.bits(library.lines("zar_cost", self._text, turns=turns, attempts=attempts, rounds=rounds))
 
     def sample(

@@ -1,5 +1,5 @@
 /* calls FILE SEED COUNT: all calls of the library on the text of a file, by C and by C++. It prints the line of the version, the
- * lines of show, code, mass, exact, posterior, enclose, cost, tally, audit and hunt, or status and code, and the outcomes of the first streams of the seed in the words of the program;
+ * lines of show, code, mass, exact, posterior, enclose, cost with limits and without, tally, audit and hunt, or status and code, and the outcomes of the first streams of the seed in the words of the program;
  * those of draws in a row on the stream 0, and how many bits they read; and those of rolls by the weights 3, 2 and 1 on these streams. With no words it prints the version of the header, and the words of
  * each code. */
 #include "zar.h"
@@ -94,6 +94,7 @@ int main(int count, char **words) {
     tell(zar_posterior(text, text_length, 9, lines, sizeof lines));
     tell(zar_enclose(text, text_length, 9, 3, 2, true, lines, sizeof lines));
     tell(zar_cost(text, text_length, 9, 3, 2, lines, sizeof lines));
+    tell(zar_cost_in_the_limit(text, text_length, lines, sizeof lines));
     const zar_limits limits = {65536, 9, 3, 2};
     tell(zar_tally(text, text_length, strtoull(words[2], NULL, 10), 0, strtoull(words[3], NULL, 10), &limits, lines, sizeof lines));
     tell(zar_audit(text, text_length, 5, 9, 3, 2, lines, sizeof lines));

@@ -112,6 +112,7 @@ def line_calls(library, text, rng):
         (library.zar_posterior, (*given, turns), ["posterior", "p.gcl", "--turns", str(turns)]),
         (library.zar_enclose, (*given, turns, attempts, rounds, all_turns), ["enclose", "p.gcl", "--turns", str(turns), *limits, *["--all-turns"] * all_turns]),
         (library.zar_cost, (*given, turns, attempts or 1, rounds or 1), ["cost", "p.gcl", *all_limits]),
+        (library.zar_cost_in_the_limit, given, ["cost", "p.gcl"]),
         (library.zar_audit, (*given, depth, turns, attempts or 1, rounds or 1), ["audit", "p.gcl", "--depth", str(depth), *all_limits]),
     ]
 

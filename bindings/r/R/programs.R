@@ -23,9 +23,17 @@ zar_enclose <- function(text, turns = 30, attempts = NULL, rounds = NULL, all_tu
     bounds(lines_of(6L, text, c(limits, isTRUE(all_turns))))
 }
 
-zar_cost <- function(text, turns = 30, attempts = 2, rounds = 1) {
-    exact <- sub("bits ([^\n]*)\n", "\\1", lines_of(7L, text, c(whole("turns", turns), whole("attempts", attempts), whole("rounds", rounds))))
-    data.frame(exact = exact, bits = rounded(exact))
+zar_cost <- function(text, turns = NULL, attempts = NULL, rounds = NULL) {
+    if (is.null(turns) && is.null(attempts) && is.null(rounds)) {
+        line <- lines_of(10L, text)
+    } else if (is.null(attempts) || is.null(rounds)) {
+        stop("attempts and rounds are both to be given, or no limit at all", call. = FALSE)
+    } else {
+        turns <- if (is.null(turns)) 30 else turns
+        line <- lines_of(7L, text, c(whole("turns", turns), whole("attempts", attempts), whole("rounds", rounds)))
+    }
+    exact <- sub("bits ([^\n]*)\n", "\\1", line)
+    data.frame(exact = exact, bits = if (exact == "unbounded") Inf else rounded(exact))
 }
 
 zar_audit <- function(text, depth, turns = 1000, attempts = 1000, rounds = 1000) {

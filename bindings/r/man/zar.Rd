@@ -38,7 +38,7 @@ zar_posterior(text, turns = 30)
 zar_enclose(text, turns = 30, attempts = NULL, rounds = NULL,
             all_turns = FALSE)
 zar_audit(text, depth, turns = 1000, attempts = 1000, rounds = 1000)
-zar_cost(text, turns = 30, attempts = 2, rounds = 1)
+zar_cost(text, turns = NULL, attempts = NULL, rounds = NULL)
 zar_roll(weights, n, seed, first = 0, budget = 65536, flips = 1000)
 zar_check(text)
 zar_show(text)
@@ -76,7 +76,8 @@ in the outcome, or \code{NA}.
 \code{zar_posterior} and \code{zar_enclose}: for each outcome two fractions between which its mass lies, \code{low} and \code{high}, and
 these rounded; the one for each greater limit of turns, the other however wide the mass is. \code{zar_audit}: masses of all strings of so many
 bits, with \code{undecided}, on which a run needs more. \code{zar_cost}: how many bits a run reads on average, \code{exact} as a text, and
-rounded.
+rounded; \code{unbounded} and \code{Inf} where there is no bound. Nothing is limited where no limit is given; else \code{attempts} and
+\code{rounds} are both to be given, and \code{turns} are 30 where they are not.
 
 \code{zar_roll}: places of the weights, from 1 on, by the fewest coin flips.
 

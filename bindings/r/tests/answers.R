@@ -31,7 +31,9 @@ two_thirds <- "choice 2/3 { x := 1; } or { x := 2; } return x;"
 shares <- zar_audit(two_thirds, 3)
 stopifnot(identical(shares$outcome, c("value 1", "value 2", "undecided")), identical(shares$mass, c("5/8", "1/4", "1/8")))
 stopifnot(refused(zar_audit(two_thirds, 21)) == "a number is out of its range")
-stopifnot(identical(zar_cost(die, attempts = 1), data.frame(exact = "11/4", bits = 2.75)))
+stopifnot(identical(zar_cost(die, attempts = 1, rounds = 1), data.frame(exact = "11/4", bits = 2.75)))
+stopifnot(identical(zar_cost(die)$exact, "22/3"), refused(zar_cost(die, rounds = 1)) == "attempts and rounds are both to be given, or no limit at all")
+stopifnot(identical(zar_cost("x ~ uniform(2); observe false; return x;")$bits, Inf))
 
 # The runs on streams, counted and sought.
 ones <- which(whole == 1) - 1

@@ -51,6 +51,7 @@ extern "C" {
     ) -> Said;
     fn zar_exact(text: *const u8, length: usize, lines: *mut u8, capacity: usize) -> Said;
     fn zar_cost(text: *const u8, length: usize, turns: u64, attempts: u64, rounds: u64, lines: *mut u8, capacity: usize) -> Said;
+    fn zar_cost_in_the_limit(text: *const u8, length: usize, lines: *mut u8, capacity: usize) -> Said;
     #[rustfmt::skip]
     fn zar_audit(
         text: *const u8,
@@ -145,6 +146,7 @@ pub(crate) enum Ask<'a> {
     Enclose(u64, u64, u64, bool),
     Exact,
     Cost(u64, u64, u64),
+    CostInTheLimit,
     Audit(u32, &'a Four),
     Tally(u64, &'a Range<u64>, &'a Four),
 }
@@ -179,6 +181,7 @@ pub(crate) fn lines(text: &str, ask: &Ask) -> Result<String, Error> {
                 Ask::Enclose(turns, attempts, rounds, all) => zar_enclose(from, length, turns, attempts, rounds, all, to, room),
                 Ask::Exact => zar_exact(from, length, to, room),
                 Ask::Cost(turns, attempts, rounds) => zar_cost(from, length, turns, attempts, rounds, to, room),
+                Ask::CostInTheLimit => zar_cost_in_the_limit(from, length, to, room),
                 Ask::Audit(depth, Four(_, turns, attempts, rounds)) => zar_audit(from, length, depth, *turns, *attempts, *rounds, to, room),
                 Ask::Tally(seed, streams, limits) => zar_tally(from, length, seed, streams.start, streams.end, limits, to, room),
             }

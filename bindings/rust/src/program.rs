@@ -69,7 +69,14 @@ impl Program {
         Ok(rows(&lines(&self.text, &ask)?, " from ", bounds))
     }
 
-    /// How many bits a run reads on average under these limits. `zar` takes 30 turns, 2 attempts and 1 round. Refused as `mass`.
+    /// How many bits a run reads on average where nothing is limited, or `None` where there is no bound. Refused as `exact`.
+    pub fn cost_in_the_limit(&self) -> Result<Option<Fraction>, Error> {
+        let line = lines(&self.text, &Ask::CostInTheLimit)?;
+        let bits = line.trim_start_matches("bits ").trim_end();
+        Ok((bits != "unbounded").then(|| fraction(bits)))
+    }
+
+    /// How many it reads under these limits. `zar` takes 30 turns. Refused as `mass`.
     pub fn cost(&self, turns: u64, attempts: u64, rounds: u64) -> Result<Fraction, Error> {
         let line = lines(&self.text, &Ask::Cost(turns, attempts, rounds))?;
         Ok(fraction(line.trim_start_matches("bits ").trim_end()))

@@ -33,6 +33,8 @@ fn masses_are_exact() {
     let die = program("face ~ uniform(6); observe face % 2 = 1; return face + 1;");
     assert_eq!(die.mass(30, None, Some(2)).unwrap().last(), Some(&(Outcome::Limit(Limit::Rounds), over(1, 4))));
     assert_eq!(die.cost(30, 1, 1), Ok(over(11, 4)));
+    assert_eq!(die.cost_in_the_limit(), Ok(Some(over(22, 3))));
+    assert_eq!(program("x ~ uniform(2); observe false; return x;").cost_in_the_limit(), Ok(None));
     assert_eq!(f64::from(half), 0.5);
 }
 

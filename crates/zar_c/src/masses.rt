@@ -9,15 +9,18 @@ ghost use Rattle.mass_lines.specs.BitLines.{IsBitLine};
 ghost use Rattle.mass_lines.specs.BoundLines.{AreBoundLines};
 ghost use Rattle.mass_lines.specs.EnclosedLines.{AreEnclosedLines};
 ghost use Rattle.mass_lines.specs.ExactLines.{AreExactLines};
+ghost use Rattle.mass_lines.specs.ExpectedLines.{IsExpectedLine};
 ghost use Rattle.mass_lines.specs.MassLines.{AreMassLines};
-ghost use Rattle.mass_lines.specs.Reasons.{WhyNoBits, WhyNoBounds, WhyNoMasses, WhyNotEnclosed, WhyNotExact};
+ghost use Rattle.mass_lines.specs.Reasons.{WhyNoBits, WhyNoBounds, WhyNoMasses, WhyNotEnclosed, WhyNotExact, WhyNotExpected};
 ghost use Rattle.zar_c.specs.Answered.{IsAnswer, NoNumbers};
 ghost use Rattle.zar_c.specs.Masses.{CanWeigh, limits_by, limit_of};
 
 use crate::asking::is_in_range;
 use crate::said::{ZarSaid, said, written};
 use crate::statuses::NUMBERS_REFUSED;
-use crate::weighing::{bits_of, bounds_of, can_weigh, enclosed_of, exact_of, limit, masses_of};
+use crate::weighing::{
+    bits_of, bounds_of, can_weigh, enclosed_of, exact_of, expected_of, limit, masses_of,
+};
 use gcl_core::Limits;
 use gcl_core::rules::MOST_LIMIT;
 use std::alloc::Global;
@@ -105,7 +108,7 @@ pub extern "C" fn zar_exact(alloc: Global, text: &[u8], lines: &mut [u8]) -> Zar
     }
 }
 
-/// The same of the bits that a run of the program reads on average.
+/// The same of the bits that a run of the program reads on average under limits.
 #[unsafe(no_mangle)]
 pub extern "C" fn zar_cost(
     alloc: Global,
@@ -128,6 +131,18 @@ pub extern "C" fn zar_cost(
         return said(NUMBERS_REFUSED);
     }
     match bits_of(alloc, text, &l) {
+        Ok(told) => written(told.bytes(), lines),
+        Err(said) => said,
+    }
+}
+
+/// The same of those that it reads where nothing is limited, or of there being no bound.
+#[unsafe(no_mangle)]
+pub extern "C" fn zar_cost_in_the_limit(alloc: Global, text: &[u8], lines: &mut [u8]) -> ZarSaid
+    ensures { IsAnswer (Spells text.now) (SpellsNone text.now) NoNumbers
+        (λ p. IsExpectedLine p 0) (λ p. WhyNotExpected) lines.old lines.new result }
+{
+    match expected_of(alloc, text) {
         Ok(told) => written(told.bytes(), lines),
         Err(said) => said,
     }

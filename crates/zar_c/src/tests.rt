@@ -2,9 +2,9 @@
 
 use crate::{
     DONE, MASS_REFUSED, NUMBERS_REFUSED, TEXT_REFUSED, ZarFound, ZarLimits, ZarRan, ZarRollLimits,
-    zar_audit, zar_check, zar_code, zar_cost, zar_draws, zar_draws_in_a_row, zar_enclose,
-    zar_explain, zar_hunt, zar_mass, zar_posterior, zar_roll, zar_run, zar_show, zar_tally,
-    zar_version,
+    zar_audit, zar_check, zar_code, zar_cost, zar_cost_in_the_limit, zar_draws, zar_draws_in_a_row,
+    zar_enclose, zar_explain, zar_hunt, zar_mass, zar_posterior, zar_roll, zar_run, zar_show,
+    zar_tally, zar_version,
 };
 use std::test::Fail;
 
@@ -234,6 +234,13 @@ fn tells_lines(rt: HostRuntime) -> Result<(), Fail> {
     let said = zar_cost(rt.alloc(), coin, 30, 1, 1, &mut lines);
     assert_eq!(rt; said.length, 9);
     assert_eq!(rt; lines[..9], *b"bits 2/1\n".as_slice());
+    let said = zar_cost_in_the_limit(
+        rt.alloc(),
+        b"x ~ uniform(2); observe false; return x;",
+        &mut lines,
+    );
+    assert_eq!(rt; said.length, 15);
+    assert_eq!(rt; lines[..15], *b"bits unbounded\n".as_slice());
     Ok(())
 }
 

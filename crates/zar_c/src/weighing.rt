@@ -10,8 +10,9 @@ ghost use Rattle.mass_lines.specs.BitLines.{IsBitLine};
 ghost use Rattle.mass_lines.specs.BoundLines.{AreBoundLines};
 ghost use Rattle.mass_lines.specs.EnclosedLines.{AreEnclosedLines};
 ghost use Rattle.mass_lines.specs.ExactLines.{AreExactLines};
+ghost use Rattle.mass_lines.specs.ExpectedLines.{IsExpectedLine};
 ghost use Rattle.mass_lines.specs.MassLines.{AreMassLines};
-ghost use Rattle.mass_lines.specs.Reasons.{WhyNoBits, WhyNoBounds, WhyNoMasses, WhyNotEnclosed, WhyNotExact};
+ghost use Rattle.mass_lines.specs.Reasons.{WhyNoBits, WhyNoBounds, WhyNoMasses, WhyNotEnclosed, WhyNotExact, WhyNotExpected};
 ghost use Rattle.zar_c.specs.Masses.{CanWeigh, limit_of};
 ghost use Rattle.zar_c.specs.inner.Refusing.{IsToldReason, IsRefusal};
 
@@ -22,7 +23,9 @@ use gcl_core::rules::MOST_LIMIT;
 use gcl_parse::one_reading;
 use gcl_print::Text;
 use gcl_text::check_text;
-use mass_lines::{Reason, bits_text, bounds_text, enclosed_text, exact_text, masses_text};
+use mass_lines::{
+    Reason, bits_text, bounds_text, enclosed_text, exact_text, expected_text, masses_text,
+};
 use report_text::Decimals;
 use std::alloc::Global;
 
@@ -151,7 +154,7 @@ pub(crate) fn exact_of(alloc: Global, text: &[u8]) -> Result<Text, ZarSaid>
     }
 }
 
-// The line of the bits that its runs read on average.
+// The line of the bits that its runs read on average under limits.
 pub(crate) fn bits_of(alloc: Global, text: &[u8], l: &Limits) -> Result<Text, ZarSaid>
     requires { InRange l.now }
     ensures lines { IfOk result (λ lines. (p : SourceProgram) → Spells text.now p → IsBitLine p l.now 0 lines) }
@@ -164,6 +167,23 @@ pub(crate) fn bits_of(alloc: Global, text: &[u8], l: &Limits) -> Result<Text, Za
         Err(refusal) => return Err(refused(refusal)),
     };
     match bits_text(alloc, &program, l, Decimals::none()) {
+        Ok(lines) => Ok(lines),
+        Err(why) => Err(told(why)),
+    }
+}
+
+// The line of those that they read where nothing is limited.
+pub(crate) fn expected_of(alloc: Global, text: &[u8]) -> Result<Text, ZarSaid>
+    ensures lines { IfOk result (λ lines. (p : SourceProgram) → Spells text.now p → IsExpectedLine p 0 lines) }
+    ensures there { IfOk result (λ _. (p : SourceProgram) × Spells text.now p) }
+    ensures refused { IfErr result (IsRefusal (Spells text.now) (SpellsNone text.now) (λ p. WhyNotExpected)) }
+{
+    one_reading();
+    let program = match check_text(alloc, text) {
+        Ok(program) => program,
+        Err(refusal) => return Err(refused(refusal)),
+    };
+    match expected_text(alloc, &program, Decimals::none()) {
         Ok(lines) => Ok(lines),
         Err(why) => Err(told(why)),
     }
