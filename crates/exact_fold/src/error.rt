@@ -8,7 +8,7 @@ use std::alloc::{AllocError, AllocFailed};
 pub enum SettleError {
     /// A fraction, or a number on the way to one, is wider than 128 bits.
     TooWide,
-    /// More than 65,536 states at one point, or on the guard of one loop.
+    /// More than 65,536 states at one point, or on the guard of one loop, or more parts of turns than [`MOST_PARTS`](crate::MOST_PARTS).
     TooManyStates,
     /// Memory ran out.
     OutOfMemory,
@@ -47,7 +47,7 @@ pub enum ExactError {
     /// a mass. Visits that are wider are not found, or what is found of them does not pass its check. None are found either where
     /// four of eight primes above 2^62 divide what an elimination divides by, whose product has more than 248 bits then.
     TooWide,
-    /// More than 65,536 states at one point, or on the guard of one loop.
+    /// More than 65,536 states at one point, or on the guard of one loop, or more parts of turns than [`MOST_PARTS`](crate::MOST_PARTS).
     TooManyStates,
     /// In the limit of turns every round fails.
     AllFailed,

@@ -19,6 +19,7 @@ pub mod finding;
 mod laws;
 mod loops;
 mod masses;
+mod parts;
 mod primes;
 mod program;
 mod residues;
@@ -33,4 +34,5 @@ pub use laws::{
     strings_tend_to_exact_masses,
 };
 pub use masses::exact;
+pub use parts::MOST_PARTS;
 pub use program::{ExactMasses, failed_in_the_limit};

@@ -15,6 +15,7 @@ ghost use Rattle.exact_fold.specs.inner.Rounds.{SumsTo, RoundOf, DividesTo};
 
 use crate::error::{ExactError, SettleError};
 use crate::loops::block_loops;
+use crate::parts::Parts;
 use crate::settle::settle_block;
 use gcl_core::{Checked, Outcome};
 use mass_fold::{Ended, FracRows, Table, add_ended, add_results, mass, over_rest};
@@ -44,7 +45,8 @@ fn settle_program(alloc: Global, checked: &Checked) -> Result<(Table, Ended), Se
     let program = checked.program();
     let table = Table::start(alloc, program.names.count())?;
     let mut ended = Ended::none();
-    let table = settle_block(alloc, &program.body, table, &mut ended)?;
+    let mut made = Parts::none();
+    let table = settle_block(alloc, &program.body, table, &mut ended, &mut made)?;
     Ok((table, ended))
 }
 

@@ -14,6 +14,7 @@ ghost use Rattle.exact_fold.specs.inner.Turning.{TurnsTo, IsClosed, StaysIn, key
 
 use crate::error::SettleError;
 use crate::finding::{Found, Seen, copied, put};
+use crate::parts::{Parts, drawn};
 use crate::turning::{above, all_stand, alone, is_none, leaving, passes, same};
 use gcl_core::{Arms, Block, Expr, Stmt};
 use mass_fold::choosing::{sides, total, weighed};
@@ -30,6 +31,7 @@ pub fn settle_block(
     block: &Block,
     table: Table,
     ended: &mut Ended,
+    made: &mut Parts,
 ) -> Result<Table, SettleError>
     requires below { BlockBelow table.vars (statements_of block.now) }
     requires weights { BlockIsWeighed (statements_of block.now) }
@@ -39,7 +41,7 @@ pub fn settle_block(
 {
     let mut now = table;
     for statement in &block.stmts {
-        now = settle_stmt(alloc, statement, now, ended)?;
+        now = settle_stmt(alloc, statement, now, ended, made)?;
     }
     Ok(now)
 }
@@ -51,6 +53,7 @@ fn settle_stmt(
     statement: &Stmt,
     table: Table,
     ended: &mut Ended,
+    made: &mut Parts,
 ) -> Result<Table, SettleError>
     requires below { StatementBelow table.vars (statement_of statement.now) }
     requires weights { StatementIsWeighed (statement_of statement.now) }
@@ -62,7 +65,10 @@ fn settle_stmt(
     match statement {
         Stmt::Skip => Ok(table),
         Stmt::Set(x, e) => Ok(assign(alloc, *x, e, table, ended)?),
-        Stmt::Uniform(x, e) => Ok(unlimited(alloc).draw(*x, e, table, ended)?),
+        Stmt::Uniform(x, e) => {
+            made.add(drawn(e, &table))?;
+            Ok(unlimited(alloc).draw(*x, e, table, ended)?)
+        }
         Stmt::Observe(e) => {
             let (first, second) = split(alloc, e, table, ended)?;
             end_all(Gone::Failed, second, ended)?;
@@ -70,22 +76,22 @@ fn settle_stmt(
         }
         Stmt::If(e, a, c) => {
             let (first, second) = split(alloc, e, table, ended)?;
-            let mut left = settle_block(alloc, a, first, ended)?;
-            let right = settle_block(alloc, c, second, ended)?;
+            let mut left = settle_block(alloc, a, first, ended, made)?;
+            let right = settle_block(alloc, c, second, ended, made)?;
             merge(&mut left, right)?;
             Ok(left)
         }
-        Stmt::While(e, body) => settle_loop(alloc, body, e, table, ended),
+        Stmt::While(e, body) => settle_loop(alloc, body, e, table, ended, made),
         Stmt::Choice(p, a, c) => {
             let (first, second) = sides(alloc, *p, Attempts { most: None }, &table, ended)?;
-            let mut left = settle_block(alloc, a, first, ended)?;
-            let right = settle_block(alloc, c, second, ended)?;
+            let mut left = settle_block(alloc, a, first, ended, made)?;
+            let right = settle_block(alloc, c, second, ended, made)?;
             merge(&mut left, right)?;
             Ok(left)
         }
         Stmt::Choose(arms) => {
             let part = one_part(total(arms));
-            settle_arms(alloc, arms, &part, &table, ended)
+            settle_arms(alloc, arms, &part, &table, ended, made)
         }
     }
 }
@@ -118,6 +124,7 @@ fn settle_arms(
     part: &Frac,
     table: &Table,
     ended: &mut Ended,
+    made: &mut Parts,
 ) -> Result<Table, SettleError>
     requires below { ArmsBelow table.now.vars (list_of_arms arms.now) }
     requires parts { AreParts (parts_of (list_of_arms arms.now)) }
@@ -132,7 +139,7 @@ fn settle_arms(
     let mut out = Table::new(alloc, table.vars);
     for (count, block) in &arms.arms {
         let side = weighed(alloc, part, *count, table)?;
-        let left = settle_block(alloc, block, side, ended)?;
+        let left = settle_block(alloc, block, side, ended, made)?;
         merge(&mut out, left)?;
     }
     Ok(out)
@@ -146,6 +153,7 @@ fn settle_loop(
     guard: &Expr,
     table: Table,
     ended: &mut Ended,
+    made: &mut Parts,
 ) -> Result<Table, SettleError>
     requires reads { ExpressionBelow (expression_of guard.now) table.vars }
     requires below { BlockBelow table.vars (statements_of body.now) }
@@ -156,10 +164,10 @@ fn settle_loop(
     ensures vars { IfOk result (λ t. t.vars ≡ table.vars) }
 {
     let start = start_of(alloc, guard, &table)?;
-    let seen = explored(alloc, body, guard, &start)?;
+    let seen = explored(alloc, body, guard, &start, made)?;
     let found = seen.found(alloc, &start)?;
-    check_closed(alloc, body, guard, &found.closed)?;
-    turned(alloc, body, guard, found, table, ended)
+    check_closed(alloc, body, guard, &found.closed, made)?;
+    turned(alloc, body, guard, found, table, ended, made)
 }
 
 // One turn from the visits. What it leads back and what comes in are the visits again, but for what is never left.
@@ -171,6 +179,7 @@ fn turned(
     found: Found,
     table: Table,
     ended: &mut Ended,
+    made: &mut Parts,
 ) -> Result<Table, SettleError>
     requires reads { ExpressionBelow (expression_of guard.now) table.vars }
     requires below { BlockBelow table.vars (statements_of body.now) }
@@ -183,7 +192,7 @@ fn turned(
     if !above(&found.visits) || !same(&found.visits, &found.copy) {
         return Err(SettleError::NotSettled);
     }
-    let next = settle_block(alloc, body, found.visits, ended)?;
+    let next = settle_block(alloc, body, found.visits, ended, made)?;
     let mut all = table;
     merge(&mut all, next)?;
     let seen = leaving(alloc, &found.closed, all)?;
@@ -213,6 +222,7 @@ fn led(
     guard: &Expr,
     vars: u32,
     state: &State,
+    made: &mut Parts,
 ) -> Result<Table, SettleError>
     requires reads { ExpressionBelow (expression_of guard.now) vars }
     requires below { BlockBelow vars (statements_of body.now) }
@@ -221,14 +231,20 @@ fn led(
     let mut one = Table::new(alloc, vars);
     put(&mut one, state.copy(alloc)?, Frac::of(1, 1))?;
     let mut none = Ended::none();
-    let next = settle_block(alloc, body, one, &mut none)?;
+    let next = settle_block(alloc, body, one, &mut none, made)?;
     let (first, _) = split(alloc, guard, next, &mut none)?;
     Ok(first)
 }
 
 // The states that a loop comes to, and where one turn leads from each.
 #[cycle(settle)]
-fn explored(alloc: Global, body: &Block, guard: &Expr, start: &Table) -> Result<Seen, SettleError>
+fn explored(
+    alloc: Global,
+    body: &Block,
+    guard: &Expr,
+    start: &Table,
+    made: &mut Parts,
+) -> Result<Seen, SettleError>
     requires reads { ExpressionBelow (expression_of guard.now) start.now.vars }
     requires below { BlockBelow start.now.vars (statements_of body.now) }
     requires weights { BlockIsWeighed (statements_of body.now) }
@@ -240,7 +256,8 @@ fn explored(alloc: Global, body: &Block, guard: &Expr, start: &Table) -> Result<
             return Ok(seen);
         }
         let state = seen.states[i].copy(alloc)?;
-        let next = led(alloc, body, guard, start.vars, &state)?;
+        let next = led(alloc, body, guard, start.vars, &state, made)?;
+        made.add(next.states.len() as u64)?;
         seen.lead(alloc, i as u64, &next)?;
     }
     if seen.states.len() > MOST_STATES {
@@ -257,6 +274,7 @@ fn check_state(
     guard: &Expr,
     closed: &Table,
     state: &State,
+    made: &mut Parts,
 ) -> Result<(), SettleError>
     requires reads { ExpressionBelow (expression_of guard.now) closed.now.vars }
     requires below { BlockBelow closed.now.vars (statements_of body.now) }
@@ -270,7 +288,7 @@ fn check_state(
     }
     let one = alone(alloc, closed.vars, state)?;
     let mut gone = Ended::none();
-    let next = settle_block(alloc, body, one, &mut gone)?;
+    let next = settle_block(alloc, body, one, &mut gone, made)?;
     if !is_none(&gone) || !all_stand(closed, &next) {
         return Err(SettleError::NotSettled);
     }
@@ -284,6 +302,7 @@ fn check_closed(
     body: &Block,
     guard: &Expr,
     closed: &Table,
+    made: &mut Parts,
 ) -> Result<(), SettleError>
     requires reads { ExpressionBelow (expression_of guard.now) closed.now.vars }
     requires below { BlockBelow closed.now.vars (statements_of body.now) }
@@ -292,7 +311,7 @@ fn check_closed(
         (keys_in closed.now.states.entries)) }
 {
     for (state, _) in &closed.states {
-        check_state(alloc, body, guard, closed, state)?;
+        check_state(alloc, body, guard, closed, state, made)?;
     }
     Ok(())
 }
