@@ -4,4 +4,5 @@ pub mod DrawSums
 pub mod Steps
 pub mod Arms
 pub mod Turns
+pub mod Forever
 pub mod Programs

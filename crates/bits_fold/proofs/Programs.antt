@@ -29,11 +29,14 @@ use Rattle.unlimited_law.proofs.OneLimit.{parts_vanish}
 use Rattle.exact_fold.specs.Exact.{FailsWith}
 use Rattle.exact_fold.specs.inner.Settled.{as_table}
 use Rattle.bits_law.specs.InTheLimit.{AreExpected, RoundReads, bits_in_the_limit}
+use Rattle.bits_law.specs.Forever.{BlockForever}
 use Rattle.bits_law.specs.Reading.{BlockReads}
 use Rattle.bits_law.proofs.BlockTends.{block_some}
 use Rattle.bits_fold.specs.declared.expected.Bits.{Bits}
 use Rattle.bits_fold.specs.declared.expected.Bits.TheVariants as bits
+use Rattle.bits_fold.specs.declared.stop.Stop.{Stop}
 use Rattle.bits_fold.specs.Expected.{IsAnswer}
+use Rattle.bits_fold.specs.inner.Forever.{StopsFrom, RoundStops}
 use Rattle.bits_fold.specs.inner.Reading.{ReadsFrom, ReadsInRound}
 use Rattle.bits_fold.proofs.Sums.{product_is}
 
@@ -42,6 +45,12 @@ program_reads p es fs bits e x = by (subst (λ z. ReadsFrom (BlockReads p.body) 
   where
     by : ReadsFrom (BlockReads p.body) ((zeros (length p.names), (1, 1)) ∷ []) fs bits → ReadsInRound p bits
     by x = (as_table fs, (x (omega arith, omega arith, tt)).reads)
+
+pub program_stops : (p : SourceProgram) (es : Entries) (s : Stop) → es ≡ (zeros (length p.names), (1, 1)) ∷ [] → StopsFrom (BlockForever p.body) es s → RoundStops p s
+program_stops p es s e x = by (subst (λ z. StopsFrom (BlockForever p.body) z s) e x)
+  where
+    by : StopsFrom (BlockForever p.body) ((zeros (length p.names), (1, 1)) ∷ []) s → RoundStops p s
+    by x = record { forever = λ h. x.forever h (omega arith, omega arith, tt) }
 
 -- ---- what is expected, said of an equal fraction
 pub expected_as : (p : SourceProgram) (bits other : Fraction) → IsEqual other bits → 1 ≤ other.1 → AreExpected p bits → AreExpected p other

@@ -74,7 +74,7 @@ comes_as J K bits more after read h e some o = record {
 
 -- ---- from a table that weighs the same
 mutual
-  statement_from : (st : Statement) → StatementIsWeighed st → (I I' J : Table) (bits : Fraction) → Alike I I' → StatementReads st I' J bits → StatementReads st I J bits
+  pub statement_from : (st : Statement) → StatementIsWeighed st → (I I' J : Table) (bits : Fraction) → Alike I I' → StatementReads st I' J bits → StatementReads st I J bits
   statement_from Skip w I I' J bits h o =
       comes_from J bits _ _ zero_share (alone_next I I' h Skip w skip_counted) o
   statement_from (Set x e) w I I' J bits h o =

@@ -1,3 +1,4 @@
 -- Words of proofs and of private contracts. No public definition or clause cites one.
 pub mod Reading
 pub mod Turning
+pub mod Forever

@@ -11,7 +11,7 @@ pub enum BitsError {
     TooWide,
     /// More than 65,536 states at one point, or on the guard of one loop.
     TooManyStates,
-    /// What was found of a loop is refused by its check. Of a loop that reads bits for ever nothing is found.
+    /// What was found of a loop is refused by its check.
     NotFound,
     /// Memory ran out.
     OutOfMemory,

@@ -6,7 +6,11 @@ ghost use Rattle.bits_fold.specs.Expected.{IsAnswer};
 
 use crate::error::BitsError;
 use crate::reading::read_program;
-use bits_law::{bits_tend_to_their_limit, rounds_that_all_fail_read_nothing_or_have_no_bound};
+use crate::stop::Stop;
+use bits_law::{
+    bits_tend_to_their_limit, bits_that_are_read_for_ever_have_no_bound,
+    rounds_that_all_fail_read_nothing_or_have_no_bound,
+};
 use exact_fold::failed_in_the_limit;
 use forgetting::{forgetful, forgetting_costs_nothing};
 use gcl_core::Checked;
@@ -29,7 +33,12 @@ fn bits_as_written(alloc: Global, p: &Checked) -> Result<Bits, BitsError>
     p.is_kept();
     bits_tend_to_their_limit();
     rounds_that_all_fail_read_nothing_or_have_no_bound();
-    let read = read_program(alloc, p)?;
+    bits_that_are_read_for_ever_have_no_bound();
+    let read = match read_program(alloc, p) {
+        Err(Stop::ReadsForever) => return Ok(Bits::Unbounded),
+        Err(Stop::Refused(error)) => return Err(error),
+        Ok(read) => read,
+    };
     let failed = failed_in_the_limit(alloc, p)?;
     failed.is_lowest();
     if read.num() == 0 {
@@ -50,9 +59,9 @@ fn bits_as_written(alloc: Global, p: &Checked) -> Result<Bits, BitsError>
 /// enough, no fewer but for 1 / k. It is worked out of the forgetful program, in which states are merged that differ in variables alone
 /// whose values no longer matter; both read as many bits.
 ///
-/// That there is no bound is told where in the limit every round fails and reads some bits; a program with a loop that reads for
-/// ever is refused. No clause says that a program has an answer: a call that refused each would keep this contract. What is tried
-/// is a table of programs, in the tests.
+/// That there is no bound is told where a loop reads for ever with some weight, and where in the limit every round fails and reads
+/// some bits. No clause says that a program has an answer: a call that refused each would keep this contract. What is tried is a
+/// table of programs, in the tests.
 pub fn cost_in_the_limit(alloc: Global, p: &Checked) -> Result<Bits, BitsError>
     ensures { IfOk result (IsAnswer (source_of p.now)) }
 {

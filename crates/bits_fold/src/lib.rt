@@ -1,11 +1,11 @@
-//! The expected bits of a run where nothing is limited, as an exact fraction. The expected visits of a loop are looked for, and one
-//! turn of the loop checks what was found.
+//! The expected bits of a run where nothing is limited, as an exact fraction. The expected visits of a loop are looked for, or a table
+//! from which it reads for ever, and turns of the loop check what was found.
 //!
 //! Proved: `cost_in_the_limit` answers what the expected bits under limits come to as all limits grow, or that they have no bound.
 //!
 //! No clause says that there is an answer: a call that refused each program would keep the contract, and tests alone show that it
-//! does not. A program is refused where a loop reads for ever, or where what was found of a loop does not pass its check. No clause
-//! says that memory or the stack suffices, or how long a call takes.
+//! does not. A program is refused where what was found of a loop does not pass its check, and where a fraction is too wide or states
+//! are too many. No clause says that memory or the stack suffices, or how long a call takes.
 #![tactic(auto)]
 
 mod draws;
@@ -13,6 +13,7 @@ mod error;
 mod expected;
 mod finding;
 mod reading;
+mod stop;
 
 pub use error::BitsError;
 pub use expected::{Bits, cost_in_the_limit};

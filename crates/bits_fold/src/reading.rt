@@ -1,6 +1,6 @@
 // A table through a block, and the bits that are read on the way, where nothing is limited.
 
-ghost use Rattle.std.specs.Prelude.{◌≡◌, ◌≤◌, ◌<◌, length, Some, None, IfOk, OnOk};
+ghost use Rattle.std.specs.Prelude.{◌≡◌, ◌≤◌, ◌<◌, length, Some, None, IfOk, IfErr, OnOk};
 ghost use Rattle.std.specs.List.{sum};
 ghost use Rattle.numbers.specs.Arithmetic.{sum_of};
 ghost use Rattle.numbers.specs.Fraction.{IsEqual};
@@ -12,15 +12,20 @@ ghost use Rattle.gcl_core.specs.meaning.Value.{value_of};
 ghost use Rattle.table_flow.specs.Counts.{all_kept, none_stopped};
 ghost use Rattle.mass_fold.specs.declared.ended.Ended.{Ended};
 ghost use Rattle.mass_fold.specs.inner.Steps.{StepsTo};
+ghost use Rattle.bits_law.specs.Forever.{LoopForever, StatementForever, BlockForever, ArmsForever};
 ghost use Rattle.bits_law.specs.Reading.{AreSilent, LoopReads, StatementReads, BlockReads, ArmsRead};
 ghost use Rattle.exact_fold.specs.inner.Turning.{keys_in};
+ghost use Rattle.bits_fold.specs.inner.Forever.{StopsFrom, RoundStops, Rounds, LoopStops};
 ghost use Rattle.bits_fold.specs.inner.Reading.{ReadsFrom, ReadsInRound};
 ghost use Rattle.bits_fold.specs.inner.Turning.{IsSilent, VisitsFrom, MayBegin};
 
 use crate::draws::{bits_of_arms, bits_of_choice, bits_of_uniform};
 use crate::error::BitsError;
-use crate::finding::{begun_anew, begun_with_more};
-use exact_fold::finding::{Seen, copied, put};
+use crate::finding::{
+    Led, begun_anew, begun_with_more, chain, first_of, one, part_of, rest_of, silent_states,
+};
+use crate::stop::Stop;
+use exact_fold::finding::{Seen, copied};
 use exact_fold::turning::{above, all_stand, alone, leaving, passes, same};
 use gcl_core::{Arms, Block, Checked, Expr, Stmt};
 use mass_fold::choosing::{sides, total, weighed};
@@ -96,11 +101,12 @@ fn unlimited(alloc: Global) -> Fold
 
 // The table after a block, and the bits that it reads.
 #[cycle(reading)]
-fn read_block(alloc: Global, b: &Block, table: Table) -> Result<Reached, BitsError>
+fn read_block(alloc: Global, b: &Block, table: Table) -> Result<Reached, Stop>
     requires below { BlockBelow table.vars (statements_of b.now) }
     requires weights { BlockIsWeighed (statements_of b.now) }
     ensures ok { IfOk result (λ r. ReadsFrom (BlockReads (statements_of b.now))
         table.states.entries r.table.states.entries r.bits) }
+    ensures stops { IfErr result (StopsFrom (BlockForever (statements_of b.now)) table.states.entries) }
     ensures vars { IfOk result (λ r. r.table.vars ≡ table.vars) }
 {
     let mut now = silently(table);
@@ -113,18 +119,19 @@ fn read_block(alloc: Global, b: &Block, table: Table) -> Result<Reached, BitsErr
 
 #[cycle(reading)]
 #[tactic(auto, using(gcl_core::proofs::ViewLemmas::views))]
-fn read_stmt(alloc: Global, s: &Stmt, table: Table) -> Result<Reached, BitsError>
+fn read_stmt(alloc: Global, s: &Stmt, table: Table) -> Result<Reached, Stop>
     requires below { StatementBelow table.vars (statement_of s.now) }
     requires weights { StatementIsWeighed (statement_of s.now) }
     ensures ok { IfOk result (λ r. ReadsFrom (StatementReads (statement_of s.now))
         table.states.entries r.table.states.entries r.bits) }
+    ensures stops { IfErr result (StopsFrom (StatementForever (statement_of s.now)) table.states.entries) }
     ensures vars { IfOk result (λ r. r.table.vars ≡ table.vars) }
 {
     let mut ended = Ended::none();
     match s {
         Stmt::Skip => Ok(silently(table)),
         Stmt::Set(x, e) => Ok(silently(assign(alloc, *x, e, table, &mut ended)?)),
-        Stmt::Uniform(x, e) => read_uniform(alloc, *x, e, table),
+        Stmt::Uniform(x, e) => Ok(read_uniform(alloc, *x, e, table)?),
         Stmt::Observe(e) => {
             let (first, second) = split(alloc, e, table, &mut ended)?;
             end_all(Gone::Failed, second, &mut ended)?;
@@ -134,7 +141,7 @@ fn read_stmt(alloc: Global, s: &Stmt, table: Table) -> Result<Reached, BitsError
             let (first, second) = split(alloc, e, table, &mut ended)?;
             let left = read_block(alloc, a, first)?;
             let right = read_block(alloc, c, second)?;
-            joined(left, right)
+            Ok(joined(left, right)?)
         }
         Stmt::While(e, body) => read_loop(alloc, body, e, table),
         Stmt::Choice(p, a, c) => {
@@ -142,7 +149,7 @@ fn read_stmt(alloc: Global, s: &Stmt, table: Table) -> Result<Reached, BitsError
             let (first, second) = sides(alloc, *p, Attempts { most: None }, &table, &mut ended)?;
             let left = read_block(alloc, a, first)?;
             let right = read_block(alloc, c, second)?;
-            with_more(joined(left, right)?, &bits)
+            Ok(with_more(joined(left, right)?, &bits)?)
         }
         Stmt::Choose(arms) => read_choose(alloc, arms, table),
     }
@@ -172,22 +179,23 @@ fn one_part(count: u64) -> Frac
 }
 
 #[cycle(reading)]
-fn read_choose(alloc: Global, arms: &Arms, table: Table) -> Result<Reached, BitsError>
+fn read_choose(alloc: Global, arms: &Arms, table: Table) -> Result<Reached, Stop>
     requires below { ArmsBelow table.vars (list_of_arms arms.now) }
     requires parts { AreParts (parts_of (list_of_arms arms.now)) }
     requires weights { ArmsAreWeighed (list_of_arms arms.now) }
     ensures ok { IfOk result (λ r. ReadsFrom (StatementReads (Choose (list_of_arms arms.now)))
         table.states.entries r.table.states.entries r.bits) }
+    ensures stops { IfErr result (StopsFrom (StatementForever (Choose (list_of_arms arms.now))) table.states.entries) }
     ensures vars { IfOk result (λ r. r.table.vars ≡ table.vars) }
 {
     let bits = bits_of_arms(arms, &table).ok_or(BitsError::TooWide)?;
     let part = one_part(total(arms));
-    with_more(read_arms(alloc, arms, &part, &table)?, &bits)
+    Ok(with_more(read_arms(alloc, arms, &part, &table)?, &bits)?)
 }
 
 // The arms of a choice among several, one after the other, each by its part.
 #[cycle(reading)]
-fn read_arms(alloc: Global, arms: &Arms, part: &Frac, table: &Table) -> Result<Reached, BitsError>
+fn read_arms(alloc: Global, arms: &Arms, part: &Frac, table: &Table) -> Result<Reached, Stop>
     requires below { ArmsBelow table.now.vars (list_of_arms arms.now) }
     requires parts { AreParts (parts_of (list_of_arms arms.now)) }
     requires weights { ArmsAreWeighed (list_of_arms arms.now) }
@@ -196,6 +204,8 @@ fn read_arms(alloc: Global, arms: &Arms, part: &Frac, table: &Table) -> Result<R
     ensures ok { IfOk result (λ r. ReadsFrom
         (ArmsRead (sum (parts_of (list_of_arms arms.now))) (list_of_arms arms.now))
         table.now.states.entries r.table.states.entries r.bits) }
+    ensures stops { IfErr result (StopsFrom
+        (ArmsForever (sum (parts_of (list_of_arms arms.now))) (list_of_arms arms.now)) table.now.states.entries) }
     ensures vars { IfOk result (λ r. r.table.vars ≡ table.now.vars) }
 {
     let mut out = silently(Table::new(alloc, table.vars));
@@ -208,25 +218,38 @@ fn read_arms(alloc: Global, arms: &Arms, part: &Frac, table: &Table) -> Result<R
 }
 
 // A loop: its visits are found, and one turn of its body shows that they are right; the visits of the loop begun with them show
-// that they are no more than what the loop comes to.
+// that they are no more than what the loop comes to. Where it reads for ever, turns of its body show it.
 #[cycle(reading)]
-fn read_loop(alloc: Global, body: &Block, e: &Expr, table: Table) -> Result<Reached, BitsError>
+fn read_loop(alloc: Global, body: &Block, e: &Expr, table: Table) -> Result<Reached, Stop>
     requires reads { ExpressionBelow (expression_of e.now) table.vars }
     requires below { BlockBelow table.vars (statements_of body.now) }
     requires weights { BlockIsWeighed (statements_of body.now) }
     ensures ok { IfOk result (λ r. ReadsFrom
         (LoopReads (value_of (expression_of e.now)) (BlockReads (statements_of body.now)))
         table.states.entries r.table.states.entries r.bits) }
+    ensures stops { IfErr result (StopsFrom
+        (LoopForever (value_of (expression_of e.now)) (BlockReads (statements_of body.now)) (BlockForever (statements_of body.now)))
+        table.states.entries) }
     ensures vars { IfOk result (λ r. r.table.vars ≡ table.vars) }
 {
     let start = start_of(alloc, e, &table)?;
-    let seen = explored(alloc, body, e, &start)?;
-    let found = seen.found(alloc, &start)?;
-    let closed = found.closed;
-    check_silent(alloc, body, e, &closed)?;
-    let again = begun_anew(alloc, &seen, &closed, &found.visits)?;
-    let turned = turn_from(alloc, body, e, &closed, found.visits, table)?;
-    check_visits(alloc, body, e, &closed, again, turned.visits)?;
+    let Some(turns) = explored(alloc, body, e, &start)? else {
+        let none = Table::new(alloc, table.vars);
+        check_forever(alloc, body, e, &none, table)?;
+        return Err(Stop::ReadsForever);
+    };
+    let silent = silent_states(alloc, &turns, table.vars)?;
+    let seen = chain(alloc, &turns, &silent, &silent)?;
+    let found = seen.found(alloc, &leaving(alloc, &silent, start)?)?;
+    if found.closed.states.len() != 0 {
+        let class = class_in(alloc, body, e, found.closed)?;
+        check_forever(alloc, body, e, &class, table)?;
+        return Err(Stop::ReadsForever);
+    }
+    check_silent(alloc, body, e, &silent)?;
+    let again = begun_anew(alloc, &seen, &silent, &found.visits)?;
+    let turned = turn_from(alloc, body, e, &silent, found.visits, table)?;
+    check_visits(alloc, body, e, &silent, again, turned.visits)?;
     Ok(Reached {
         table: turned.exits,
         bits: turned.bits,
@@ -304,6 +327,91 @@ fn turn_from(
     })
 }
 
+// The table once more, with the same entries.
+fn twin(alloc: Global, table: &Table) -> Result<Table, BitsError>
+    ensures same { IfOk result (λ t. t.states.entries ≡ table.now.states.entries) }
+    ensures vars { IfOk result (λ t. t.vars ≡ table.now.vars) }
+{
+    let copy = copied(alloc, table)?;
+    if !same(&copy, table) {
+        return Err(BitsError::NotFound);
+    }
+    Ok(copy)
+}
+
+// The loop reads for ever: turns from the table come to one from which its body does, or to all states of a class that is never
+// left, which weigh as what one turn leads back to itself.
+#[cycle(reading)]
+fn check_forever(
+    alloc: Global,
+    body: &Block,
+    e: &Expr,
+    class: &Table,
+    table: Table,
+) -> Result<(), BitsError>
+    requires reads { ExpressionBelow (expression_of e.now) table.vars }
+    requires below { BlockBelow table.vars (statements_of body.now) }
+    requires weights { BlockIsWeighed (statements_of body.now) }
+    requires vars { class.now.vars ≡ table.vars }
+    ensures { OnOk result (LoopStops (value_of (expression_of e.now)) (BlockReads (statements_of body.now))
+        (BlockForever (statements_of body.now)) table.states.entries) }
+{
+    let mut all = twin(alloc, &table)?;
+    let mut now = table;
+    for _ in 0..MOST_STATES {
+        if class.states.len() != 0 && all_stand(&all, class) {
+            check_round(alloc, body, e, class, all)?;
+            return Ok(());
+        }
+        let mut none = Ended::none();
+        let (on, _) = split(alloc, e, now, &mut none)?;
+        match read_block(alloc, body, on) {
+            Err(Stop::ReadsForever) => return Ok(()),
+            Err(Stop::Refused(error)) => return Err(error),
+            Ok(next) => {
+                merge(&mut all, twin(alloc, &next.table)?)?;
+                now = next.table;
+            }
+        }
+    }
+    Err(BitsError::NotFound)
+}
+
+// A part of all states goes round: one turn reads some bits and leads to it again.
+#[cycle(reading)]
+fn check_round(
+    alloc: Global,
+    body: &Block,
+    e: &Expr,
+    class: &Table,
+    all: Table,
+) -> Result<(), BitsError>
+    requires reads { ExpressionBelow (expression_of e.now) all.vars }
+    requires below { BlockBelow all.vars (statements_of body.now) }
+    requires weights { BlockIsWeighed (statements_of body.now) }
+    requires vars { class.now.vars ≡ all.vars }
+    ensures { OnOk result (Rounds (value_of (expression_of e.now)) (BlockReads (statements_of body.now)) all.states.entries) }
+{
+    let part = part_of(alloc, class, &all)?;
+    let rest = rest_of(alloc, &all, &part)?;
+    if !above(&part) || !above(&rest) {
+        return Err(BitsError::NotFound);
+    }
+    let again = twin(alloc, &part)?;
+    let mut sum = twin(alloc, &part)?;
+    merge(&mut sum, rest)?;
+    if !same(&sum, &all) {
+        return Err(BitsError::NotFound);
+    }
+    let mut none = Ended::none();
+    let (on, _) = split(alloc, e, part, &mut none)?;
+    let next = read_block(alloc, body, on)?;
+    if !same(&next.table, &again) || next.bits.num() == 0 {
+        return Err(BitsError::NotFound);
+    }
+    Ok(())
+}
+
 // The entries where the guard holds.
 fn start_of(alloc: Global, e: &Expr, table: &Table) -> Result<Table, BitsError>
     requires { ExpressionBelow (expression_of e.now) table.now.vars }
@@ -315,42 +423,88 @@ fn start_of(alloc: Global, e: &Expr, table: &Table) -> Result<Table, BitsError>
     Ok(first)
 }
 
-// Where one turn leads from a state, as far as the guard holds there again.
+// One turn from a state; none where the body reads for ever.
 #[cycle(reading)]
-fn led(alloc: Global, body: &Block, e: &Expr, vars: u32, s: &State) -> Result<Table, BitsError>
+fn led(
+    alloc: Global,
+    body: &Block,
+    e: &Expr,
+    vars: u32,
+    state: State,
+) -> Result<Option<Led>, BitsError>
     requires reads { ExpressionBelow (expression_of e.now) vars }
     requires below { BlockBelow vars (statements_of body.now) }
     requires weights { BlockIsWeighed (statements_of body.now) }
 {
-    let mut one = Table::new(alloc, vars);
-    put(&mut one, s.copy(alloc)?, Frac::of(1, 1))?;
+    let reached = match read_block(alloc, body, one(alloc, vars, &state)?) {
+        Err(Stop::ReadsForever) => return Ok(None),
+        Err(Stop::Refused(error)) => return Err(error),
+        Ok(reached) => reached,
+    };
     let mut none = Ended::none();
-    let next = read_block(alloc, body, one)?;
-    let (first, _) = split(alloc, e, next.table, &mut none)?;
-    Ok(first)
+    let (next, _) = split(alloc, e, reached.table, &mut none)?;
+    Ok(Some(Led {
+        state,
+        next,
+        reads: reached.bits.num() != 0,
+    }))
 }
 
-// The states that a loop comes to, and where one turn leads from each.
+// One turn from each state that a loop comes to; none where from one of them the body reads for ever.
 #[cycle(reading)]
-fn explored(alloc: Global, body: &Block, e: &Expr, start: &Table) -> Result<Seen, BitsError>
+fn explored(
+    alloc: Global,
+    body: &Block,
+    e: &Expr,
+    start: &Table,
+) -> Result<Option<Vec<Led>>, BitsError>
     requires reads { ExpressionBelow (expression_of e.now) start.now.vars }
     requires below { BlockBelow start.now.vars (statements_of body.now) }
     requires weights { BlockIsWeighed (statements_of body.now) }
 {
     let mut seen = Seen::none(alloc);
     seen.enlist(alloc, start)?;
+    let mut turns = Vec::new(alloc);
     for i in 0..MOST_STATES {
         if i >= seen.states.len() {
-            return Ok(seen);
+            return Ok(Some(turns));
         }
-        let s = seen.states[i].copy(alloc)?;
-        let next = led(alloc, body, e, start.vars, &s)?;
-        seen.lead(alloc, i as u64, &next)?;
+        let state = seen.states[i].copy(alloc)?;
+        let Some(turn) = led(alloc, body, e, start.vars, state)? else {
+            return Ok(None);
+        };
+        seen.enlist(alloc, &turn.next)?;
+        turns.push(turn)?;
     }
     if seen.states.len() > MOST_STATES {
         return Err(BitsError::TooManyStates);
     }
-    Ok(seen)
+    Ok(Some(turns))
+}
+
+// Weights of a class of states, each of which leads to each, and none to others, by one factor: the visits between two of one of
+// them. The states that are handed in are never left.
+#[cycle(reading)]
+fn class_in(alloc: Global, body: &Block, e: &Expr, closed: Table) -> Result<Table, BitsError>
+    requires reads { ExpressionBelow (expression_of e.now) closed.vars }
+    requires below { BlockBelow closed.vars (statements_of body.now) }
+    requires weights { BlockIsWeighed (statements_of body.now) }
+    ensures { IfOk result (λ t. t.vars ≡ closed.vars) }
+{
+    let none = Table::new(alloc, closed.vars);
+    let mut within = closed;
+    for _ in 0..MOST_STATES {
+        let start = first_of(alloc, &within)?;
+        let Some(turns) = explored(alloc, body, e, &start)? else {
+            return Err(BitsError::NotFound);
+        };
+        let found = chain(alloc, &turns, &none, &start)?.found(alloc, &start)?;
+        if found.closed.states.len() == 0 {
+            return Ok(found.visits);
+        }
+        within = found.closed;
+    }
+    Err(BitsError::NotFound)
 }
 
 // One turn of the body from a state of the silent ones reads nothing and stays in them.
@@ -396,8 +550,9 @@ fn check_silent(alloc: Global, body: &Block, e: &Expr, closed: &Table) -> Result
 }
 
 /// The bits that a round of a program reads.
-pub fn read_program(alloc: Global, p: &Checked) -> Result<Frac, BitsError>
-    ensures { IfOk result (ReadsInRound (source_of p.now)) }
+pub fn read_program(alloc: Global, p: &Checked) -> Result<Frac, Stop>
+    ensures ok { IfOk result (ReadsInRound (source_of p.now)) }
+    ensures stops { IfErr result (RoundStops (source_of p.now)) }
 {
     let program = p.program();
     let table = Table::start(alloc, program.names.count())?;

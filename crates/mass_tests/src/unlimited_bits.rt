@@ -14,6 +14,9 @@ const COIN: &str = "heads ~ uniform(2); return heads;";
 const COUPONS: &str =
     "while a + b + c < 3 { choose { 3: { if a = 0 { a := 1; last := 1; } } | 2: { if b = 0 { b := 1; last := 2; } } | 1: { if c = 0 { c := 1; last := 3; } } } } return last;";
 
+const COUPONS_OF_TEN: &str =
+    "while faces < 10 { face ~ uniform(10); if face >= faces { faces := faces + 1; } } return faces;";
+
 const CRAPS: &str =
     "a ~ uniform(6); b ~ uniform(6); point := a + b + 2; if point = 7 or point = 11 { won := 1; } else { if point > 3 and point < 12 { while sum != point and sum != 7 { a ~ uniform(6); b ~ uniform(6); sum := a + b + 2; } if sum = point { won := 1; } } } return won;";
 
@@ -26,6 +29,12 @@ const EVEN_DIE: &str = "face ~ uniform(6); observe face % 2 = 1; return face + 1
 
 const GAMBLER: &str =
     "coins := 6; while coins > 0 and coins < 11 { choice 1/3 { coins := coins + 1; } or { coins := coins - 1; } } return coins;";
+
+const HERMAN_OF_FIVE: &str =
+    "tokens := 5; while tokens > 1 { if a = e { v ~ uniform(2); } else { v := e; } if b = a { w ~ uniform(2); } else { w := a; } if c = b { x ~ uniform(2); } else { x := b; } if d = c { y ~ uniform(2); } else { y := c; } if e = d { z ~ uniform(2); } else { z := d; } a := v; b := w; c := x; d := y; e := z; tokens := (a + e + 1) % 2 + (b + a + 1) % 2 + (c + b + 1) % 2 + (d + c + 1) % 2 + (e + d + 1) % 2; } return tokens;";
+
+const LEADER_OF_FOUR: &str =
+    "while found = 0 { a ~ uniform(3); b ~ uniform(3); c ~ uniform(3); d ~ uniform(3); if a != b and a != c and a != d { found := 1; } if b != a and b != c and b != d { found := 1; } if c != a and c != b and c != d { found := 1; } if d != a and d != b and d != c { found := 1; } } return found;";
 
 const LOADED_COIN: &str = "choice 3/8 { heads := 1; } or { heads := 0; } return heads;";
 
@@ -67,7 +76,7 @@ struct Case {
     want: Pair,
 }
 
-const CASES: [Case; 21] = [
+const CASES: [Case; 24] = [
     Case {
         text: ALARM,
         want: (17199282856720, 2084100239),
@@ -79,6 +88,10 @@ const CASES: [Case; 21] = [
     Case {
         text: COUPONS,
         want: (73, 3),
+    },
+    Case {
+        text: COUPONS_OF_TEN,
+        want: (22143, 140),
     },
     Case {
         text: CRAPS,
@@ -99,6 +112,14 @@ const CASES: [Case; 21] = [
     Case {
         text: GAMBLER,
         want: (92712, 2047),
+    },
+    Case {
+        text: HERMAN_OF_FIVE,
+        want: (164, 15),
+    },
+    Case {
+        text: LEADER_OF_FOUR,
+        want: (72, 5),
     },
     Case {
         text: LOADED_COIN,
@@ -168,6 +189,20 @@ const FOREVER: &str =
 const LATER: &str =
     "while x < 2 { if x = 0 { x ~ uniform(2); } else { y ~ uniform(2); } } return x + y;";
 
+// The loop inside does so, where the one outside comes to 1.
+const INSIDE: &str =
+    "while x < 2 { x ~ uniform(3); while x = 1 { y ~ uniform(2); } } return x + y;";
+
+// It goes to and fro between two states, and the third turns into one of four that are never left.
+const TO_AND_FRO: &str =
+    "while x < 7 { if x = 0 { choose { 1: { x := 1; } | 1: { x := 3; } | 1: { x := 7; } } } else { y ~ uniform(3); if y > 0 { x := x % 4 + 1; } } } return x;";
+
+// The coin is read, and then nothing.
+const SILENT: &str = "x ~ uniform(2); while 1 = 1 { skip; } return x;";
+
+// It is never left, and falls silent where the coin is 1.
+const FALLS_SILENT: &str = "while x < 2 { if x = 0 { x ~ uniform(2); } else { skip; } } return x;";
+
 fn bits_of(alloc: Global, text: &str) -> Option<Result<Bits, BitsError>> {
     Some(cost_in_the_limit(alloc, &program(alloc, text)?))
 }
@@ -186,13 +221,6 @@ fn has_no_bound(alloc: Global, text: &str) -> bool {
     }
 }
 
-fn is_refused(alloc: Global, text: &str) -> bool {
-    match bits_of(alloc, text) {
-        Some(Err(BitsError::NotFound)) => true,
-        _ => false,
-    }
-}
-
 // The place of the first case that is not as told.
 fn first_wrong(alloc: Global, cases: &[Case]) -> usize {
     let mut i = 0usize;
@@ -207,7 +235,7 @@ fn first_wrong(alloc: Global, cases: &[Case]) -> usize {
 
 #[test]
 fn expected_bits_of_programs_of_the_gallery(rt: HostRuntime) -> Result<(), Fail> {
-    assert_eq!(rt; first_wrong(rt.alloc(), &CASES), 21);
+    assert_eq!(rt; first_wrong(rt.alloc(), &CASES), 24);
     Ok(())
 }
 
@@ -215,7 +243,11 @@ fn expected_bits_of_programs_of_the_gallery(rt: HostRuntime) -> Result<(), Fail>
 fn rounds_and_loops_without_end(rt: HostRuntime) -> Result<(), Fail> {
     assert!(rt; has_bits(rt.alloc(), NOTHING, (0, 1)));
     assert!(rt; has_no_bound(rt.alloc(), NEVER));
-    assert!(rt; is_refused(rt.alloc(), FOREVER));
-    assert!(rt; is_refused(rt.alloc(), LATER));
+    assert!(rt; has_no_bound(rt.alloc(), FOREVER));
+    assert!(rt; has_no_bound(rt.alloc(), LATER));
+    assert!(rt; has_no_bound(rt.alloc(), INSIDE));
+    assert!(rt; has_no_bound(rt.alloc(), TO_AND_FRO));
+    assert!(rt; has_bits(rt.alloc(), SILENT, (1, 1)));
+    assert!(rt; has_bits(rt.alloc(), FALLS_SILENT, (2, 1)));
     Ok(())
 }

@@ -1,7 +1,7 @@
-use Rattle.std.proofs.Common.{rules, ◌+◌, ◌∙◌, None, drop, sym, ap, subst, arith}
+use Rattle.std.proofs.Common.{rules, ◌≡◌, ◌+◌, ◌∙◌, inr, Err, None, drop, refl, sym, ap, subst, arith}
 use Rattle.std.specs.List.{sum}
 use Rattle.std.specs.Map.Iter.{deref_pair}
-use Rattle.std.proofs.lemmas.Result.{IfOk-weaker}
+use Rattle.std.proofs.lemmas.Result.{IfOk-weaker, IfErr-weaker}
 use Rattle.gcl_core.specs.declared.syntax.Stmt.{the_lemmas}
 use Rattle.gcl_core.specs.meaning.Arms.{parts_of}
 use Rattle.gcl_core.specs.meaning.Bounds.{StatementBelow, BlockBelow, ArmsBelow, ArmsAreWeighed}
@@ -16,14 +16,19 @@ use Rattle.mass_fold.proofs.Fitting.{below_as, weights_as, list_step, below_next
 use Rattle.mass_fold.proofs.Folds.{fold_assign, fold_observe}
 use Rattle.mass_fold.proofs.Sizes.{sized_at}
 use Rattle.unlimited_law.specs.Settling.{EachState}
+use Rattle.exact_fold.specs.inner.Settled.{as_table}
 use Rattle.exact_fold.specs.inner.Turning.{keys_in}
 use Rattle.exact_fold.proofs.Turns.{none_fractions, stays_next}
+use Rattle.bits_law.specs.Forever.{BlockForever, ArmsForever}
 use Rattle.bits_law.specs.Reading.{BlockReads}
+use Rattle.bits_fold.specs.declared.stop.Stop.TheVariants as stop
+use Rattle.bits_fold.specs.inner.Forever.{StopsFrom}
 use Rattle.bits_fold.specs.inner.Reading.{DrawsRead}
 use Rattle.bits_fold.specs.inner.Turning.{IsSilent}
+use Rattle.bits_fold.proofs.Forever.{stops_as, branch_stops, other_stops, side_stops, other_side_stops, arm_stops, rest_on, rest_stops, comes_start, comes_next, comes_round, comes_forever, goes_round}
 use Rattle.bits_fold.proofs.Arms.{arms_start, arms_at, arm_turn, arms_end}
 use Rattle.bits_fold.proofs.Steps.{statement_as, ends_at, skip_reads, set_reads, observe_reads, branch_reads, choice_reads, choose_reads, rest_start, rest_next, rest_none}
-use Rattle.bits_fold.proofs.Sums.{some_answered, both_ok}
+use Rattle.bits_fold.proofs.Sums.{some_answered}
 use Rattle.bits_fold.proofs.Turns.{turn_reads, may_begin, loop_reads, state_silent}
 use Rattle.bits_fold.proofs.reading.+reading.Goals as goal
 
@@ -34,6 +39,7 @@ read_block-loop-s-init t c = record {
   weights = λ h. h;
   vars = ap (λ z. z.vars) c.silently-now.ensures.table;
   so_far = rest_start (list_of c.deref-s-items.result.now) c.args.table.states.entries c.silently-now.result.table.states.entries c.silently-now.result.bits (ap (λ z. z.states.entries) c.silently-now.ensures.table) c.silently-now.ensures.bits;
+  on = λ h x. subst (λ z. BlockForever (list_of c.deref-s-items.result.now) (as_table z)) (ap (λ z. z.states.entries) c.silently-now.ensures.table) x;
 }
 
 pub read_block-read_stmt-requires : goal.read_block-read_stmt-requires
@@ -59,7 +65,19 @@ read_block-loop-s-preserved t c =
       vars = c.in_ok-now.ensures.vars ∙ c.in_ok-next.ensures.vars ∙ c.loop-s.invariant.vars;
       so_far = rest_next whole _ _ _ es c.loop-s.now.table.states.entries c.in_ok-now.now.table.states.entries c.loop-s.now.bits c.in_ok-next.next.bits c.in_ok-now.now.bits p c.loop-s.invariant.so_far
           (ends_at _ _ same c.in_ok-next.ensures.ok) c.in_ok-now.ensures.bits;
+      on = rest_on whole (BlockForever (list_of c.deref-s-items.result.now)) _ _ _ es c.loop-s.now.table.states.entries c.loop-s.now.bits p c.loop-s.invariant.so_far c.loop-s.invariant.on c.in_ok-now.now.table.states.entries c.in_ok-next.next.bits
+          (ends_at _ _ same c.in_ok-next.ensures.ok);
     }
+
+pub read_block-returns-in_err-next-clause-stops : goal.read_block-returns-in_err-next-clause-stops
+read_block-returns-in_err-next-clause-stops t c =
+    let p = list_step c.deref-s-items.result.now c.loop-s.s-index c.s-item.result c.loop-s-test.true c.s-item.is in
+    let es = c.args.table.states.entries in
+    let out : c.from_residual.result ≡ Err c.in_err-next.field-0.0 = grind arith in
+    rw out
+    (subst (λ z. StopsFrom (BlockForever (list_of z)) es c.in_err-next.field-0.0) c.deref-s-items.ensures.value
+    (rest_stops (BlockReads (list_of c.deref-s-items.result.now)) (BlockForever (list_of c.deref-s-items.result.now)) _ _ _ es c.loop-s.now.table.states.entries c.loop-s.now.bits p c.loop-s.invariant.so_far c.loop-s.invariant.on
+    c.in_err-next.field-0.0 c.in_err-next.ensures.stops))
 
 pub read_block-returns-clause-ok : goal.read_block-returns-clause-ok
 read_block-returns-clause-ok t c =
@@ -124,15 +142,15 @@ read_stmt-read_block-requires-in-If t c =
     let q = ap statement_of c.in-If.is ∙ if_view c.in-If.e c.in-If.a c.in-If.c in
     (search (rules, the_lemmas), (subst (λ m. BlockBelow m (statements_of c.in-If.c)) (sym c.in_ok-first-in-If.ensures.vars.1) (below_as _ _ _ q c.requires.below).2, (weights_as _ _ q c.requires.weights).1))
 
-pub read_stmt-returns-in_ok-right-in-If-clause-ok : goal.read_stmt-returns-in_ok-right-in-If-clause-ok
-read_stmt-returns-in_ok-right-in-If-clause-ok t c =
+pub read_stmt-returns-in_ok-joined-in-If-clause-ok : goal.read_stmt-returns-in_ok-joined-in-If-clause-ok
+read_stmt-returns-in_ok-joined-in-If-clause-ok t c =
     let q = ap statement_of c.in-If.is ∙ if_view c.in-If.e c.in-If.a c.in-If.c in
     let w = weights_as _ _ q c.requires.weights in
-    both_ok c.joined.result
-    (λ r m s. statement_as _ _ c.args.table.states.entries r.table.states.entries r.bits q
-    (branch_reads (expression_of c.in-If.e) (statements_of c.in-If.a) (statements_of c.in-If.c) c.args.table.states.entries _ _ _ _ r.table.states.entries c.none-ended.result _ _ _ r.bits
-    w.0 w.1 (none_fractions _ c.none-ended.ensures) c.in_ok-first-in-If.ensures.first c.in_ok-first-in-If.ensures.second c.in_ok-left-in-If.ensures.ok c.in_ok-right-in-If.ensures.ok m s))
-    c.joined.ensures.table c.joined.ensures.bits
+    let es = c.args.table.states.entries in
+    let all = c.in_ok-joined-in-If.field-0 in
+    statement_as _ _ es all.table.states.entries all.bits q
+    (branch_reads (expression_of c.in-If.e) (statements_of c.in-If.a) (statements_of c.in-If.c) es _ _ _ _ all.table.states.entries c.none-ended.result _ _ _ all.bits w.0 w.1 (none_fractions _ c.none-ended.ensures)
+    c.in_ok-first-in-If.ensures.first c.in_ok-first-in-If.ensures.second c.in_ok-left-in-If.ensures.ok c.in_ok-right-in-If.ensures.ok c.in_ok-joined-in-If.ensures.table c.in_ok-joined-in-If.ensures.bits)
 
 pub read_stmt-sides-requires : goal.read_stmt-sides-requires
 read_stmt-sides-requires t c = (weights_as _ _ (ap statement_of c.in-Choice.is ∙ choice_view c.in-Choice.p c.in-Choice.a c.in-Choice.c) c.requires.weights).0
@@ -150,29 +168,79 @@ read_stmt-read_block-requires-in-Choice-2 t c =
     let q = ap statement_of c.in-Choice.is ∙ choice_view c.in-Choice.p c.in-Choice.a c.in-Choice.c in
     (search (rules, the_lemmas), (subst (λ m. BlockBelow m (statements_of c.in-Choice.c)) (sym c.in_ok-first-in-Choice.ensures.vars.1) (below_as _ _ _ q c.requires.below).1, (weights_as _ _ q c.requires.weights).2))
 
-pub read_stmt-returns-in_ok-joined-in-Choice-clause-ok : goal.read_stmt-returns-in_ok-joined-in-Choice-clause-ok
-read_stmt-returns-in_ok-joined-in-Choice-clause-ok t c =
+pub read_stmt-returns-in_ok-with_more-in-Choice-clause-ok : goal.read_stmt-returns-in_ok-with_more-in-Choice-clause-ok
+read_stmt-returns-in_ok-with_more-in-Choice-clause-ok t c =
     let q = ap statement_of c.in-Choice.is ∙ choice_view c.in-Choice.p c.in-Choice.a c.in-Choice.c in
     let w = weights_as _ _ q c.requires.weights in
     let es = c.args.table.states.entries in
     let all = c.in_ok-joined-in-Choice.field-0 in
+    let r = c.in_ok-with_more-in-Choice.field-0 in
     let told = some_answered _ _ c.in_ok-bits-in-Choice.bits (DrawsRead (drawn_each (choice_ends c.in-Choice.p)) es) c.bits_of_choice.ensures c.in_ok-bits-in-Choice.ensures.value in
-    both_ok c.with_more.result
-    (λ r same s. statement_as _ _ es r.table.states.entries r.bits q
-    (ends_at _ _ same
+    statement_as _ _ es r.table.states.entries r.bits q
+    (ends_at _ _ c.in_ok-with_more-in-Choice.ensures.table
     (choice_reads c.in-Choice.p (statements_of c.in-Choice.a) (statements_of c.in-Choice.c) es _ _ _ _ all.table.states.entries c.none-ended.result _ c.in_ok-bits-in-Choice.bits _ _ all.bits r.bits w.0
-    w.1 w.2 (none_fractions _ c.none-ended.ensures) told c.in_ok-first-in-Choice.ensures.ok c.in_ok-left-in-Choice.ensures.ok c.in_ok-right-in-Choice.ensures.ok c.in_ok-joined-in-Choice.ensures.table c.in_ok-joined-in-Choice.ensures.bits s)))
-    c.with_more.ensures.table c.with_more.ensures.bits
+    w.1 w.2 (none_fractions _ c.none-ended.ensures) told c.in_ok-first-in-Choice.ensures.ok c.in_ok-left-in-Choice.ensures.ok c.in_ok-right-in-Choice.ensures.ok c.in_ok-joined-in-Choice.ensures.table c.in_ok-joined-in-Choice.ensures.bits
+    c.in_ok-with_more-in-Choice.ensures.bits))
+
+-- ---- where they read for ever
+pub read_stmt-returns-in_err-left-in-If-clause-stops : goal.read_stmt-returns-in_err-left-in-If-clause-stops
+read_stmt-returns-in_err-left-in-If-clause-stops t c =
+    let q = ap statement_of c.in-If.is ∙ if_view c.in-If.e c.in-If.a c.in-If.c in
+    let w = weights_as _ _ q c.requires.weights in
+    let s = c.in_err-left-in-If.field-0.0 in
+    let out : c.from_residual-in_err-left-in-If.result ≡ Err s = grind arith in
+    rw out
+    (stops_as _ _ c.args.table.states.entries s q
+    (branch_stops (expression_of c.in-If.e) (statements_of c.in-If.a) (statements_of c.in-If.c) c.args.table.states.entries _ _ c.none-ended.result _ s w.0 (none_fractions _ c.none-ended.ensures)
+    c.in_ok-first-in-If.ensures.first c.in_ok-first-in-If.ensures.second c.in_err-left-in-If.ensures.stops))
+
+pub read_stmt-returns-in_err-right-in-If-clause-stops : goal.read_stmt-returns-in_err-right-in-If-clause-stops
+read_stmt-returns-in_err-right-in-If-clause-stops t c =
+    let q = ap statement_of c.in-If.is ∙ if_view c.in-If.e c.in-If.a c.in-If.c in
+    let w = weights_as _ _ q c.requires.weights in
+    let s = c.in_err-right-in-If.field-0.0 in
+    let out : c.from_residual-in_err-right-in-If.result ≡ Err s = grind arith in
+    rw out
+    (stops_as _ _ c.args.table.states.entries s q
+    (other_stops (expression_of c.in-If.e) (statements_of c.in-If.a) (statements_of c.in-If.c) c.args.table.states.entries _ _ c.none-ended.result _ s w.1 (none_fractions _ c.none-ended.ensures)
+    c.in_ok-first-in-If.ensures.first c.in_ok-first-in-If.ensures.second c.in_err-right-in-If.ensures.stops))
+
+pub read_stmt-returns-in_err-left-in-Choice-clause-stops : goal.read_stmt-returns-in_err-left-in-Choice-clause-stops
+read_stmt-returns-in_err-left-in-Choice-clause-stops t c =
+    let q = ap statement_of c.in-Choice.is ∙ choice_view c.in-Choice.p c.in-Choice.a c.in-Choice.c in
+    let w = weights_as _ _ q c.requires.weights in
+    let s = c.in_err-left-in-Choice.field-0.0 in
+    let out : c.from_residual-in_err-left-in-Choice.result ≡ Err s = grind arith in
+    rw out
+    (stops_as _ _ c.args.table.states.entries s q
+    (side_stops c.in-Choice.p (statements_of c.in-Choice.a) (statements_of c.in-Choice.c) c.args.table.states.entries _ _ c.none-ended.result _ s w.0 w.1 (none_fractions _ c.none-ended.ensures)
+    c.in_ok-first-in-Choice.ensures.ok c.in_err-left-in-Choice.ensures.stops))
+
+pub read_stmt-returns-in_err-right-in-Choice-clause-stops : goal.read_stmt-returns-in_err-right-in-Choice-clause-stops
+read_stmt-returns-in_err-right-in-Choice-clause-stops t c =
+    let q = ap statement_of c.in-Choice.is ∙ choice_view c.in-Choice.p c.in-Choice.a c.in-Choice.c in
+    let w = weights_as _ _ q c.requires.weights in
+    let s = c.in_err-right-in-Choice.field-0.0 in
+    let out : c.from_residual-in_err-right-in-Choice.result ≡ Err s = grind arith in
+    rw out
+    (stops_as _ _ c.args.table.states.entries s q
+    (other_side_stops c.in-Choice.p (statements_of c.in-Choice.a) (statements_of c.in-Choice.c) c.args.table.states.entries _ _ c.none-ended.result _ s w.0 w.2 (none_fractions _ c.none-ended.ensures)
+    c.in_ok-first-in-Choice.ensures.ok c.in_err-right-in-Choice.ensures.stops))
+
+pub read_stmt-returns-in-While-clause-stops : goal.read_stmt-returns-in-While-clause-stops
+read_stmt-returns-in-While-clause-stops t c =
+    IfErr-weaker c.read_loop.result _ _
+    (λ s a. stops_as _ _ c.args.table.states.entries s (ap statement_of c.in-While.is ∙ while_view c.in-While.e c.in-While.body) a)
+    c.read_loop.ensures.stops
 
 -- ---- arms
 pub read_choose-returns-clause-ok : goal.read_choose-returns-clause-ok
 read_choose-returns-clause-ok t c =
     let es = c.args.table.states.entries in
     let arms = list_of_arms c.args.arms.now in
+    let r = c.in_ok-with_more.field-0 in
     let told = some_answered _ _ c.in_ok-bits.bits (DrawsRead (drawn_each (partial_sums (parts_of arms))) es) c.bits_of_arms.ensures c.in_ok-bits.ensures.value in
-    both_ok c.with_more.result
-    (λ r same s. ends_at _ _ same (choose_reads arms es _ c.in_ok-bits.bits _ r.bits told c.in_ok-read_arms.ensures.ok s))
-    c.with_more.ensures.table c.with_more.ensures.bits
+    ends_at _ _ c.in_ok-with_more.ensures.table (choose_reads arms es _ c.in_ok-bits.bits _ r.bits told c.in_ok-read_arms.ensures.ok c.in_ok-with_more.ensures.bits)
 
 pub read_arms-loop-count-init : goal.read_arms-loop-count-init
 read_arms-loop-count-init t c =
@@ -186,6 +254,7 @@ read_arms-loop-count-init t c =
       weights = subst ArmsAreWeighed (sym same) c.requires.weights;
       so_far = arms_at (sum (parts_of all)) all _ _ es out.table.states.entries out.bits (sym same)
           (arms_start (sum (parts_of all)) all es out.table.states.entries out.bits (ap (λ z. z.states.entries) c.silently-out.ensures.table ∙ c.new.ensures.empty) c.silently-out.ensures.bits);
+      on = subst (λ z. ArmsForever (sum (parts_of all)) z (as_table es) → ArmsForever (sum (parts_of all)) all (as_table es)) (sym same) (λ x. x);
     }
 
 pub read_arms-read_block-requires : goal.read_arms-read_block-requires
@@ -211,7 +280,21 @@ read_arms-loop-count-preserved t c =
       so_far = arm_turn (sum (parts_of all)) c.loop-count-item.result.0 all rest (statements_of c.loop-count-item.result.1) c.args.part.now es c.loop-count.out.table.states.entries _ _ c.in_ok-out.out.table.states.entries c.loop-count.out.bits _
           c.in_ok-out.out.bits (let z = c.requires.parts.positive in omega arith) (subst ArmsAreWeighed next c.loop-count.invariant.weights).0 c.requires.equal
           (arms_at (sum (parts_of all)) all _ _ es c.loop-count.out.table.states.entries c.loop-count.out.bits next c.loop-count.invariant.so_far) c.in_ok-side.ensures.ok c.in_ok-next.ensures.ok c.in_ok-out.ensures.table c.in_ok-out.ensures.bits;
+      on = λ x. subst (λ z. ArmsForever (sum (parts_of all)) z (as_table es) → ArmsForever (sum (parts_of all)) all (as_table es)) next c.loop-count.invariant.on (inr x);
     }
+
+pub read_arms-returns-in_err-next-clause-stops : goal.read_arms-returns-in_err-next-clause-stops
+read_arms-returns-in_err-next-clause-stops t c =
+    let next = arms_next c.deref-count-items.result.now c.loop-count.count-index c.loop-count-item.result c.loop-count-test.true c.loop-count-item.is in
+    let all = list_of_arms c.args.arms.now in
+    let rest = arm_list_of (drop (c.loop-count.count-index + 1) c.deref-count-items.result.now) in
+    let es = c.args.table.now.states.entries in
+    let s = c.in_err-next.field-0.0 in
+    let out : c.from_residual-in_err-next.result ≡ Err s = grind arith in
+    rw out
+    (arm_stops (sum (parts_of all)) c.loop-count-item.result.0 all rest (statements_of c.loop-count-item.result.1) c.args.part.now es _ s (let z = c.requires.parts.positive in omega arith)
+    (subst ArmsAreWeighed next c.loop-count.invariant.weights).0 c.requires.equal c.in_ok-side.ensures.ok
+    (subst (λ z. ArmsForever (sum (parts_of all)) z (as_table es) → ArmsForever (sum (parts_of all)) all (as_table es)) next c.loop-count.invariant.on) c.in_err-next.ensures.stops)
 
 pub read_arms-returns-clause-ok : goal.read_arms-returns-clause-ok
 read_arms-returns-clause-ok t c =
@@ -223,13 +306,45 @@ read_arms-returns-clause-ok t c =
 -- ---- a loop
 pub read_loop-returns-clause-ok : goal.read_loop-returns-clause-ok
 read_loop-returns-clause-ok t c =
-    loop_reads (value_of (expression_of c.args.e.now)) (statements_of c.args.body.now) c.in_ok-found.found.closed.states.entries c.args.table.states.entries c.in_ok-turned.turned.visits.states.entries c.in_ok-turned.turned.exits.states.entries
+    loop_reads (value_of (expression_of c.args.e.now)) (statements_of c.args.body.now) c.in_ok-silent.silent.states.entries c.args.table.states.entries c.in_ok-turned.turned.visits.states.entries c.in_ok-turned.turned.exits.states.entries
     c.in_ok-turned.turned.bits c.in_ok-check_silent.ensures c.in_ok-turned.ensures.ok c.in_ok-check_visits.ensures
 
 pub check_visits-returns : goal.check_visits-returns
 check_visits-returns t c =
     may_begin (value_of (expression_of c.args.e.now)) (statements_of c.args.body.now) c.args.closed.now.states.entries c.args.visits.states.entries c.in_ok-more.more.states.entries _ _ _ _ (c.above.ensures c.if-not-above.false) c.in_ok-merge.ensures.ok
     c.in_ok-turn_from.ensures.ok
+
+pub check_forever-loop-init : goal.check_forever-loop-init
+check_forever-loop-init t c = record {
+  now_vars = refl;
+  all_vars = c.in_ok-all.ensures.vars;
+  coming = comes_start (value_of (expression_of c.args.e.now)) (statements_of c.args.body.now) c.args.table.states.entries _ c.in_ok-all.ensures.same;
+}
+
+pub check_forever-returns-then-all_stand : goal.check_forever-returns-then-all_stand
+check_forever-returns-then-all_stand t c =
+    comes_round (value_of (expression_of c.args.e.now)) (statements_of c.args.body.now) c.args.table.states.entries c.loop.now.states.entries c.loop.all.states.entries c.loop.invariant.coming c.in_ok-check_round.ensures
+
+pub check_forever-returns-in-Err-ReadsForever : goal.check_forever-returns-in-Err-ReadsForever
+check_forever-returns-in-Err-ReadsForever t c =
+    let said : c.in-Err-ReadsForever.field-0 ≡ stop.ReadsForever = grind arith in
+    comes_forever (value_of (expression_of c.args.e.now)) (statements_of c.args.body.now) c.args.table.states.entries c.loop.now.states.entries c.loop.all.states.entries _ _ c.none-none.result _ c.requires.weights
+    (none_fractions _ c.none-none.ensures) c.in_ok-on.ensures.first c.in_ok-on.ensures.second c.loop.invariant.coming
+    (subst (StopsFrom (BlockForever (statements_of c.args.body.now)) c.in_ok-on.on.states.entries) said c.in-Err-ReadsForever.ensures.stops)
+
+pub check_forever-loop-preserved : goal.check_forever-loop-preserved
+check_forever-loop-preserved t c = record {
+  now_vars = c.in-Ok.ensures.vars ∙ c.in_ok-on.ensures.vars.0 ∙ c.loop.invariant.now_vars;
+  all_vars = c.merge.ensures.vars ∙ c.loop.invariant.all_vars;
+  coming = comes_next (value_of (expression_of c.args.e.now)) (statements_of c.args.body.now) c.args.table.states.entries c.loop.now.states.entries c.loop.all.states.entries _ _ _ _ _ c.none-none.result _ c.in-Ok.next.bits
+      c.requires.weights (none_fractions _ c.none-none.ensures) c.in_ok-on.ensures.first c.in_ok-on.ensures.second c.in-Ok.ensures.ok c.in_ok-twin-in-Ok.ensures.same c.in_ok-merge-in-Ok.ensures.ok c.loop.invariant.coming;
+}
+
+pub check_round-returns : goal.check_round-returns
+check_round-returns t c =
+    goes_round (value_of (expression_of c.args.e.now)) (statements_of c.args.body.now) c.args.all.states.entries c.in_ok-part.part.states.entries _ _ _ _ c.in_ok-next.next.table.states.entries c.in_ok-rest.rest.states.entries _ c.none-none.result _
+    c.in_ok-next.next.bits c.requires.weights (none_fractions _ c.none-none.ensures) (c.above.ensures c.if-not-above.false) (c.above-else-not-above.ensures c.if-not-above-2.false) c.in_ok-again.ensures.same c.in_ok-sum.ensures.same c.in_ok-merge.ensures.ok
+    (c.same.ensures c.if-not-same.false) c.in_ok-on.ensures.first c.in_ok-on.ensures.second c.in_ok-next.ensures.ok (c.same-2.ensures c.if-not-same-2.false) (omega (arith, c.if-num-eq0.false, c.num.ensures.value))
 
 pub turn_from-returns-clause-ok : goal.turn_from-returns-clause-ok
 turn_from-returns-clause-ok t c =

@@ -6,9 +6,11 @@ use Rattle.gcl_core.specs.meaning.Views.{list_of, arm_list_of, list_of_arms, exp
 use Rattle.gcl_core.specs.meaning.Value.{value_of}
 use Rattle.unlimited_law.specs.Settling.{EachState}
 use Rattle.exact_fold.specs.inner.Turning.{keys_in}
+use Rattle.bits_law.specs.Forever.{BlockForever}
 use Rattle.bits_law.specs.Reading.{BlockReads}
 use Rattle.bits_fold.specs.inner.Turning.{IsSilent}
 use Rattle.bits_fold.proofs.Arms.{ArmsFrom}
+use Rattle.bits_fold.proofs.Forever.{ArmsOn, RestOn, ComesOn}
 use Rattle.bits_fold.proofs.Steps.{RestReads}
 use Rattle.bits_fold.proofs.reading.+reading.Given as goal
 
@@ -18,6 +20,7 @@ invariant-read_block-loop-s l = record {
   weights : BlockIsWeighed (list_of l.s-items) → BlockIsWeighed (list_of (drop l.s-index l.s-items));
   vars : l.now.table.vars ≡ l.fn.table.vars;
   so_far : RestReads (BlockReads (list_of l.s-items)) (list_of (drop l.s-index l.s-items)) l.fn.table.states.entries l.now.table.states.entries l.now.bits;
+  on : RestOn (BlockForever (list_of l.s-items)) (list_of (drop l.s-index l.s-items)) l.fn.table.states.entries l.now.table.states.entries;
 }
 
 abbrev pub invariant-check_silent-loop-s : goal.invariant-check_silent-loop-s
@@ -34,4 +37,15 @@ invariant-read_arms-loop-count l = record {
   below : ArmsBelow l.table.vars (arm_list_of (drop l.count-index l.count-items));
   weights : ArmsAreWeighed (arm_list_of (drop l.count-index l.count-items));
   so_far : ArmsFrom (sum (parts_of (list_of_arms l.arms))) (list_of_arms l.arms) (arm_list_of (drop l.count-index l.count-items)) l.table.states.entries l.out.table.states.entries l.out.bits;
+  on : ArmsOn (sum (parts_of (list_of_arms l.arms))) (list_of_arms l.arms) (arm_list_of (drop l.count-index l.count-items)) l.table.states.entries;
 }
+
+abbrev pub invariant-check_forever-loop : goal.invariant-check_forever-loop
+invariant-check_forever-loop l = record {
+  now_vars : l.now.vars ≡ l.fn.table.vars;
+  all_vars : l.all.vars ≡ l.fn.table.vars;
+  coming : ComesOn (value_of (expression_of l.e)) (statements_of l.body) l.fn.table.states.entries l.now.states.entries l.all.states.entries;
+}
+
+abbrev pub invariant-class_in-loop : goal.invariant-class_in-loop
+invariant-class_in-loop l = record { vars : l.within.vars ≡ l.fn.closed.vars }
