@@ -15,7 +15,7 @@
 //! hold, and two bounds of a row are no further apart than what is not certain to belong to one outcome beside what is, and two
 //! parts of 2^-120 (`bounds_beside_others_hold`).
 //!
-//! No clause is of code: `enclose_fold` works with units that are only rounded down. No clause says that little is uncertain:
+//! No clause is of code: `scaled_fold` walks so, and `enclose_fold` works with units that are only rounded down. No clause says that little is uncertain:
 //! that grows with the products of a program, and with what is loose.
 #![tactic(auto)]
 

@@ -1,0 +1,17 @@
+pub mod Merged
+pub mod Passing
+pub mod Entries
+pub mod Drawing
+pub mod Orders
+pub mod Rounding
+pub mod Following
+pub mod Grown
+pub mod Keeping
+pub mod Folding
+pub mod Stacks
+pub mod Adding
+pub mod Ending
+pub mod Sizes
+pub mod Putting
+pub mod MoreEnded
+pub mod Powers

@@ -1,0 +1,64 @@
+-- No step makes a state have more units at least than at most.
+use Rattle.std.proofs.Common.{ℕ, zero, suc, ◌*◌, ◌/◌, ◌≤◌, ℤ, pos, negsuc, Ok, Err, Bool, true, false, None, cond, [], ◌∷◌, arith, slice_set}
+use Rattle.std.specs.Int.{div_ceil}
+use Rattle.std.proofs.lemmas.Nat.{le-div}
+use Rattle.std.proofs.Math.Nat.{div-mul-le_self, mul-le-mul_left}
+use Rattle.gcl_core.specs.meaning.Blocks.{by_value, by_bound}
+use Rattle.gcl_core.specs.meaning.Value.{State, Value}
+use Rattle.table_flow.specs.Tables.{set_go, only_go, below_go, drawn_go}
+use Rattle.units_law.specs.Down.{down}
+use Rattle.scaled_law.specs.Pairs.{Pair, Pairs, InOrder, counted_pairs, class_pairs, pairs_kind}
+use Rattle.scaled_law.specs.Up.{up}
+use Rattle.scaled_fold.proofs.Merged.{order_append}
+
+pub order_set : (x : ℕ) (v : State → Value) (J : Pairs State) → InOrder J → InOrder (set_go counted_pairs x v J)
+order_set x v [] i = tt
+order_set x v (e ∷ J) i = by (v e.0) (order_set x v J i.1)
+  where
+    by : (o : Value) → InOrder (set_go counted_pairs x v J) → InOrder (by_value o (λ f. set_go counted_pairs x v J) (λ z. (slice_set e.0 x z, e.1) ∷ set_go counted_pairs x v J))
+    by (Ok z) k = (i.0, k)
+    by (Err f) k = k
+
+pub order_only : (test : State → Bool) (J : Pairs State) → InOrder J → InOrder (only_go counted_pairs test J)
+order_only test [] i = tt
+order_only test (e ∷ J) i = by (test e.0) (order_only test J i.1)
+  where
+    by : (b : Bool) → InOrder (only_go counted_pairs test J) → InOrder (cond b (e ∷ only_go counted_pairs test J) (only_go counted_pairs test J))
+    by true k = (i.0, k)
+    by false k = k
+
+-- ---- shares
+
+over_more : (a c b : ℕ) → a ≤ c → a / b ≤ c / b
+over_more a c zero l = omega arith
+over_more a c (suc b) l = let x = div-mul-le_self a (suc b) in le-div (a / suc b) c (suc b) (omega arith) (omega (arith, l, x))
+
+share_order : (l h c b : ℕ) → l ≤ h → l * c / b ≤ div_ceil (h * c) b
+share_order l h c b p = let y = mul-le-mul_left c p in let x = over_more (l * c) (h * c) b (omega (arith, y)) in omega (arith, x)
+
+pub order_class : (b c : ℕ) (J : Pairs State) → InOrder J → InOrder (class_pairs down up b None c J)
+order_class b c [] i = tt
+order_class b c (e ∷ J) i = (share_order e.1.0 e.1.1 c b i.0, order_class b c J i.1)
+
+-- ---- draws
+
+order_below : (x m : ℕ) (e : State × Pair) → e.1.0 ≤ e.1.1 → InOrder (below_go counted_pairs x m (e ∷ []))
+order_below x zero e i = tt
+order_below x (suc m) e i = order_append (below_go counted_pairs x m (e ∷ [])) ((slice_set e.0 x (pos m), e.1) ∷ []) (order_below x m e i) (i, tt)
+
+pub order_drawn : (x : ℕ) (v : State → Value) (J : Pairs State) → InOrder J → InOrder (drawn_go (pairs_kind down up) x v None J)
+order_drawn x v [] i = tt
+order_drawn x v (e ∷ J) i =
+    order_append (by_value (v e.0) (λ f. []) (λ z. by_bound z [] (λ m. below_go counted_pairs x m (class_pairs down up m None 1 (e ∷ []))))) (drawn_go (pairs_kind down up) x v None J) (by (v e.0)) (order_drawn x v J i.1)
+  where
+    numbers : (m : ℕ) → InOrder (below_go counted_pairs x m (class_pairs down up m None 1 (e ∷ [])))
+    numbers m = let s = order_class m 1 (e ∷ []) (i.0, tt) in order_below x m _ s.0
+
+    at : (z : ℤ) → InOrder (by_bound z [] (λ m. below_go counted_pairs x m (class_pairs down up m None 1 (e ∷ []))))
+    at (pos zero) = tt
+    at (pos (suc m)) = numbers (suc m)
+    at (negsuc m) = tt
+
+    by : (o : Value) → InOrder (by_value o (λ f. []) (λ z. by_bound z [] (λ m. below_go counted_pairs x m (class_pairs down up m None 1 (e ∷ [])))))
+    by (Ok z) = at z
+    by (Err f) = tt

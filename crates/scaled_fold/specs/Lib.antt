@@ -1,0 +1,3 @@
+pub mod inner
+pub mod Doubling
+pub mod Ends

@@ -1,0 +1,6 @@
+pub mod Ended
+pub mod Stack
+pub mod Holding
+pub mod Folding
+pub mod Sums
+pub mod Outcomes

@@ -1,0 +1,34 @@
+//! A round of a program over pairs of units, by merged tables: each state has units at least, with products rounded down, and units at
+//! most, with products rounded up. After each statement, wherever it stands, all units are doubled as often as what has not failed still
+//! stays within 2^120, so that they stay small beside it however unlikely the evidence is. What fails is counted nowhere.
+//!
+//! Proved: the mass of any set of outcomes lies between what its units at least are beside those that all others have at most, and the
+//! reverse (`between`), for every greater limit of turns too, where what ran out of turns counts for no outcome at least and for all at
+//! most. Where some outcome has a unit at least, a round fails with probability below 1 (`passes`). The units are those of `scaled_law`
+//! (`round`).
+//!
+//! Draws and runs take as many attempts and rounds as they need. No clause says when a call is refused, how far apart the bounds are, that
+//! memory or the stack suffices, or how long a call takes, which grows with the states and with the limit of turns.
+#![tactic(auto)]
+
+mod body;
+mod draws;
+mod ended;
+mod error;
+mod fold;
+mod growing;
+mod outcomes;
+mod pair;
+mod rounds;
+mod stack;
+mod stacking;
+mod stepping;
+mod steps;
+mod sums;
+mod table;
+mod tables;
+mod walk;
+mod walking;
+
+pub use error::PairsError;
+pub use rounds::{Ends, round_in_pairs};
