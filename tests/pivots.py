@@ -20,7 +20,7 @@ WITNESSES = (2, 3, 5, 7, 11, 13, 17, 19, 23, 29, 31, 37)  # these tell all prime
 
 def rows():
     """The primes with their two numbers."""
-    return [tuple(int(it.replace("_", "")) for it in row) for row in PRIME.findall(source.module("exact_fold", ["primes"]))]
+    return [tuple(int(it.replace("_", "")) for it in row) for row in PRIME.findall(source.module("visit_finder", ["primes"]))]
 
 
 def passes(p, witness):

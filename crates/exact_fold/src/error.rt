@@ -2,6 +2,7 @@
 
 use mass_fold::MassError;
 use std::alloc::{AllocError, AllocFailed};
+use visit_finder::FinderError;
 
 /// Why a block is not settled.
 #[derive(Clone, Copy, PartialEq, Eq, Debug)]
@@ -24,6 +25,15 @@ impl From<MassError> for SettleError {
             MassError::OutOfMemory => SettleError::OutOfMemory,
             // No step of a block answers this.
             MassError::AllFailed => SettleError::NotSettled,
+        }
+    }
+}
+
+impl From<FinderError> for SettleError {
+    fn from(error: FinderError) -> Self {
+        match error {
+            FinderError::TooWide => SettleError::TooWide,
+            FinderError::OutOfMemory => SettleError::OutOfMemory,
         }
     }
 }

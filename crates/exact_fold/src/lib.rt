@@ -20,13 +20,9 @@ mod laws;
 mod loops;
 mod masses;
 mod parts;
-mod primes;
 mod program;
-mod residues;
 mod settle;
-mod solving;
 pub mod turning;
-mod wide;
 
 pub use error::{ExactError, SettleError};
 pub use laws::{

@@ -1,5 +1,5 @@
-//! The tests of fractions, narrow fractions, units, rounds over pairs of them, draws' bits, masses, expected bits under limits and
-//! without, bounds, enclosed and exact masses.
+//! The tests of fractions, narrow fractions, units, rounds over pairs of them, visits of loops, draws' bits, masses, expected bits
+//! under limits and without, bounds, enclosed and exact masses.
 //!
 //! They stand in a crate of their own and go by public calls, so none of the crates that they test is proved once more with its
 //! tests. They promise nothing: the fractions that are expected are written out in them, worked by hand or by another program.
@@ -33,3 +33,5 @@ mod undecided_bits;
 mod units;
 #[cfg(test)]
 mod unlimited_bits;
+#[cfg(test)]
+mod visits;

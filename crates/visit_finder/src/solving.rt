@@ -1,7 +1,7 @@
 // The visits of a loop by elimination of its states, one after the other: that which may add the fewest entries first. Nothing is
 // promised of them.
 
-use crate::error::SettleError;
+use crate::error::FinderError;
 use crate::residues::{Moduli, Residues};
 use std::alloc::Global;
 use std::collections::{BTreeMap, BTreeSet};
@@ -31,7 +31,7 @@ struct Left {
 const NUMBERS: u64 = 1 << 32;
 
 // The row without a state, and its part.
-fn without(alloc: Global, row: &Row, state: u64) -> Result<(Row, Residues), SettleError> {
+fn without(alloc: Global, row: &Row, state: u64) -> Result<(Row, Residues), FinderError> {
     let mut others = Vec::with_capacity(alloc, row.len())?;
     let mut part = Residues::zero();
     for (to, weight) in row {
@@ -45,7 +45,7 @@ fn without(alloc: Global, row: &Row, state: u64) -> Result<(Row, Residues), Sett
 }
 
 // The entries from an index on are put behind others, up to a state; and the index behind them.
-fn copied_below(row: &Row, from: usize, state: u64, all: &mut Row) -> Result<usize, SettleError> {
+fn copied_below(row: &Row, from: usize, state: u64, all: &mut Row) -> Result<usize, FinderError> {
     let mut at = from;
     for _ in from..row.len() {
         match row.get(at) {
@@ -67,7 +67,7 @@ impl Left {
         from: u64,
         to: u64,
         part: &Residues,
-    ) -> Result<(), SettleError> {
+    ) -> Result<(), FinderError> {
         let mut row = match self.out.remove(&from) {
             Some(row) => row,
             None => Vec::new(alloc),
@@ -78,7 +78,7 @@ impl Left {
     }
 
     // A turn leads from one state to another.
-    fn source(&mut self, alloc: Global, from: u64, to: u64) -> Result<(), SettleError> {
+    fn source(&mut self, alloc: Global, from: u64, to: u64) -> Result<(), FinderError> {
         let mut sources = match self.into.remove(&to) {
             Some(sources) => sources,
             None => BTreeSet::new(alloc),
@@ -101,7 +101,7 @@ impl Left {
         out.saturating_mul(into).min(NUMBERS - 1)
     }
 
-    fn rank(&mut self, state: u64) -> Result<(), SettleError> {
+    fn rank(&mut self, state: u64) -> Result<(), FinderError> {
         if let Some(old) = self.ranks.get(&state) {
             self.order.remove(old);
         }
@@ -112,7 +112,7 @@ impl Left {
     }
 
     // The state's row without the part from itself, and that part.
-    fn take(&mut self, alloc: Global, state: u64) -> Result<(Row, Residues), SettleError> {
+    fn take(&mut self, alloc: Global, state: u64) -> Result<(Row, Residues), FinderError> {
         let row = match self.out.remove(&state) {
             Some(row) => row,
             None => Vec::new(alloc),
@@ -135,7 +135,7 @@ impl Left {
         row: &Row,
         factor: &Residues,
         other: &Row,
-    ) -> Result<Row, SettleError> {
+    ) -> Result<Row, FinderError> {
         let mut all = Vec::new(alloc);
         let mut at = 0;
         for (to, part) in other {
@@ -157,7 +157,7 @@ impl Left {
     }
 
     // What a state is entered with grows.
-    fn enter(&mut self, moduli: &Moduli, state: u64, part: &Residues) -> Result<(), SettleError> {
+    fn enter(&mut self, moduli: &Moduli, state: u64, part: &Residues) -> Result<(), FinderError> {
         let sum = match self.entered.get(&state) {
             Some(old) => moduli.sum(old, part),
             None => *part,
@@ -174,7 +174,7 @@ impl Left {
         state: u64,
         leaves: &Residues,
         row: &Row,
-    ) -> Result<Row, SettleError> {
+    ) -> Result<Row, FinderError> {
         let sources = match self.into.remove(&state) {
             Some(sources) => sources,
             None => BTreeSet::new(alloc),
@@ -199,7 +199,7 @@ impl Left {
         alloc: Global,
         moduli: &mut Moduli,
         state: u64,
-    ) -> Result<Pivot, SettleError> {
+    ) -> Result<Pivot, FinderError> {
         let (row, back) = self.take(alloc, state)?;
         let pivot = moduli.difference(&moduli.of_number(1), &back);
         let leaves = moduli.inverse(&pivot);
@@ -230,7 +230,7 @@ pub fn solved(
     entered: BTreeMap<u64, Residues>,
     parts: &BTreeMap<(u64, u64), Residues>,
     states: &Vec<u64>,
-) -> Result<BTreeMap<u64, Residues>, SettleError> {
+) -> Result<BTreeMap<u64, Residues>, FinderError> {
     let mut left = Left {
         out: BTreeMap::new(alloc),
         into: BTreeMap::new(alloc),
@@ -261,7 +261,7 @@ fn visits_by(
     moduli: &Moduli,
     pivots: Vec<Pivot>,
     entered: &BTreeMap<u64, Residues>,
-) -> Result<BTreeMap<u64, Residues>, SettleError> {
+) -> Result<BTreeMap<u64, Residues>, FinderError> {
     let mut visits = BTreeMap::new(alloc);
     let mut stack = pivots;
     for _ in 0..stack.len() {

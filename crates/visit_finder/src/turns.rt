@@ -1,0 +1,145 @@
+// Where the turns of a loop lead, and how often each state is expected to be visited.
+
+use crate::error::FinderError;
+use crate::primes::PRIMES;
+use crate::residues::{Moduli, Residues};
+use crate::solving::solved;
+use numbers::Frac;
+use std::alloc::Global;
+use std::collections::BTreeMap;
+
+/// Where one turn leads from each state of a loop on which its guard holds. States are told by numbers.
+#[derive(Drop)]
+pub struct Turns {
+    parts: Vec<(u64, u64, Frac)>,
+}
+
+// The fractions with these remainders, by number.
+fn fractions(
+    alloc: Global,
+    moduli: &Moduli,
+    residues: &BTreeMap<u64, Residues>,
+) -> Result<BTreeMap<u64, Frac>, FinderError> {
+    let mut fractions = BTreeMap::new(alloc);
+    for (number, part) in residues {
+        let fraction = moduli.fraction(part).ok_or(FinderError::TooWide)?;
+        fractions.insert(*number, fraction)?;
+    }
+    Ok(fractions)
+}
+
+impl Turns {
+    pub fn none(alloc: Global) -> Turns {
+        Turns {
+            parts: Vec::new(alloc),
+        }
+    }
+
+    /// One turn leads from one state to another with this weight.
+    pub fn lead(&mut self, from: u64, to: u64, weight: Frac) -> Result<(), FinderError> {
+        self.parts.push((from, to, weight))?;
+        Ok(())
+    }
+
+    // With how much of its weight a turn from each state leads on, and from which states one leads to each.
+    fn sums_and_sources(
+        &self,
+        alloc: Global,
+    ) -> Result<(BTreeMap<u64, Frac>, BTreeMap<u64, Vec<u64>>), FinderError> {
+        let mut sums = BTreeMap::new(alloc);
+        let mut sources: BTreeMap<u64, Vec<u64>> = BTreeMap::new(alloc);
+        for (from, to, weight) in &self.parts {
+            let sum = match sums.get(from) {
+                Some(old) => weight.add(old).ok_or(FinderError::TooWide)?,
+                None => *weight,
+            };
+            sums.insert(*from, sum)?;
+            let mut list = match sources.remove(to) {
+                Some(list) => list,
+                None => Vec::new(alloc),
+            };
+            list.push(*from)?;
+            sources.insert(*to, list)?;
+        }
+        Ok((sums, sources))
+    }
+
+    // The states from which the loop is left with some weight: those from which a turn leads on with less than all, and those
+    // from which a turn leads to one of them.
+    fn leaving(&self, alloc: Global, states: u64) -> Result<BTreeMap<u64, bool>, FinderError> {
+        let (sums, mut sources) = self.sums_and_sources(alloc)?;
+        let mut leaving = BTreeMap::new(alloc);
+        let mut waiting = Vec::new(alloc);
+        for number in 0..states {
+            let leaves = match sums.get(&number) {
+                Some(sum) => sum.num() != sum.den(),
+                None => true,
+            };
+            if leaves {
+                leaving.insert(number, true)?;
+                waiting.push(number)?;
+            }
+        }
+        for _ in 0..states {
+            let Some(to) = waiting.pop() else {
+                break;
+            };
+            if let Some(list) = sources.remove(&to) {
+                for from in list {
+                    if !leaving.contains_key(&from) {
+                        leaving.insert(from, true)?;
+                        waiting.push(from)?;
+                    }
+                }
+            }
+        }
+        Ok(leaving)
+    }
+
+    // The visits of the states that may be left, by number, at these moduli.
+    fn visits_at(
+        &self,
+        alloc: Global,
+        moduli: &mut Moduli,
+        entered: &Vec<(u64, Frac)>,
+        leaving: &BTreeMap<u64, bool>,
+    ) -> Result<BTreeMap<u64, Residues>, FinderError> {
+        let mut begun = BTreeMap::new(alloc);
+        for (number, weight) in entered {
+            if leaving.contains_key(number) {
+                begun.insert(*number, moduli.of(weight))?;
+            }
+        }
+        let mut parts = BTreeMap::new(alloc);
+        for (from, to, weight) in &self.parts {
+            if leaving.contains_key(from) && leaving.contains_key(to) {
+                parts.insert((*from, *to), moduli.of(weight))?;
+            }
+        }
+        let mut states = Vec::new(alloc);
+        for (number, _) in leaving {
+            states.push(*number)?;
+        }
+        solved(alloc, moduli, begun, &parts, &states)
+    }
+
+    /// The visits of the states below `states` from which the loop may be left, by number, where it is entered with these weights: at moduli
+    /// of which none is lost. The others are never left.
+    pub fn visits(
+        &self,
+        alloc: Global,
+        states: u64,
+        entered: &Vec<(u64, Frac)>,
+    ) -> Result<BTreeMap<u64, Frac>, FinderError> {
+        let leaving = self.leaving(alloc, states)?;
+        let mut moduli = Moduli::first();
+        for _ in 0..PRIMES.len() {
+            let visits = self.visits_at(alloc, &mut moduli, entered, &leaving)?;
+            if moduli.hold() {
+                return fractions(alloc, &moduli, &visits);
+            }
+            moduli = moduli.others().ok_or(FinderError::TooWide)?;
+        }
+        Err(FinderError::TooWide)
+    }
+}
