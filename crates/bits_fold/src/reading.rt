@@ -502,7 +502,8 @@ fn class_in(alloc: Global, body: &Block, e: &Expr, closed: Table) -> Result<Tabl
         if found.closed.states.len() == 0 {
             return Ok(found.visits);
         }
-        within = found.closed;
+        // From a state that is never come to again the class is looked for among those behind it.
+        within = leaving(alloc, &start, found.closed)?;
     }
     Err(BitsError::NotFound)
 }

@@ -193,6 +193,9 @@ const LATER: &str =
 const INSIDE: &str =
     "while x < 2 { x ~ uniform(3); while x = 1 { y ~ uniform(2); } } return x + y;";
 
+// The state that it is entered with does not come again.
+const PASSED_BY: &str = "while x < 2 { y ~ uniform(2); x := 1; } return x + y;";
+
 // It goes to and fro between two states, and the third turns into one of four that are never left.
 const TO_AND_FRO: &str =
     "while x < 7 { if x = 0 { choose { 1: { x := 1; } | 1: { x := 3; } | 1: { x := 7; } } } else { y ~ uniform(3); if y > 0 { x := x % 4 + 1; } } } return x;";
@@ -247,6 +250,7 @@ fn rounds_and_loops_without_end(rt: HostRuntime) -> Result<(), Fail> {
     assert!(rt; has_no_bound(rt.alloc(), LATER));
     assert!(rt; has_no_bound(rt.alloc(), INSIDE));
     assert!(rt; has_no_bound(rt.alloc(), TO_AND_FRO));
+    assert!(rt; has_no_bound(rt.alloc(), PASSED_BY));
     assert!(rt; has_bits(rt.alloc(), SILENT, (1, 1)));
     assert!(rt; has_bits(rt.alloc(), FALLS_SILENT, (2, 1)));
     Ok(())
