@@ -1,5 +1,4 @@
 pub mod Equal
-pub mod Transfer
 pub mod ReachedBits
 pub mod Prices
 pub mod Most

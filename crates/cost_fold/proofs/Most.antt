@@ -1,4 +1,4 @@
--- The draws that a table reaches are whole at its scale, and read no more than the longest reading, by the weight of the table.
+-- The draws that a table reaches read no more than the longest reading, by the weight of the table.
 use Rattle.std.proofs.Common.{◌≡◌, ℕ, zero, suc, ◌+◌, ◌-◌, ◌*◌, ◌^◌, ◌≤◌, ◌<◌, max, ℤ, pos, negsuc, true, List, [], ◌∷◌, ◌++◌, Ok, Err, Some, refl, subst, arith}
 use Rattle.std.proofs.Math.Nat.{mul-le-mul_left, mul-le-mul_right}
 use Rattle.std.proofs.lemmas.Bool.{ltb-true}
@@ -33,56 +33,34 @@ abbrev StatesFit : Table → Type 0
 StatesFit = AllFit weighted
 
 -- ---- lists of draws
-wholes_append : (N : ℕ) (a b : ReachedDraws) → Wholes N a → Wholes N b → Wholes N (a ++ b)
-wholes_append N [] b h k = k
-wholes_append N (e ∷ a) b h k = (h.0, wholes_append N a b h.1 k)
-
-wholes_each : (N : ℕ) (ends : List ℕ) (I : Table) → Wholes N I → Wholes N (drawn_each ends I)
-wholes_each N ends [] h = tt
-wholes_each N ends (e ∷ I) h = (h.0, wholes_each N ends I h.1)
-
-wholes_bound : (N : ℕ) (v : State → Value) (I : Table) → Wholes N I → Wholes N (drawn_bound v I)
-wholes_bound N v [] h = tt
-wholes_bound N v (e ∷ I) h = wholes_append N _ (drawn_bound v I) (by_state (v e.1)) (wholes_bound N v I h.1)
-  where
-    by_sign : (z : ℤ) → Wholes N (by_bound z [] (λ m. (e.0, uniform_ends m) ∷ []))
-    by_sign (pos zero) = tt
-    by_sign (pos (suc m)) = (h.0, tt)
-    by_sign (negsuc m) = tt
-
-    by_state : (o : Value) → Wholes N (by_value o (λ f. []) (λ z. by_bound z [] (λ m. (e.0, uniform_ends m) ∷ [])))
-    by_state (Ok z) = by_sign z
-    by_state (Err f) = tt
-
--- draws of the weight W, whole at N, of at most so many bits each, in parts of M
+-- draws of the weight W, at the scale N, of at most so many bits each, in parts of M
 pub record DrawsMost (r N M : ℕ) (D : ReachedDraws) (W bits : ℕ) : Type 0 where
-  pub whole : Wholes N D
   pub most : amount N (price (Some r) M) D ≤ W * (M * bits)
 
 module _ (r N M : ℕ) where
   none_most : (W bits : ℕ) → DrawsMost r N M [] W bits
-  none_most W bits = record { whole = tt; most = omega arith }
+  none_most W bits = record { most = omega arith }
 
   most_up : (D : ReachedDraws) (W V a b : ℕ) → W ≤ V → a ≤ b → DrawsMost r N M D W a → DrawsMost r N M D V b
   most_up D W V a b h k d =
       let x = mul-le-mul_right (M * a) h in
       let y = mul-le-mul_left (V * M) k in
-      record { whole = d.whole; most = let z = d.most in omega arith }
+      record { most = let z = d.most in omega arith }
 
   -- one part of the weight, and another
   most_beside : (D E : ReachedDraws) (W V a : ℕ) → DrawsMost r N M D W a → DrawsMost r N M E V a → DrawsMost r N M (D ++ E) (W + V) a
-  most_beside D E W V a d e = record { whole = wholes_append N D E d.whole e.whole; most = let x = amount_append N (price (Some r) M) D E in let y = d.most in let z = e.most in omega arith }
+  most_beside D E W V a d e = record { most = let x = amount_append N (price (Some r) M) D E in let y = d.most in let z = e.most in omega arith }
 
   -- one after the other
   most_after : (D E : ReachedDraws) (W a b : ℕ) → DrawsMost r N M D W a → DrawsMost r N M E W b → DrawsMost r N M (D ++ E) W (a + b)
-  most_after D E W a b d e = record { whole = wholes_append N D E d.whole e.whole; most = let x = amount_append N (price (Some r) M) D E in let y = d.most in let z = e.most in omega arith }
+  most_after D E W a b d e = record { most = let x = amount_append N (price (Some r) M) D E in let y = d.most in let z = e.most in omega arith }
 
   most_each : (ends : List ℕ) (I : Table) → Wholes N I → Priced (Some r) M (drawn_each ends I) → DrawsMost r N M (drawn_each ends I) (weight N I) (number_bits ends * r)
   most_each ends [] w p = none_most 0 (number_bits ends * r)
   most_each ends (e ∷ I) w p =
       let i = most_each ends I w.1 p.1 in
       let x = mul-le-mul_left (whole N e.0) (price_most ends r M p.0) in
-      record { whole = (w.0, i.whole); most = let y = i.most in omega arith }
+      record { most = let y = i.most in omega arith }
 
   most_bound : (e : Expression) (I : Table) → ExpressionFits e → StatesFit I → Wholes N I → Priced (Some r) M (drawn_bound (value_of e) I) → DrawsMost r N M (drawn_bound (value_of e) I) (weight N I) (63 * r)
   most_bound e [] f a w p = none_most 0 (63 * r)
@@ -92,7 +70,7 @@ module _ (r N M : ℕ) where
       let i = most_bound e I f a.1 w.1 (priced_second (Some r) M one (drawn_bound v I) p) in
       let h : amount N (price (Some r) M) one ≤ U * (M * (63 * r)) = by_state (v d.1) refl (priced_first (Some r) M one (drawn_bound v I) p) in
       let x : amount N (price (Some r) M) (drawn_bound v (d ∷ I)) ≡ amount N (price (Some r) M) one + amount N (price (Some r) M) (drawn_bound v I) = amount_append N (price (Some r) M) one (drawn_bound v I) in
-      record { whole = wholes_bound N v (d ∷ I) w; most = sum_most _ _ _ U (weight N I) (M * (63 * r)) x h i.most }
+      record { most = sum_most _ _ _ U (weight N I) (M * (63 * r)) x h i.most }
     where
       U : ℕ
       U = whole N d.0

@@ -33,15 +33,16 @@ use Rattle.mass_fold.specs.Body.{RoundBits, IsMass}
 use Rattle.mass_fold.specs.Metering.{Priced, price}
 use Rattle.mass_fold.specs.Rounds.{geometric, scale_of, IsRepeated, RepeatBlames}
 use Rattle.mass_fold.proofs.AllRounds.{same_sums}
+use Rattle.mass_fold.proofs.DrawsWhole.{block_whole}
 use Rattle.mass_fold.proofs.OutcomeRows.{lowest_is}
 use Rattle.mass_fold.proofs.Repeats.{scale_is}
 use Rattle.mass_fold.proofs.RoundMasses.{round_positive}
+use Rattle.mass_fold.proofs.Transfer.{EachShare, average_amount}
 use Rattle.cost_fold.specs.Spread.{most_bits, spread}
 use Rattle.cost_fold.proofs.Equal.{average_positive}
 use Rattle.cost_fold.proofs.Most.{block_most, DrawsMost}
 use Rattle.cost_fold.proofs.Prices.{price_share, priced_at}
 use Rattle.cost_fold.proofs.ReachedBits.{cost_of, block_reached}
-use Rattle.cost_fold.proofs.Transfer.{EachShare, average_amount}
 
 -- ---- shares of equal fractions
 share_along : (p q : Fraction) (X T : ℕ) → 0 < p.1 → IsEqual p q → p.1 * X ≡ p.0 * T → q.1 * X ≡ q.0 * T
@@ -134,6 +135,9 @@ module _ (p : SourceProgram) (l : Limits) (ok : IsChecked p) where
   most : DrawsMost r Q M D (weight Q s) Long
   most = block_most n r Q (peak_of p n (Some r)) M p.body w ok.numbers.body s ((whole_from Q one Q (omega arith) (omega arith)).1, tt) (zeros_fit (length p.names), tt) (at_width p n (Some r) w).within priced
 
+  draws_whole : Wholes Q D
+  draws_whole = block_whole n (Some r) Q (peak_of p n (Some r)) p.body s (at_width p n (Some r) w).within
+
   few : X ≤ N * Long
   few = let a : whole Q one ≡ Q = (whole_from Q one Q (omega arith) (omega arith)).0 in let m = most.most in bounded X (whole Q one) Q M Long a m
     where
@@ -143,11 +147,11 @@ module _ (p : SourceProgram) (l : Limits) (ok : IsChecked p) where
   -- the parts that are counted are the share that the body's bits are
   body_share : body.1 * X ≡ body.0 * N
   body_share =
-      let a = average_amount Q M (cost_of r) (price (Some r) M) D most.whole (shares_of r M D priced) in
+      let a = average_amount Q M (cost_of r) (price (Some r) M) D draws_whole (shares_of r M D priced) in
       let A = on_average D (cost_of r) in
       let B = on_average s (λ s. block_bits n r p.body s (λ s. zero_share)) in
       let e : IsEqual A B = block_reached n r p.body w s (omega arith, tt) in
-      let pA : 0 < A.1 = average_of_draws D most.whole in
+      let pA : 0 < A.1 = average_of_draws D draws_whole in
       let b = share_along A B X N pA e a in
       alone body.0 body.1 X N b
     where

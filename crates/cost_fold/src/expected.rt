@@ -48,7 +48,7 @@ pub fn cost(alloc: Global, p: &Checked, l: &Limits) -> Result<Frac, CostError>
     ensures refused { IfErr result (λ e. CostRefused e (source_of p.now) l.now) }
 {
     p.is_kept();
-    match round_bits(alloc, p, l.turns, l.attempts) {
+    match round_bits(alloc, p, l.turns, Some(l.attempts)) {
         Err(error) => Err(refusal(error)),
         Ok((bits, failed)) => match bits {
             None => Err(CostError::TooWide),

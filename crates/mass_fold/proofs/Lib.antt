@@ -35,3 +35,5 @@ pub mod MeterLoops
 pub mod ArmFolds
 pub mod ArmMeters
 pub mod ArmsLeft
+pub mod DrawsWhole
+pub mod Transfer

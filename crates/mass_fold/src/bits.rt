@@ -1,6 +1,6 @@
 // The bits of one round.
 
-ghost use Rattle.std.specs.Prelude.{◌≡◌, ◌≤◌, Some, IfOk, IfErr};
+ghost use Rattle.std.specs.Prelude.{◌≡◌, ◌≤◌, IfOk, IfErr, IfSome};
 ghost use Rattle.numbers.specs.Fraction.{lowest};
 ghost use Rattle.gcl_core.specs.weighing.Mass.{failed_mass};
 ghost use Rattle.gcl_core.specs.meaning.Views.{source_of};
@@ -37,20 +37,18 @@ pub fn round_bits(
     alloc: Global,
     p: &Checked,
     turns: u64,
-    attempts: u64,
+    attempts: Option<u64>,
 ) -> Result<(Option<Frac>, Frac), MassError>
     requires turns { turns ≤ MOST_LIMIT }
-    requires attempts { IsLimit attempts }
-    ensures bits { IfOk result (λ t. RoundBits (source_of p.now) turns (Some attempts) t.0) }
-    ensures failed { IfOk result (λ t. t.1 ≡ lowest (failed_mass (source_of p.now) turns (Some attempts))) }
-    ensures mass { IfOk result (λ t. IsMass (round_width (source_of p.now) turns (Some attempts)) t.1) }
-    ensures refused { IfErr result (λ e. RoundRefused e (source_of p.now) turns (Some attempts)) }
+    requires attempts { IfSome attempts IsLimit }
+    ensures bits { IfOk result (λ t. RoundBits (source_of p.now) turns attempts t.0) }
+    ensures failed { IfOk result (λ t. t.1 ≡ lowest (failed_mass (source_of p.now) turns attempts)) }
+    ensures mass { IfOk result (λ t. IsMass (round_width (source_of p.now) turns attempts) t.1) }
+    ensures refused { IfErr result (λ e. RoundRefused e (source_of p.now) turns attempts) }
 {
     p.is_kept();
     let nothing = Frac::of(0, 1);
-    let attempts = Attempts {
-        most: Some(attempts),
-    };
+    let attempts = Attempts { most: attempts };
     let mut meter = Meter::Bits(nothing);
     let (_table, ended) = fold_body(alloc, p, turns, attempts, &mut meter)?;
     let failed = ended.failed;
