@@ -15,3 +15,7 @@ pub mod Sizes
 pub mod Putting
 pub mod MoreEnded
 pub mod Powers
+pub mod Counting
+pub mod RowsBy
+pub mod Listed
+pub mod Others

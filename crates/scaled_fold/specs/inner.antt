@@ -4,3 +4,4 @@ pub mod Holding
 pub mod Folding
 pub mod Sums
 pub mod Outcomes
+pub mod Listing

@@ -1,12 +1,12 @@
-// Why a round gives no pairs.
+// Why a round gives no pairs, or no bounds.
 
 ghost use Rattle.std.specs.Prelude.{◌≡◌};
 
-use gcl_core::refusals::{CODE_WORDS, TOO_MANY_STATES, TOO_WIDE};
+use gcl_core::refusals::{CODE_WORDS, TOO_MANY_STATES, TOO_UNLIKELY, TOO_WIDE};
 use std::alloc::{AllocError, AllocFailed};
 use thiserror::Error;
 
-/// Why a round gives no pairs.
+/// Why a round gives no pairs, or no bounds.
 #[derive(Clone, Copy, PartialEq, Eq, Debug, Error)]
 pub enum PairsError {
     /// More than 65,536 states at one point.
@@ -15,6 +15,9 @@ pub enum PairsError {
     /// Some number of units has more than 128 bits.
     #[error("{}", CODE_WORDS[TOO_WIDE as usize])]
     TooWide,
+    /// No outcome has a unit at least.
+    #[error("{}", CODE_WORDS[TOO_UNLIKELY as usize])]
+    NothingLeft,
     /// Memory ran out.
     #[error("out of memory")]
     OutOfMemory,

@@ -7,18 +7,26 @@
 //! most. Where some outcome has a unit at least, a round fails with probability below 1 (`passes`). The units are those of `scaled_law`
 //! (`round`).
 //!
-//! Draws and runs take as many attempts and rounds as they need. No clause says when a call is refused, how far apart the bounds are, that
+//! And `enclose_in_pairs` makes rows of bounds of them: each mass lies between its two bounds, and all outcomes without a row have together at
+//! most the bound of the others (`enclose`), which is at most 1 (`most`). Two bounds are no further apart than that and a unit of 2^-120
+//! (`close`). Rows are of possible outcomes, ascending (`ordered`).
+//!
+//! Draws and runs take as many attempts and rounds as they need. No clause says when a call is refused, how narrow bounds are, that
 //! memory or the stack suffices, or how long a call takes, which grows with the states and with the limit of turns.
 #![tactic(auto)]
 
 mod body;
+mod bounding;
 mod draws;
+mod enclosing;
 mod ended;
 mod error;
 mod fold;
 mod growing;
+mod listing;
 mod outcomes;
 mod pair;
+mod parts;
 mod rounds;
 mod stack;
 mod stacking;
@@ -30,5 +38,6 @@ mod tables;
 mod walk;
 mod walking;
 
+pub use enclosing::enclose_in_pairs;
 pub use error::PairsError;
 pub use rounds::{Ends, round_in_pairs};

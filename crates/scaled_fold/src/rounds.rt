@@ -25,8 +25,8 @@ pub struct Ends {
     pub loose: u128,
 }
 
-// What the walk through a program leads to.
-fn ends_of(alloc: Global, p: &Checked, turns: u64) -> Result<Ends, PairsError>
+/// What the walk through a program leads to.
+pub fn ends_of(alloc: Global, p: &Checked, turns: u64) -> Result<Ends, PairsError>
     ensures { IfOk result (λ e. RoundGives (source_of p.now) turns e.outcomes.entries e.loose) }
 {
     let program = p.program();
