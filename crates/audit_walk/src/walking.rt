@@ -9,13 +9,13 @@ ghost use Rattle.audit_walk.specs.declared.auditing.TheConstants.{MOST_DEPTH};
 ghost use Rattle.audit_walk.specs.inner.Counts.{IsCountFrom};
 
 use crate::audits::Audit;
-use sampler_run::{Progress, State};
+use sampler_run::{Progress, Run};
 use std::alloc::{AllocError, Global};
 use std::marker::Sync;
 use std::thread::{Threads, join};
 
 // The audit of a run that has ended, or that may read no further bit.
-fn decided(alloc: Global, state: &State<'_>, left: u32) -> Result<Option<Audit>, AllocError>
+fn decided(alloc: Global, state: &Run<'_>, left: u32) -> Result<Option<Audit>, AllocError>
     requires left { left ≤ MOST_DEPTH }
     ensures some { IfOk result (λ o. IfSome o (λ a. IsCountFrom state.now left a.rows a.undecided)) }
     ensures needs { IfOk result (λ o. IfNone o (Tells state.now NeedBit)) }
@@ -31,9 +31,9 @@ fn decided(alloc: Global, state: &State<'_>, left: u32) -> Result<Option<Audit>,
 // A run that stands where this one does, in the room of one that is spare, where there is one.
 fn forked<'s>(
     alloc: Global,
-    state: &State<'s>,
-    spare: &mut Vec<State<'s>>,
-) -> Result<State<'s>, AllocError>
+    state: &Run<'s>,
+    spare: &mut Vec<Run<'s>>,
+) -> Result<Run<'s>, AllocError>
     requires same { All (λ s. set_back s ≡ set_back state.now) spare.old.items }
     ensures stands { IfOk result (λ s. StandsAfter [] state.now s) }
     ensures start { IfOk result (λ s. set_back s ≡ set_back state.now) }
@@ -52,8 +52,8 @@ fn forked<'s>(
 // once it was walked; where the run has ended it is not continued.
 pub(crate) fn walk<'s>(
     alloc: Global,
-    state: &mut State<'s>,
-    spare: &mut Vec<State<'s>>,
+    state: &mut Run<'s>,
+    spare: &mut Vec<Run<'s>>,
     left: u32,
 ) -> Result<Audit, AllocError>
     requires left { left ≤ MOST_DEPTH }
@@ -79,7 +79,7 @@ pub(crate) fn walk<'s>(
 pub(crate) fn spread<R: Threads + Sync>(
     rt: &R,
     alloc: Global,
-    state: &State<'_>,
+    state: &Run<'_>,
     left: u32,
     forks: u32,
 ) -> Result<Audit, AllocError>

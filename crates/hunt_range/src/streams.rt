@@ -9,7 +9,7 @@ ghost use Rattle.hunt_range.specs.Sought.{sought_of};
 ghost use Rattle.hunt_range.specs.inner.Blocks.{FirstWanted};
 
 use gcl_core::TallyKey;
-use sampler_run::State;
+use sampler_run::Run;
 use stream_runs::{SeedRange, run_on_stream};
 use zar_io::StreamBits;
 
@@ -21,8 +21,8 @@ fn is_same(key: TallyKey, want: &TallyKey) -> bool
 
 /// The first stream of a block whose run, from where `home` stands, has the key, if there is one. It takes no memory.
 pub fn first_wanted<'s>(
-    state: &mut State<'s>,
-    home: &State<'s>,
+    state: &mut Run<'s>,
+    home: &Run<'s>,
     range: &SeedRange,
     want: &TallyKey,
     first: u64,

@@ -8,7 +8,7 @@ ghost use Rattle.sampler_run.specs.Held.{StandsAfter, set_back};
 ghost use Rattle.sampler_run.specs.Telling.{Tells, progress_in};
 
 use gcl_core::{Checked, Limits};
-use sampler_run::{Progress, State, compile};
+use sampler_run::{Progress, Run, compile};
 use std::alloc::{AllocError, Global};
 
 /// Where the program's run under these limits stands after two lists of bits in a row, as its sampler tells that is fed one and
@@ -32,11 +32,11 @@ pub fn fed_in_two(
 /// Goes on with the bits `here`, and answers another run that went on from the same place with the bits `there`. An error comes
 /// only where memory runs out; the run then stands where it stood.
 pub fn go_both_ways<'s>(
-    state: &mut State<'s>,
+    state: &mut Run<'s>,
     alloc: Global,
     here: &[bool],
     there: &[bool],
-) -> Result<State<'s>, AllocError>
+) -> Result<Run<'s>, AllocError>
     ensures here { OnOk result (StandsAfter here.now state.old state.new) }
     ensures there { IfOk result (λ other. StandsAfter there.now state.old other) }
     ensures untouched { OnErr result (state.new ≡ state.old) }
@@ -49,7 +49,7 @@ pub fn go_both_ways<'s>(
 
 /// Begins a run anew and goes on with `bits`, after it has gone on with those `before`, which leave no trace. Answers where it
 /// stands then.
-pub fn run_anew(state: &mut State<'_>, before: &[bool], bits: &[bool]) -> Progress
+pub fn run_anew(state: &mut Run<'_>, before: &[bool], bits: &[bool]) -> Progress
     ensures stands { StandsAfter bits.now (set_back state.old) state.new }
     ensures told { Tells state.new result }
 {
@@ -60,7 +60,7 @@ pub fn run_anew(state: &mut State<'_>, before: &[bool], bits: &[bool]) -> Progre
 
 /// Puts a run where another of the same sampler under the same limits stands, and goes on with the bits `next`. Answers where it
 /// stands then.
-pub fn go_on_from<'s>(state: &mut State<'s>, other: &State<'s>, next: &[bool]) -> Progress
+pub fn go_on_from<'s>(state: &mut Run<'s>, other: &Run<'s>, next: &[bool]) -> Progress
     requires { set_back state.old ≡ set_back other.now }
     ensures stands { StandsAfter next.now other.now state.new }
     ensures told { Tells state.new result }

@@ -2,7 +2,7 @@
 
 use audit_walk::Audit;
 use claim_board::Board;
-use sampler_run::{Sampler, State};
+use sampler_run::{Run, Sampler};
 use std::marker::{Send, Sync};
 use std::test::Fail;
 use stream_runs::SeedRange;
@@ -16,8 +16,8 @@ fn handed<T: Send>() {}
 #[test]
 fn threads_are_lent_samplers_and_handed_states(_rt: HostRuntime) -> Result<(), Fail> {
     lent::<Sampler>();
-    lent::<State<'static>>();
-    handed::<State<'static>>();
+    lent::<Run<'static>>();
+    handed::<Run<'static>>();
     Ok(())
 }
 

@@ -5,7 +5,7 @@ use crate::programs::{DIE, GEOMETRIC, LIMITS, TWO_THIRDS, program, sampler};
 use crate::retrying::sample_again;
 use gcl_core::{Answer, Checked, Fault, Limit, Limits, Outcome};
 use sampler_code::list;
-use sampler_run::{Progress, RunError, Sampler, State, Stop, compile, sample};
+use sampler_run::{Progress, Run, RunError, Sampler, Stop, compile, sample};
 use std::alloc::{AllocError, Global};
 use std::test::Fail;
 use zar_io::{Bits, FaultyBits, FileBits, Files, ListBits, OneFile};
@@ -24,7 +24,7 @@ const ONE: Progress = Progress::Ended(Outcome::Value(1));
 
 const TWO: Progress = Progress::Ended(Outcome::Value(2));
 
-fn stands_at(state: &State<'_>, progress: Progress, used: u64, place: usize) -> bool {
+fn stands_at(state: &Run<'_>, progress: Progress, used: u64, place: usize) -> bool {
     state.progress() == progress && state.used() == used && state.place() == place
 }
 

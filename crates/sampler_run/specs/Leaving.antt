@@ -18,7 +18,7 @@ abbrev pub HasRead : Answer → List Bool → Reading Outcome → Type 0
 HasRead (Ended x n) left r = r ≡ gives x left
 HasRead (MoreBits n) left r = (r ≡ more_bits) × (left ≡ [])
 
--- A state before its first bit has read none. What took its bits from there has read what the program's run reads.
+-- A run before its first bit has read none. What took its bits from there has read what the program's run reads.
 pub record LeavesTheRest (p : SourceProgram) (l : Limits) (s : Assembled) : Type 0 where
   pub begins : (home : Held) → StandsAfter [] (run_begun s l) home → UsedIs home 0
   pub reads : (home : Held) (bits left : List Bool) (a : Reached) → StandsAfter [] (run_begun s l) home

@@ -15,14 +15,14 @@ ghost use Rattle.zar_io.specs.Visits.{blocks_told};
 use crate::batch::{Batch, STREAMS_OF_A_BATCH};
 use crate::worker::Worker;
 use report_text::Line;
-use sampler_run::State;
+use sampler_run::Run;
 use std::alloc::{AllocError, Global};
 use std::thread::{Threads, for_each_mut};
 use stream_runs::{Job, MOST_WORKERS, STREAMS_OF_A_BLOCK, answer_on_stream};
 use zar_io::{Gate, StreamBits, Visits};
 
 // A worker that begins as `home` does. An error comes only where memory runs out.
-fn worker_of<'s>(alloc: Global, home: &State<'s>) -> Result<Worker<'s>, AllocError>
+fn worker_of<'s>(alloc: Global, home: &Run<'s>) -> Result<Worker<'s>, AllocError>
     requires { IsHome home.now home.now }
     ensures { IfOk result (IsWorkerOf home.now) }
 {
@@ -37,7 +37,7 @@ fn worker_of<'s>(alloc: Global, home: &State<'s>) -> Result<Worker<'s>, AllocErr
 // Workers that all begin as `home` does. An error comes only where memory runs out.
 pub(crate) fn workers_of<'s>(
     alloc: Global,
-    home: &State<'s>,
+    home: &Run<'s>,
     count: u32,
 ) -> Result<Vec<Worker<'s>>, AllocError>
     requires { IsHome home.now home.now }
@@ -69,10 +69,10 @@ fn enter<G: Gate>(job: &Job<'_, G>, visits: &mut Visits, stream: u64)
 // of each block before its first stream.
 fn fill<'s, G: Gate>(
     job: &Job<'_, G>,
-    home: &State<'s>,
+    home: &Run<'s>,
     first: u64,
     end: u64,
-    state: &mut State<'s>,
+    state: &mut Run<'s>,
     batch: &mut Batch,
     visits: &mut Visits,
 )
@@ -112,7 +112,7 @@ pub(crate) fn batch_start(first: u64, to: u64, size: u64, number: u64) -> u64
 // The lines of the batch of this number.
 fn fill_batch<'s, G: Gate>(
     job: &Job<'_, G>,
-    home: &State<'s>,
+    home: &Run<'s>,
     first: u64,
     size: u64,
     number: usize,
@@ -145,7 +145,7 @@ fn fill_batch<'s, G: Gate>(
 pub(crate) fn fill_round<'s, R: Threads + Sync, G: Gate>(
     rt: &R,
     job: &Job<'_, G>,
-    home: &State<'s>,
+    home: &Run<'s>,
     first: u64,
     size: u64,
     workers: &mut [Worker<'s>],

@@ -16,7 +16,7 @@ use crate::filling::workers_of;
 use crate::worker::Worker;
 use crate::writing::write_lines;
 use gcl_core::{Checked, Limits};
-use sampler_run::{State, compile};
+use sampler_run::{Run, compile};
 use std::alloc::{AllocError, Global};
 use std::thread::Threads;
 use stream_runs::{Job, SeedRange};
@@ -28,7 +28,7 @@ fn write_behind<'s, R: Threads + Sync, S: Sink, G: Gate>(
     sink: &mut S,
     front: &[u8],
     job: &Job<'_, G>,
-    home: &State<'s>,
+    home: &Run<'s>,
     workers: &mut [Worker<'s>],
 ) -> Result<(), Failed>
     requires job { IsReadyJob job.now.limits.now job.now.range.now }

@@ -12,7 +12,7 @@ ghost use Rattle.zar_io.specs.Trace.{Fails, written};
 use crate::batch::{STREAMS_OF_A_BATCH, STREAMS_OF_A_FIRST_BATCH};
 use crate::filling::{batch_start, fill_round};
 use crate::worker::Worker;
-use sampler_run::State;
+use sampler_run::Run;
 use std::thread::Threads;
 use stream_runs::Job;
 use zar_io::{Failed, Gate, Sink, put};
@@ -38,7 +38,7 @@ pub(crate) fn write_lines<'s, R: Threads + Sync, S: Sink, G: Gate>(
     rt: &R,
     sink: &mut S,
     job: &Job<'_, G>,
-    home: &State<'s>,
+    home: &Run<'s>,
     workers: &mut [Worker<'s>],
 ) -> Result<(), Failed>
     requires job { IsReadyJob job.now.limits.now job.now.range.now }

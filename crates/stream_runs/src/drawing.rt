@@ -12,7 +12,7 @@ ghost use Rattle.zar_io.specs.declared.stream_bits.TheConstants.{MOST_BUDGET};
 use crate::ends::{end_of, value_of};
 use crate::running::answer_on_stream;
 use gcl_core::Limits;
-use sampler_run::{Sampler, State};
+use sampler_run::{Run, Sampler};
 use std::alloc::{AllocError, Global};
 use zar_io::StreamBits;
 
@@ -26,8 +26,8 @@ pub struct StreamsFrom {
 
 // Writes how the runs on the streams from `first` on end, one after the other. It takes no memory.
 fn fill<'s>(
-    state: &mut State<'s>,
-    home: &State<'s>,
+    state: &mut Run<'s>,
+    home: &Run<'s>,
     streams: StreamsFrom,
     values: &mut [i64],
     ends: &mut [u8],

@@ -9,7 +9,7 @@ ghost use Rattle.stream_runs.specs.Keys.{key_of_answer, key_on};
 ghost use Rattle.stream_runs.specs.Homes.{IsHome};
 
 use gcl_core::{Answer, TallyKey};
-use sampler_run::{State, go_on};
+use sampler_run::{Run, go_on};
 use zar_io::StreamBits;
 
 fn key_of_answer(answer: Answer) -> TallyKey
@@ -26,8 +26,8 @@ fn key_of_answer(answer: Answer) -> TallyKey
 /// no memory.
 #[inline(always)]
 pub fn answer_on_stream<'s>(
-    state: &mut State<'s>,
-    home: &State<'s>,
+    state: &mut Run<'s>,
+    home: &Run<'s>,
     bits: &mut StreamBits,
     seed: u64,
     stream: u64,
@@ -49,8 +49,8 @@ pub fn answer_on_stream<'s>(
 
 /// Runs as [`answer_on_stream`] does: the key of the run. It takes no memory.
 pub fn run_on_stream<'s>(
-    state: &mut State<'s>,
-    home: &State<'s>,
+    state: &mut Run<'s>,
+    home: &Run<'s>,
     bits: &mut StreamBits,
     seed: u64,
     stream: u64,

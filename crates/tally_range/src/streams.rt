@@ -15,7 +15,7 @@ ghost use Rattle.tally_range.specs.Sums.{count_in};
 use crate::small_counts::SmallCounts;
 use crate::table::Tally;
 use gcl_core::TallyKey;
-use sampler_run::State;
+use sampler_run::Run;
 use std::alloc::AllocError;
 use stream_runs::{STREAMS_OF_A_BLOCK, SeedRange, run_on_stream};
 use zar_io::StreamBits;
@@ -36,8 +36,8 @@ fn count_key(small: &mut SmallCounts, table: &mut Tally, key: TallyKey) -> Resul
 
 // Runs on some streams that follow one another, and counts the keys of the runs. An error comes only where memory runs out.
 pub(crate) fn count_streams<'s>(
-    state: &mut State<'s>,
-    home: &State<'s>,
+    state: &mut Run<'s>,
+    home: &Run<'s>,
     small: &mut SmallCounts,
     table: &mut Tally,
     range: &SeedRange,
@@ -67,8 +67,8 @@ pub(crate) fn count_streams<'s>(
 
 // Runs on the streams of a block, and counts the keys of the runs. An error comes only where memory runs out.
 pub(crate) fn count_block<'s>(
-    state: &mut State<'s>,
-    home: &State<'s>,
+    state: &mut Run<'s>,
+    home: &Run<'s>,
     small: &mut SmallCounts,
     table: &mut Tally,
     range: &SeedRange,

@@ -6,7 +6,7 @@ use Rattle.sampler_run.specs.Sampled.{WentOn}
 use Rattle.sampler_run.specs.Telling.{Tells}
 use Rattle.sampler_run.proofs.Standing.{kept_tells, kept_one}
 use Rattle.sampler_run.proofs.Taking.{went_none}
-use Rattle.sampler_run.proofs.state.State.feed_word.Goals as goal
+use Rattle.sampler_run.proofs.runs.Run.feed_word.Goals as goal
 
 pub returns-then-count-eq0-clause-went : goal.returns-then-count-eq0-clause-went
 returns-then-count-eq0-clause-went c =

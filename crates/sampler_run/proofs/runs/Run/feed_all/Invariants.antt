@@ -1,6 +1,6 @@
 use Rattle.std.proofs.Common.{◌≡◌, take}
 use Rattle.sampler_run.specs.Held.{StandsAfter, set_back}
-use Rattle.sampler_run.proofs.state.State.feed_all.Given as goal
+use Rattle.sampler_run.proofs.runs.Run.feed_all.Given as goal
 
 abbrev pub invariant-loop-bit : goal.invariant-loop-bit
 invariant-loop-bit l =

@@ -10,7 +10,7 @@ use Rattle.sampler_run.specs.inner.Coming.{most_bits_to_come}
 use Rattle.sampler_run.proofs.Standing.{kept_asks, kept_tells, kept_one}
 use Rattle.sampler_run.proofs.Takes.{went_taken}
 use Rattle.sampler_run.proofs.Words.{taken_answered, fewer_word}
-use Rattle.sampler_run.proofs.state.State.take_word.Goals as goal
+use Rattle.sampler_run.proofs.runs.Run.take_word.Goals as goal
 
 pub invariant_of-self : goal.invariant_of-self
 invariant_of-self c =

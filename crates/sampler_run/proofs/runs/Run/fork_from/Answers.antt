@@ -4,7 +4,7 @@ use Rattle.sampler_run.specs.Held.{set_back}
 use Rattle.sampler_run.specs.Models.{held_of}
 use Rattle.sampler_run.specs.Views.{machine_of}
 use Rattle.sampler_run.proofs.Standing.{same_turns, put_there, kept_there}
-use Rattle.sampler_run.proofs.state.State.fork_from.Goals as goal
+use Rattle.sampler_run.proofs.runs.Run.fork_from.Goals as goal
 
 pub copy_from-requires-clause-turns : goal.copy_from-requires-clause-turns
 copy_from-requires-clause-turns c =

@@ -8,7 +8,7 @@ use Rattle.sampler_run.specs.inner.Coming.{most_bits_to_come}
 use Rattle.sampler_run.proofs.Feeding.{fewer}
 use Rattle.sampler_run.proofs.Settle.{answered_bit}
 use Rattle.sampler_run.proofs.Standing.{stands, kept_asks, kept_tells}
-use Rattle.sampler_run.proofs.state.State.take.Goals as goal
+use Rattle.sampler_run.proofs.runs.Run.take.Goals as goal
 
 pub advance-self-inside-requires-clause-asks : goal.advance-self-inside-requires-clause-asks
 advance-self-inside-requires-clause-asks c = kept_asks _ _ _ _ c.self.invariant.kept (subst (λ s. Tells s NeedBit) (sym c.self.view_is) c.requires)

@@ -7,7 +7,7 @@ use Rattle.sampler_run.specs.Models.{held_of}
 use Rattle.sampler_run.specs.Views.{machine_of}
 use Rattle.sampler_run.proofs.Settle.{answered_as}
 use Rattle.sampler_run.proofs.Standing.{stands, kept_back, kept_begun}
-use Rattle.sampler_run.proofs.state.State.restart.Goals as goal
+use Rattle.sampler_run.proofs.runs.Run.restart.Goals as goal
 
 pub settle-self-inside-requires-clause-answered : goal.settle-self-inside-requires-clause-answered
 settle-self-inside-requires-clause-answered c =

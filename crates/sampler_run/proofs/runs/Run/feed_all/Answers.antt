@@ -1,7 +1,7 @@
 use Rattle.std.proofs.Common.{false, refl, ◌∙◌, subst}
 use Rattle.sampler_run.specs.Held.{StandsAfter}
 use Rattle.sampler_run.proofs.Standing.{stands_next, take_whole}
-use Rattle.sampler_run.proofs.state.State.feed_all.Goals as goal
+use Rattle.sampler_run.proofs.runs.Run.feed_all.Goals as goal
 
 pub loop-bit-init : goal.loop-bit-init
 loop-bit-init c = (λ v a. (λ r. r, λ r. r), refl)
