@@ -8,6 +8,7 @@ use Rattle.gcl_core.specs.weighing.WeightedEnds.{Weighted, scaled, class_weight}
 use Rattle.table_flow.specs.Tables.{Table, weighted, fractions_kind, draws_each, draw_weights, faults, statement_flow, block_flow}
 use Rattle.table_flow.proofs.EachMember.{Each, Anything, each_anything}
 use Rattle.table_flow.proofs.KeptEntries.{KeepsEntries, faults_keep, statement_kept, block_kept}
+use Rattle.unlimited_law.specs.Ended.{TurnsSuffice}
 use Rattle.unlimited_law.specs.LoopFree.{StatementFree, BlockFree, ArmsFree}
 use Rattle.exact_fold.specs.Loops.{one_loops, any_loops, arm_loops}
 use Rattle.exact_fold.specs.inner.Settled.{AreUnlimited}
@@ -80,6 +81,17 @@ all_stop = record {
 
 pub free_stopped : (n : ℕ) (b : Statements) → BlockFree b → (I : Table) → AreStopped (block_flow n None b I).ended
 free_stopped n b h I = (block_kept all_stop n b h I (each_anything I)).ended
+
+stopped_suffices : (m : Weighted End) → AreStopped m → TurnsSuffice m
+stopped_suffices [] h = refl
+stopped_suffices ((w, on s) ∷ m) h = absurd h.0
+stopped_suffices ((w, failed) ∷ m) h = stopped_suffices m h.1
+stopped_suffices ((w, fault f) ∷ m) h = stopped_suffices m h.1
+stopped_suffices ((w, limit l) ∷ m) h = absurd h.0
+
+-- no turn is wanted
+pub free_suffices : (n : ℕ) (b : Statements) → BlockFree b → (I : Table) → TurnsSuffice (block_flow n None b I).ended
+free_suffices n b h I = stopped_suffices (block_flow n None b I).ended (free_stopped n b h I)
 
 pub one_unlimited : (n : ℕ) (st : Statement) → StatementFree st → (I : Table) → AreUnlimited (statement_flow n None st I).ended
 one_unlimited n st h I = stopped_unlimited _ (statement_kept all_stop n st h I (each_anything I)).ended

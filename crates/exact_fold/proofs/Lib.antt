@@ -2,7 +2,8 @@ pub mod SameLists
 pub mod SameInputs
 pub mod FreeFlows
 pub mod RowsOfOne
-pub mod FreeMasses
+pub mod SpentEnds
+pub mod EndedMasses
 pub mod Steps
 pub mod Turns
 pub mod Programs

@@ -14,7 +14,7 @@ use Rattle.forgetting.specs.Forgetful.{forget, forgetful_statement, forgetful, f
 use Rattle.forgetting.specs.SameMeaning.{SameMeaning}
 use Rattle.exact_fold.specs.InTheLimit.{TendsTo, RisesTo, IsExactInTheLimit, FailsInTheLimit}
 use Rattle.exact_fold.specs.Loops.{one_loops, any_loops, arm_loops}
-use Rattle.exact_fold.specs.Refused.{HasNoLoop, WhyRefused}
+use Rattle.exact_fold.specs.Refused.{WhyRefused}
 use Rattle.exact_fold.specs.inner.AsWritten.{RefusedAsWritten}
 use Rattle.exact_fold.specs.declared.error.ExactError.{ExactError}
 use Rattle.exact_fold.specs.declared.error.ExactError.TheVariants.{TooWide, TooManyStates, AllFailed, OutOfMemory}
@@ -51,8 +51,8 @@ module _ (count : ℕ) where
     arms_loop no_arm old F L = refl
     arms_loop (arm p b arms) old F L = either _ _ _ _ (forget_loops count _ _ _ ∙ block_loops b F L) (arms_loop arms old F L)
 
-still_none : (p : SourceProgram) → HasNoLoop p → HasNoLoop (forgetful_of p)
-still_none p h = block_loops (length p.names) p.body no_names (λ x. reads x p.result) ∙ h
+same_loops : (p : SourceProgram) → any_loops (forgetful_of p).body ≡ any_loops p.body
+same_loops p = block_loops (length p.names) p.body no_names (λ x. reads x p.result)
 
 -- ---- limits
 module _ (p : SourceProgram) (same : SameMeaning p (forgetful_of p)) where
@@ -70,6 +70,6 @@ module _ (p : SourceProgram) (same : SameMeaning p (forgetful_of p)) where
 
   pub refused_holds : (e : ExactError) → RefusedAsWritten (forgetful_of p) e → WhyRefused p e
   refused_holds AllFailed h = fails_hold h
-  refused_holds TooWide h = λ none. h (still_none p none)
-  refused_holds TooManyStates h = λ none. h (still_none p none)
+  refused_holds TooWide h = (λ none. h.0 (same_loops p ∙ none), λ loops. h.1 (same_loops p ∙ loops))
+  refused_holds TooManyStates h = (λ none. h.0 (same_loops p ∙ none), λ loops. h.1 (same_loops p ∙ loops))
   refused_holds OutOfMemory h = tt

@@ -77,12 +77,10 @@ impl From<AllocError> for ExactError {
 }
 
 impl From<SettleError> for ExactError {
-    ghost use Rattle.gcl_core.specs.meaning.Syntax.{SourceProgram};
-    ghost use Rattle.std.specs.Prelude.{◌≡◌, true};
-    ghost use Rattle.exact_fold.specs.Loops.{any_loops};
-    ghost use Rattle.exact_fold.specs.inner.AsWritten.{RefusedAsWritten};
+    ghost use Rattle.std.specs.Prelude.{◌≡◌};
+    ghost use Rattle.exact_fold.specs.declared.error.ExactError.TheVariants as exact;
 
-    ghost from_gives = { λ _ e. (p : SourceProgram) → any_loops p.body ≡ true → RefusedAsWritten p e };
+    ghost from_gives = { λ _ e. e ≡ exact.AllFailed → ⊥ };
 
     fn from(error: SettleError) -> Self {
         match error {
@@ -101,7 +99,8 @@ impl From<MassError> for ExactError {
     ghost use Rattle.exact_fold.specs.Refused.{HasNoLoop};
     ghost use Rattle.exact_fold.specs.inner.AsWritten.{RefusedAsWritten};
 
-    ghost from_gives = { λ f e. (p : SourceProgram) → IsChecked p → HasNoLoop p → MassRefused f p 1 None None → RefusedAsWritten p e };
+    ghost from_gives = { λ f e. (p : SourceProgram) → IsChecked p → HasNoLoop p → MassRefused f p 1 None None →
+        RefusedAsWritten p e };
 
     fn from(error: MassError) -> Self {
         match error {

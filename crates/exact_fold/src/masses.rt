@@ -20,9 +20,9 @@ use std::alloc::Global;
 ///
 /// A program without a loop is refused as `mass` refuses its forgetful program at a limit of one turn: as too wide only where
 /// the common denominator of that is 2^128 or more, and for its states only where some point of it is reached with more than
-/// [`mass_fold::MOST_STATES`]. Of a program with a loop no clause says that it answers: a call that always refused such a
-/// program as too wide would keep this contract. What is tried is a table of programs, in the tests. `AllFailed` comes only
-/// where in the limit every round fails.
+/// [`mass_fold::MOST_STATES`]. A program with a loop is refused for these two only where at [`TURNS_TRIED`](crate::TURNS_TRIED) turns
+/// `mass` refuses its forgetful program so, or some run of it has not ended. Of a loop that goes on longer no clause says that it
+/// is answered; what is tried is a table of programs, in the tests. `AllFailed` comes only where in the limit every round fails.
 pub fn exact(alloc: Global, program: &Checked) -> Result<ExactMasses, ExactError>
     ensures masses { IfOk result (λ e. IsExact (forgetful_of (source_of program.now)) e.rows e.endless) }
     ensures limits { IfOk result (λ e. IsExactInTheLimit (source_of program.now) e.rows e.endless) }

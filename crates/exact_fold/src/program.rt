@@ -1,14 +1,15 @@
 // The masses of a program in the limit of turns.
 
-ghost use Rattle.std.specs.Prelude.{◌≡◌, ◌<◌, ◌+◌, ℕ, true, length, IfOk, IfErr, IfSome};
+ghost use Rattle.std.specs.Prelude.{◌≡◌, ◌<◌, ◌+◌, ℕ, true, length, IfOk, IfErr, IfSome, IfNone, Contains};
+ghost use Rattle.numbers.specs.Fraction.{Fraction};
 ghost use Rattle.table_flow.specs.Scale.{whole, Whole};
 ghost use Rattle.mass_fold.specs.Amounts.{AreHeld};
 ghost use Rattle.mass_fold.specs.inner.Rounds.{TableParts};
 ghost use Rattle.gcl_core.specs.meaning.Views.{source_of};
 ghost use Rattle.exact_fold.specs.Exact.{IsExact, FailsWith};
-ghost use Rattle.exact_fold.specs.InTheLimit.{IsExactInTheLimit};
-ghost use Rattle.exact_fold.specs.Loops.{any_loops};
-ghost use Rattle.exact_fold.specs.Refused.{HasNoLoop};
+ghost use Rattle.exact_fold.specs.InTheLimit.{IsExactInTheLimit, FailsInTheLimit};
+ghost use Rattle.exact_fold.specs.Refused.{HasNoLoop, HasLoops, GoesBeyond};
+ghost use Rattle.exact_fold.specs.declared.error.ExactError.TheVariants.{AllFailed};
 ghost use Rattle.exact_fold.specs.inner.AsWritten.{RefusedAsWritten};
 ghost use Rattle.exact_fold.specs.inner.Settled.{ProgramSettlesTo};
 ghost use Rattle.exact_fold.specs.inner.Rounds.{SumsTo, RoundOf, DividesTo};
@@ -17,11 +18,15 @@ use crate::error::{ExactError, SettleError};
 use crate::loops::block_loops;
 use crate::parts::Parts;
 use crate::settle::settle_block;
-use gcl_core::{Checked, Outcome};
-use mass_fold::{Ended, FracRows, Table, add_ended, add_results, mass, over_rest};
+use gcl_core::{Checked, Limit, Outcome};
+use mass_fold::{Ended, FracRows, MassError, Table, add_ended, add_results, mass, over_rest};
 use numbers::Frac;
 use std::alloc::Global;
 use std::collections::BTreeMap;
+
+/// The limit of turns at which the masses of a program are tried whose loops are not settled. Where every run has ended by then, they
+/// are the exact masses.
+pub const TURNS_TRIED: u64 = 256;
 
 /// The exact masses of a program, and what runs for ever.
 #[derive(Drop)]
@@ -133,12 +138,11 @@ fn divided(alloc: Global, round: LimitRound) -> Result<ExactMasses, SettleError>
     })
 }
 
-// A program with a loop: its body is settled.
+// The body of a program is settled.
 fn settled(alloc: Global, program: &Checked) -> Result<ExactMasses, ExactError>
-    requires { any_loops (source_of program.now).body ≡ true }
     ensures masses { IfOk result (λ e. IsExact (source_of program.now) e.rows e.endless) }
     ensures limits { IfOk result (λ e. IsExactInTheLimit (source_of program.now) e.rows e.endless) }
-    ensures refused { IfErr result (RefusedAsWritten (source_of program.now)) }
+    ensures fails { IfErr result (λ e. e ≡ AllFailed → FailsInTheLimit (source_of program.now)) }
 {
     program.is_kept();
     let round = limit_round(alloc, program)?;
@@ -147,6 +151,59 @@ fn settled(alloc: Global, program: &Checked) -> Result<ExactMasses, ExactError>
     }
     let masses = divided(alloc, round)?;
     Ok(masses)
+}
+
+// The weight in the row of an outcome.
+fn weight_of(rows: &FracRows, x: Outcome) -> Option<Frac>
+    ensures found { IfSome result (λ f. Contains rows.now (x, f)) }
+    ensures none { IfNone result ((f : Fraction) → Contains rows.now (x, f) → ⊥) }
+{
+    for i in 0..rows.count() {
+        let (outcome, f) = rows.get(i);
+        if *outcome == x {
+            return Some(*f);
+        }
+    }
+    None
+}
+
+// A program whose body is not settled: its masses at a limit of turns, where every run has ended by then.
+fn tried(alloc: Global, program: &Checked, refusal: ExactError) -> Result<ExactMasses, ExactError>
+    requires { GoesBeyond (source_of program.now) → RefusedAsWritten (source_of program.now) refusal }
+    ensures masses { IfOk result (λ e. IsExact (source_of program.now) e.rows e.endless) }
+    ensures limits { IfOk result (λ e. IsExactInTheLimit (source_of program.now) e.rows e.endless) }
+    ensures refused { IfErr result (RefusedAsWritten (source_of program.now)) }
+{
+    program.is_kept();
+    match mass(alloc, program, TURNS_TRIED, None, None) {
+        Ok(rows) => match weight_of(&rows, Outcome::Limit(Limit::Turns)) {
+            Some(_) => Err(refusal),
+            None => Ok(ExactMasses {
+                rows,
+                endless: Frac::of(0, 1),
+            }),
+        },
+        Err(MassError::TooWide) => Err(refusal),
+        Err(MassError::TooManyStates) => Err(refusal),
+        Err(MassError::AllFailed) => Err(ExactError::AllFailed),
+        Err(MassError::OutOfMemory) => Err(ExactError::OutOfMemory),
+    }
+}
+
+// A program with a loop.
+fn in_loops(alloc: Global, program: &Checked) -> Result<ExactMasses, ExactError>
+    requires { HasLoops (source_of program.now) }
+    ensures masses { IfOk result (λ e. IsExact (source_of program.now) e.rows e.endless) }
+    ensures limits { IfOk result (λ e. IsExactInTheLimit (source_of program.now) e.rows e.endless) }
+    ensures refused { IfErr result (RefusedAsWritten (source_of program.now)) }
+{
+    match settled(alloc, program) {
+        Ok(masses) => Ok(masses),
+        Err(ExactError::TooWide) => tried(alloc, program, ExactError::TooWide),
+        Err(ExactError::TooManyStates) => tried(alloc, program, ExactError::TooManyStates),
+        Err(ExactError::AllFailed) => Err(ExactError::AllFailed),
+        Err(ExactError::OutOfMemory) => Err(ExactError::OutOfMemory),
+    }
 }
 
 // A program without a loop: its masses at one turn, and nothing runs for ever.
@@ -171,7 +228,7 @@ pub fn exact_as_written(alloc: Global, program: &Checked) -> Result<ExactMasses,
     ensures refused { IfErr result (RefusedAsWritten (source_of program.now)) }
 {
     if block_loops(&program.program().body) {
-        settled(alloc, program)
+        in_loops(alloc, program)
     } else {
         at_once(alloc, program)
     }

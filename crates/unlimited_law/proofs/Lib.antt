@@ -19,3 +19,6 @@ pub mod WorkedLoops
 pub mod FreeBlocks
 pub mod Likeness
 pub mod CheckedLoops
+pub mod LinearFlows
+pub mod EndedLoops
+pub mod EndedBlocks

@@ -8,7 +8,10 @@
 //! turns has at n turns at least the mass that never ends, and at most the same gap more (`turns_run_out_for_what_is_endless`).
 //! What a block settles to does not depend on which visits are given (`blocks_tend_to_what_they_settle_to`: `one_limit`).
 //!
-//! No clause says that a program settles, or how visits are found: `exact_fold` looks for them and may find none. Nor that the turns
+//! A block settles to its flow at a limit of turns where it has no loop (`blocks_without_loops_settle_to_their_flow`), or where no run is
+//! out of turns there (`blocks_that_end_settle_to_their_flow`).
+//!
+//! No clause says that any other program settles, or how visits are found: `exact_fold` looks for them and may find none. Nor that the turns
 //! are the expected ones: visits may balance and be more than these.
 #![tactic(auto)]
 
@@ -21,11 +24,12 @@ ghost use Rattle.gcl_core.specs.meaning.Blocks.{End, limit};
 ghost use Rattle.gcl_core.specs.meaning.Bounds.{BlockIsWeighed};
 ghost use Rattle.gcl_core.specs.meaning.Checked.{IsChecked};
 ghost use Rattle.gcl_core.specs.meaning.Syntax.{Statements, SourceProgram};
-ghost use Rattle.gcl_core.specs.weighing.Fractions.{IsBelowOne};
+ghost use Rattle.gcl_core.specs.weighing.Fractions.{Fraction, IsBelowOne};
 ghost use Rattle.gcl_core.specs.weighing.Mass.{sum_of};
 ghost use Rattle.gcl_core.specs.weighing.WeightedEnds.{taken_on, weighted_ends};
 ghost use Rattle.table_flow.specs.Tables.{Table, block_flow};
 ghost use Rattle.unlimited_law.specs.Alike.{AreFractions};
+ghost use Rattle.unlimited_law.specs.Ended.{TurnsSuffice, flowed_in};
 ghost use Rattle.unlimited_law.specs.LoopFree.{BlockFree, flowed_out};
 ghost use Rattle.unlimited_law.specs.Settling.{Outflow};
 ghost use Rattle.unlimited_law.specs.SettledMasses.{Settles, settled_weight, IsNear, ProgramSettles, settled_failed, MassTends, MassConverges, EndlessTends};
@@ -64,4 +68,11 @@ pub fn turns_run_out_for_what_is_endless()
 pub fn blocks_without_loops_settle_to_their_flow()
     ensures { (n : ℕ) (b : Statements) (I : Table) → BlockFree b → BlockIsWeighed b → AreFractions I →
         Settles b I (flowed_out (block_flow n None b I)) }
+{}
+
+/// It does nothing: its clause says that a block in which no run is out of turns at a limit settles to its flow at that limit, in
+/// some number of turns.
+pub fn blocks_that_end_settle_to_their_flow()
+    ensures { (n : ℕ) (b : Statements) (I : Table) → BlockIsWeighed b → AreFractions I → TurnsSuffice (block_flow n None b I).ended →
+        (turns : Fraction) × Settles b I (flowed_in turns (block_flow n None b I)) }
 {}

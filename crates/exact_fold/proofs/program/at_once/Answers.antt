@@ -1,7 +1,9 @@
-use Rattle.std.proofs.Common.{arith}
+use Rattle.std.proofs.Common.{length, arith}
+use Rattle.gcl_core.specs.meaning.Outcomes.{zeros}
 use Rattle.gcl_core.specs.meaning.Views.{source_of}
-use Rattle.exact_fold.proofs.FreeFlows.{no_loop}
-use Rattle.exact_fold.proofs.FreeMasses.{free_exact}
+use Rattle.gcl_core.specs.weighing.WeightedEnds.{sure}
+use Rattle.exact_fold.proofs.FreeFlows.{no_loop, free_suffices}
+use Rattle.exact_fold.proofs.EndedMasses.{ended_exact}
 use Rattle.exact_fold.proofs.InTheLimit.{is_exact_in_the_limit}
 use Rattle.exact_fold.proofs.program.at_once.Goals as goal
 
@@ -9,11 +11,8 @@ pub returns-clause-masses : goal.returns-clause-masses
 returns-clause-masses c =
     let p = source_of c.args.program.now in
     let r = c.in_ok-rows.ensures in
-    free_exact p c.is_kept.ensures.kept (no_loop p.body c.requires) r.passes c.in_ok-rows.rows c.of.result r.rows c.of.ensures.lowest (omega (arith, c.of.ensures.equal))
+    let suffice = free_suffices 1 p.body (no_loop p.body c.requires) (sure (zeros (length p.names))) in
+    ended_exact p c.is_kept.ensures.kept 1 (omega arith) suffice r.passes c.in_ok-rows.rows c.of.result r.rows c.of.ensures.lowest (omega (arith, c.of.ensures.equal))
 
 pub returns-clause-limits : goal.returns-clause-limits
-returns-clause-limits c =
-    let p = source_of c.args.program.now in
-    let r = c.in_ok-rows.ensures in
-    is_exact_in_the_limit p c.is_kept.ensures.kept c.in_ok-rows.rows c.of.result
-    (free_exact p c.is_kept.ensures.kept (no_loop p.body c.requires) r.passes c.in_ok-rows.rows c.of.result r.rows c.of.ensures.lowest (omega (arith, c.of.ensures.equal)))
+returns-clause-limits c = is_exact_in_the_limit (source_of c.args.program.now) c.is_kept.ensures.kept c.in_ok-rows.rows c.of.result (returns-clause-masses c)

@@ -13,7 +13,7 @@ returns-clause-limits c =
     is_exact_in_the_limit (source_of c.args.program.now) c.is_kept.ensures.kept _ _
     (exact_of _ _ _ _ _ c.in_ok-round.ensures (omega (arith, c.if-num-den.false, c.num.ensures.value, c.den.ensures.value)) c.in_ok-masses.ensures)
 
-pub returns-then-num-den-clause-refused : goal.returns-then-num-den-clause-refused
-returns-then-num-den-clause-refused c =
+pub returns-then-num-den-clause-fails : goal.returns-then-num-den-clause-fails
+returns-then-num-den-clause-fails c = λ all.
     fails_in_the_limit (source_of c.args.program.now) c.is_kept.ensures.kept
     (fails_always _ _ _ c.in_ok-round.ensures (omega (arith, c.if-num-den.true, c.num.ensures.value, c.den.ensures.value)))
