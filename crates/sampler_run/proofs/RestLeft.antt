@@ -10,7 +10,7 @@ use Rattle.gcl_core.specs.meaning.Runs.{reads, answer_of, run_on}
 use Rattle.gcl_core.specs.meaning.Syntax.{SourceProgram}
 use Rattle.gcl_core.proofs.Trees.{Tree, leaf, flip, run}
 use Rattle.weighing_law.proofs.RunTrees.{tree_of_rounds}
-use Rattle.sampler_code.specs.Assembled.{Assembled}
+use Rattle.sampler_code.specs.Assembled.{Assembled, CodeAnswers}
 use Rattle.sampler_code.specs.Running.{Reached}
 use Rattle.sampler_run.specs.Held.{run_begun}
 use Rattle.sampler_run.specs.Leaving.{HasRead, LeavesTheRest}
@@ -36,9 +36,9 @@ ended_on : (w : List Bool) (r : Reading Outcome) (x : Outcome) (n : ℕ) → ans
 ended_on w (gives y rest) x n e = let same : y ≡ x = cc in (rest, ap (λ y. gives y rest) same)
 ended_on w more_bits x n e = absurd (cc)
 
-module _ (p : SourceProgram) (l : Limits) (s : Assembled) (is : IsSamplerOf p s) (within : InRange l) where
+module _ (p : SourceProgram) (l : Limits) (s : Assembled) (is : IsSamplerOf p (CodeAnswers s)) (within : InRange l) where
   has_read : (bits left : List Bool) (a : Reached) → TookTo (run_begun s l) 0 bits left a → HasRead a.answer left (reads p l bits)
-  has_read bits left a k = by_answer a.answer (is.only l k.asked.taken a within k.reached) k.none_left
+  has_read bits left a k = by_answer a.answer (is.only l k.asked.taken a.answer within (a.place, k.reached)) k.none_left
     where
       by_answer : (b : Answer) → b ≡ run_on p l k.asked.taken → NoneIsLeft b left → HasRead b left (reads p l bits)
       by_answer (Ended x n) e none =
@@ -49,7 +49,7 @@ module _ (p : SourceProgram) (l : Limits) (s : Assembled) (is : IsSamplerOf p s)
           ∙ tree_ends h.tree taken left o.0 x
           (λ i lt.
           let n = k.asked.needed i lt in
-          h.runs (take i taken) ∙ more_is_needed (take i taken) (reads p l (take i taken)) n.0 (sym (is.only l (take i taken) _ within n.1.1)))
+          h.runs (take i taken) ∙ more_is_needed (take i taken) (reads p l (take i taken)) n.0 (sym (is.only l (take i taken) _ within n.1)))
           (h.runs taken ∙ o.1)
       by_answer (MoreBits n) e none =
           let taken = k.asked.taken in

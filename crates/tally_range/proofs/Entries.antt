@@ -8,8 +8,8 @@ use Rattle.std.specs.Map.{lookup, set_value}
 use Rattle.std.proofs.lemmas.Bool.Decides.{nat_tests}
 use Rattle.gcl_core.specs.declared.answers.TallyKey.{TallyKey}
 use Rattle.gcl_core.specs.meaning.Order.{is_key_before, same_key}
-use Rattle.tally_range.specs.Rows.{Rows, counted_at, is_before_all, keys_ascend}
-use Rattle.tally_range.specs.Tallies.{counts_are_above_zero, IsTally}
+use Rattle.tally_range.specs.Rows.{Rows, counted_at}
+use Rattle.tally_range.specs.Tallies.{is_before_all, keys_ascend, counts_are_above_zero, IsTally}
 use Rattle.tally_range.specs.Sums.{count_in}
 use Rattle.gcl_core.proofs.OutcomeOrder.{key_before_differs, key_after_differs, key_before_trans}
 use Rattle.gcl_core.proofs.SameOutcomes.{key_itself}

@@ -1,10 +1,11 @@
 -- Rows with ascending keys and counts above 0 are exactly the rows of their counts.
 use Rattle.std.proofs.Common.{◌≡◌, ℕ, zero, suc, ◌<◌, Bool, true, false, [], ◌∷◌, length, get_or, refl, sym, ap, ◌∙◌, subst, arith}
-use Rattle.std.specs.Prelude.{if◌then◌else◌, Contains}
+use Rattle.std.specs.Prelude.{if◌then◌else◌, AllPairs, Contains}
+use Rattle.std.proofs.lemmas.List.Kept.{AllPairs-cons}
 use Rattle.gcl_core.specs.declared.answers.TallyKey.{TallyKey}
 use Rattle.gcl_core.specs.meaning.Order.{is_key_before, same_key}
-use Rattle.tally_range.specs.Rows.{Rows, counted_at, is_before_all, keys_ascend, IsTallyOf}
-use Rattle.tally_range.specs.Tallies.{IsTally}
+use Rattle.tally_range.specs.Rows.{Rows, counted_at, IsTallyOf}
+use Rattle.tally_range.specs.Tallies.{is_before_all, keys_ascend, IsTally}
 use Rattle.tally_range.specs.Sums.{count_in}
 use Rattle.gcl_core.proofs.OutcomeOrder.{key_before_differs, key_after_differs}
 use Rattle.gcl_core.proofs.SameOutcomes.{same_keys}
@@ -37,9 +38,14 @@ there (r ∷ rows) key n up e lt = by (same_key r.0 key) refl (there rows key n 
         let count : r.1 ≡ n = omega arith in (0, omega arith, ap (λ (k : TallyKey). (k, r.1)) is ∙ ap (λ (m : ℕ). (key, m)) count)
     by false other later = let here = not_counted r.0 r.1 key other in let found = later (omega arith) lt in (suc found.0, omega (arith, found.1), found.2)
 
+ascending_pairs : (rows : Rows) → keys_ascend rows ≡ true → AllPairs (λ r s. is_key_before r.0 s.0 ≡ true) rows
+ascending_pairs [] up = λ i j d lt within. absurd (omega arith)
+ascending_pairs (r ∷ rows) up = let p = both (is_before_all r.0 rows) (keys_ascend rows) up in
+    AllPairs-cons (λ r s. is_key_before r.0 s.0 ≡ true) r rows (λ k d lt. before_at r.0 rows k d lt p.0) (ascending_pairs rows p.1)
+
 pub exact_rows : (f : TallyKey → ℕ) (rows : Rows) → IsTally rows → ((key : TallyKey) → count_in rows key ≡ f key) → IsTallyOf f rows
 exact_rows f rows t counts = record {
-  ascending = t.ascending;
+  ascending = ascending_pairs rows t.ascending;
   exact = λ key n. (
     (λ at. let here = counts_here rows at.0 (key, n) at.1 t.ascending in let above = above_at rows at.0 (key, n) at.1 t.above_zero in
         let count : count_in rows key ≡ n = subst (λ (x : TallyKey × ℕ). count_in rows x.0 ≡ x.1) at.2 here in

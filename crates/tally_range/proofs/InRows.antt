@@ -5,8 +5,8 @@ use Rattle.std.proofs.lemmas.Bool.Decides.{nat_tests}
 use Rattle.gcl_core.specs.declared.answers.TallyKey.{TallyKey}
 use Rattle.passes.specs.Total.{total}
 use Rattle.gcl_core.specs.meaning.Order.{is_key_before}
-use Rattle.tally_range.specs.Rows.{Rows, counted_at, is_before_all}
-use Rattle.tally_range.specs.Tallies.{counts_are_above_zero}
+use Rattle.tally_range.specs.Rows.{Rows, counted_at}
+use Rattle.tally_range.specs.Tallies.{is_before_all, counts_are_above_zero}
 use Rattle.gcl_core.proofs.Booleans.{both}
 use Rattle.gcl_core.proofs.OutcomeOrder.{key_before_trans}
 use Rattle.gcl_core.proofs.SameOutcomes.{key_itself}

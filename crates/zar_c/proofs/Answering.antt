@@ -1,7 +1,7 @@
 -- What a call about lines answers, at each of its ends.
 use Rattle.std.proofs.Common.{◌≡◌, ℕ, ◌<◌, ◌≤◌, ◌++◌, ◌⊎◌, List, Option, length, drop, inl, inr, refl, sym, ap, subst, arith}
 use Rattle.gcl_core.specs.meaning.Syntax.{SourceProgram}
-use Rattle.zar_c.specs.Answered.{IsAnswer}
+use Rattle.zar_c.specs.Answered.{IsReply}
 use Rattle.zar_c.specs.Said.{place_of, bare, done, text_refused, mass_refused}
 use Rattle.zar_c.specs.declared.said.ZarSaid.{ZarSaid}
 use Rattle.zar_c.specs.declared.statuses.TheConstants.{DONE, NUMBERS_REFUSED, OUT_OF_MEMORY, MASS_REFUSED}
@@ -10,7 +10,7 @@ use Rattle.zar_c.specs.inner.Refusing.{IsRefusal}
 module _ (Has : SourceProgram → Type 0) (HasNone : ℕ → Option ℕ → Type 0) (Can : Type 0) (Are : SourceProgram → List ℕ → Type 0)
     (Refuses : SourceProgram → ℕ → Type 0) (old : List ℕ) (s : ZarSaid) where
   -- a number is out of range
-  pub numbers_refused : s ≡ bare NUMBERS_REFUSED → (Can → ⊥) → IsAnswer Has HasNone Can Are Refuses old old s
+  pub numbers_refused : s ≡ bare NUMBERS_REFUSED → (Can → ⊥) → IsReply Has HasNone Can Are Refuses old old s
   numbers_refused form cannot = record {
     told = λ e. absurd (omega (arith, is, e));
     reason = λ e. absurd (omega (arith, is, e));
@@ -29,7 +29,7 @@ module _ (Has : SourceProgram → Type 0) (HasNone : ℕ → Option ℕ → Type
       by (inr e) = omega (arith, is, e)
 
   -- there are no lines
-  pub none_told : Can → IsRefusal Has HasNone Refuses s → IsAnswer Has HasNone Can Are Refuses old old s
+  pub none_told : Can → IsRefusal Has HasNone Refuses s → IsReply Has HasNone Can Are Refuses old old s
   none_told can is = record {
     told = λ e. absurd (is.undone e);
     reason = is.reason;
@@ -53,7 +53,7 @@ module _ (Has : SourceProgram → Type 0) (HasNone : ℕ → Option ℕ → Type
   -- there are these lines
   pub lines_told : (new lines : List ℕ) → Can → s ≡ done (length lines) → ((p : SourceProgram) → Has p → Are p lines) → (p : SourceProgram) × Has p
       → (length lines ≤ length old → new ≡ lines ++ drop (length lines) old) → (length old < length lines → new ≡ old)
-      → IsAnswer Has HasNone Can Are Refuses old new s
+      → IsReply Has HasNone Can Are Refuses old new s
   lines_told new lines can form are there written kept = record {
     told = λ e p has. record { lines = lines; are = are p has; long = long; written = written; kept = kept };
     reason = λ e. absurd (omega (arith, is, e));

@@ -16,7 +16,7 @@ pub record AreTold (Are : List ℕ → Type 0) (told : ℕ) (old new : List ℕ)
 
 -- A call with a text that has a program, or none for the reason of a code at a place, and with numbers that can be taken or not:
 -- it tells lines of the program, or why there are none.
-pub record IsAnswer (Has : SourceProgram → Type 0) (HasNone : ℕ → Option ℕ → Type 0) (Can : Type 0)
+pub record IsReply (Has : SourceProgram → Type 0) (HasNone : ℕ → Option ℕ → Type 0) (Can : Type 0)
     (Are : SourceProgram → List ℕ → Type 0) (Refuses : SourceProgram → ℕ → Type 0) (old new : List ℕ) (s : ZarSaid) : Type 0 where
   pub told : s.status ≡ DONE → (p : SourceProgram) → Has p → AreTold (Are p) s.length old new
   pub reason : s.status ≡ MASS_REFUSED → (p : SourceProgram) → Has p → Refuses p s.code
@@ -34,8 +34,8 @@ NoNumbers = Unit {0}
 -- about lines that every program has
 abbrev pub IsShown : (SourceProgram → Type 0) → (ℕ → Option ℕ → Type 0) → (SourceProgram → List ℕ) → List ℕ → List ℕ → ZarSaid
     → Type 0
-IsShown Has HasNone text old new s = IsAnswer Has HasNone NoNumbers (λ p lines. lines ≡ text p) (λ p code. ⊥) old new s
+IsShown Has HasNone text old new s = IsReply Has HasNone NoNumbers (λ p lines. lines ≡ text p) (λ p code. ⊥) old new s
 
 -- a text has a program as it is written
-abbrev pub IsWritten : List ℕ → SourceProgram → Type 0
-IsWritten text p = (places : List ℕ) × IsWrittenIn text p places
+abbrev pub IsWrittenAs : List ℕ → SourceProgram → Type 0
+IsWrittenAs text p = (places : List ℕ) × IsWrittenIn text p places

@@ -3,7 +3,7 @@
 ghost use Rattle.count_lines.specs.AuditLines.{AreAuditLines};
 ghost use Rattle.count_lines.specs.TallyLines.{AreTallyLines};
 ghost use Rattle.gcl_core.specs.text.Texts.{Spells, SpellsNone};
-ghost use Rattle.zar_c.specs.Answered.{IsAnswer};
+ghost use Rattle.zar_c.specs.Answered.{IsReply};
 ghost use Rattle.zar_c.specs.Counts.{CanAudit, CanCount, range_by};
 ghost use Rattle.zar_c.specs.Draws.{limits_of};
 ghost use Rattle.zar_c.specs.Masses.{limits_by};
@@ -30,7 +30,7 @@ pub extern "C" fn zar_tally(
     limits: &ZarLimits,
     lines: &mut [u8],
 ) -> ZarSaid
-    ensures { IsAnswer (Spells text.now) (SpellsNone text.now) (CanCount limits.now from to)
+    ensures { IsReply (Spells text.now) (SpellsNone text.now) (CanCount limits.now from to)
         (λ p. AreTallyLines p (range_by seed from to limits.now.budget) (limits_of limits.now)) (λ _ _. ⊥)
         lines.old lines.new result }
 {
@@ -62,7 +62,7 @@ pub extern "C" fn zar_audit(
     rounds: u64,
     lines: &mut [u8],
 ) -> ZarSaid
-    ensures { IsAnswer (Spells text.now) (SpellsNone text.now) (CanAudit depth turns attempts rounds)
+    ensures { IsReply (Spells text.now) (SpellsNone text.now) (CanAudit depth turns attempts rounds)
         (λ p. AreAuditLines p depth (limits_by turns attempts rounds) 0) (λ _ _. ⊥) lines.old lines.new result }
 {
     let l = Limits {

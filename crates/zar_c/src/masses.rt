@@ -12,7 +12,7 @@ ghost use Rattle.mass_lines.specs.ExactLines.{AreExactLines};
 ghost use Rattle.mass_lines.specs.ExpectedLines.{IsExpectedLine};
 ghost use Rattle.mass_lines.specs.MassLines.{AreMassLines};
 ghost use Rattle.mass_lines.specs.Reasons.{WhyNoBits, WhyNoBounds, WhyNoMasses, WhyNotEnclosed, WhyNotExact, WhyNotExpected};
-ghost use Rattle.zar_c.specs.Answered.{IsAnswer, NoNumbers};
+ghost use Rattle.zar_c.specs.Answered.{IsReply, NoNumbers};
 ghost use Rattle.zar_c.specs.Masses.{CanWeigh, limits_by, limit_of};
 
 use crate::asking::is_in_range;
@@ -38,7 +38,7 @@ pub extern "C" fn zar_mass(
     rounds: u64,
     lines: &mut [u8],
 ) -> ZarSaid
-    ensures { IsAnswer (Spells text.now) (SpellsNone text.now) (CanWeigh turns attempts rounds)
+    ensures { IsReply (Spells text.now) (SpellsNone text.now) (CanWeigh turns attempts rounds)
         (λ p. AreMassLines p turns (limit_of attempts) (limit_of rounds) 0)
         (λ p. WhyNoMasses p turns (limit_of attempts) (limit_of rounds)) lines.old lines.new result }
 {
@@ -54,7 +54,7 @@ pub extern "C" fn zar_mass(
 /// The same of the bounds of the program's values and faults at this limit of turns.
 #[unsafe(no_mangle)]
 pub extern "C" fn zar_posterior(alloc: Global, text: &[u8], turns: u64, lines: &mut [u8]) -> ZarSaid
-    ensures { IsAnswer (Spells text.now) (SpellsNone text.now) (turns ≤ MOST_LIMIT)
+    ensures { IsReply (Spells text.now) (SpellsNone text.now) (turns ≤ MOST_LIMIT)
         (λ p. AreBoundLines p turns 0) (λ p. WhyNoBounds p turns) lines.old lines.new result }
 {
     if turns > MOST_LIMIT {
@@ -77,7 +77,7 @@ pub extern "C" fn zar_enclose(
     all_turns: bool,
     lines: &mut [u8],
 ) -> ZarSaid
-    ensures { IsAnswer (Spells text.now) (SpellsNone text.now) (CanWeigh turns attempts rounds)
+    ensures { IsReply (Spells text.now) (SpellsNone text.now) (CanWeigh turns attempts rounds)
         (λ p. AreEnclosedLines p turns (limit_of attempts) (limit_of rounds) all_turns 0)
         (λ p. WhyNotEnclosed p turns (limit_of attempts) (limit_of rounds)) lines.old lines.new result }
 {
@@ -100,7 +100,7 @@ pub extern "C" fn zar_enclose(
 /// The same of the program's masses where nothing is limited, and of what never ends.
 #[unsafe(no_mangle)]
 pub extern "C" fn zar_exact(alloc: Global, text: &[u8], lines: &mut [u8]) -> ZarSaid
-    ensures { IsAnswer (Spells text.now) (SpellsNone text.now) NoNumbers (λ p. AreExactLines p 0) WhyNotExact lines.old lines.new result }
+    ensures { IsReply (Spells text.now) (SpellsNone text.now) NoNumbers (λ p. AreExactLines p 0) WhyNotExact lines.old lines.new result }
 {
     match exact_of(alloc, text) {
         Ok(told) => written(told.bytes(), lines),
@@ -118,7 +118,7 @@ pub extern "C" fn zar_cost(
     rounds: u64,
     lines: &mut [u8],
 ) -> ZarSaid
-    ensures { IsAnswer (Spells text.now) (SpellsNone text.now) (InRange (limits_by turns attempts rounds))
+    ensures { IsReply (Spells text.now) (SpellsNone text.now) (InRange (limits_by turns attempts rounds))
         (λ p. IsBitLine p (limits_by turns attempts rounds) 0)
         (λ p. WhyNoBits p (limits_by turns attempts rounds)) lines.old lines.new result }
 {
@@ -139,7 +139,7 @@ pub extern "C" fn zar_cost(
 /// The same of those that it reads where nothing is limited, or of there being no bound.
 #[unsafe(no_mangle)]
 pub extern "C" fn zar_cost_in_the_limit(alloc: Global, text: &[u8], lines: &mut [u8]) -> ZarSaid
-    ensures { IsAnswer (Spells text.now) (SpellsNone text.now) NoNumbers
+    ensures { IsReply (Spells text.now) (SpellsNone text.now) NoNumbers
         (λ p. IsExpectedLine p 0) (λ p. WhyNotExpected) lines.old lines.new result }
 {
     match expected_of(alloc, text) {

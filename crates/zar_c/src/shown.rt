@@ -8,7 +8,7 @@ ghost use Rattle.gcl_core.specs.text.Canonical.{canonical_text};
 ghost use Rattle.gcl_core.specs.text.Texts.{IsRefusedText, Spells, SpellsNone};
 ghost use Rattle.sampler_code.specs.Code.{code_of};
 ghost use Rattle.sampler_code.specs.Listing.{listing};
-ghost use Rattle.zar_c.specs.Answered.{IsWritten};
+ghost use Rattle.zar_c.specs.Answered.{IsWrittenAs};
 ghost use Rattle.zar_c.specs.inner.Refusing.{IsRefusal};
 
 use crate::said::{ZarSaid, refused, said};
@@ -23,9 +23,9 @@ use std::alloc::{AllocError, Global};
 
 // The canonical text of the program that a text has as it is written.
 pub(crate) fn shown_of(alloc: Global, text: &[u8]) -> Result<Text, ZarSaid>
-    ensures lines { IfOk result (λ lines. (p : SourceProgram) → IsWritten text.now p → lines ≡ canonical_text p) }
-    ensures there { IfOk result (λ _. (p : SourceProgram) × IsWritten text.now p) }
-    ensures refused { IfErr result (IsRefusal (IsWritten text.now) (IsRefusedText text.now) (λ _ _. ⊥)) }
+    ensures lines { IfOk result (λ lines. (p : SourceProgram) → IsWrittenAs text.now p → lines ≡ canonical_text p) }
+    ensures there { IfOk result (λ _. (p : SourceProgram) × IsWrittenAs text.now p) }
+    ensures refused { IfErr result (IsRefusal (IsWrittenAs text.now) (IsRefusedText text.now) (λ _ _. ⊥)) }
 {
     one_reading();
     let parsed = match parse_text(alloc, text) {

@@ -8,7 +8,7 @@ ghost use Rattle.gcl_core.specs.text.Canonical.{canonical_text};
 ghost use Rattle.gcl_core.specs.text.Texts.{IsRefusedText, Spells, SpellsNone};
 ghost use Rattle.sampler_code.specs.Code.{code_of};
 ghost use Rattle.sampler_code.specs.Listing.{listing};
-ghost use Rattle.zar_c.specs.Answered.{AreTold, IsShown, IsWritten};
+ghost use Rattle.zar_c.specs.Answered.{AreTold, IsShown, IsWrittenAs};
 ghost use Rattle.zar_c.specs.Said.{place_of, bare, done, text_refused};
 
 use crate::said::{ZarSaid, refused, said, written};
@@ -47,7 +47,7 @@ pub extern "C" fn zar_check(alloc: Global, text: &[u8]) -> ZarSaid
 /// refusal, and 5 where memory ran out. Where it is not 0 the array stays as it was.
 #[unsafe(no_mangle)]
 pub extern "C" fn zar_show(alloc: Global, text: &[u8], lines: &mut [u8]) -> ZarSaid
-    ensures { IsShown (IsWritten text.now) (IsRefusedText text.now) canonical_text lines.old lines.new result }
+    ensures { IsShown (IsWrittenAs text.now) (IsRefusedText text.now) canonical_text lines.old lines.new result }
 {
     match shown_of(alloc, text) {
         Ok(shown) => written(shown.bytes(), lines),

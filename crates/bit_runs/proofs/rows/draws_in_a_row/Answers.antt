@@ -36,10 +36,10 @@ loop-k-preserved g c =
           let before = g.B.Bits.left c.loop-k.bits file in
           let next = g.B.Bits.left c.go_on.new.bits file in
           let a = reached_by c.in_ok-stop.stop in
-          let law = c.runs_leave_the_rest.ensures p l s c.in_ok-sampler.ensures c.requires.limits in
+          let law = c.runs_leave_the_rest.ensures p l s c.in_ok-sampler.ensures.sampler c.requires.limits in
           let here = subst (λ h. StandsAfter [] h c.loop-k.state) c.in_ok-state.ensures.start inv.home in
           let took = c.in_ok-stop.ensures.taken file agrees 0 (law.begins c.loop-k.state here) in
-          let is = answer_reached (run_begun s l) c.loop-k.state (run_on p l) before a here (c.in_ok-stop.ensures.answer file agrees) (c.in_ok-sampler.ensures.runs l c.requires.limits) in
+          let is = answer_reached (run_begun s l) c.loop-k.state (run_on p l) before a here (c.in_ok-stop.ensures.answer file agrees) (c.in_ok-sampler.ensures.sampler.runs l c.requires.limits) in
           so_far_more p l c.loop-k.k (g.B.Bits.left c.args.bits.now file) before c.loop-k.values c.loop-k.ends c.loop-k.read
           (inv.so_far file (agrees_before file [] (g.B.Bits.answered c.loop-k.bits) (g.B.Bits.answered c.go_on.new.bits) c.in_ok-stop.ensures.goes_on agrees))
           a.answer next took.asked.taken (to_z w64 (of_z w64 c.value_of.result)) c.end_of.result _ (search rules) (search rules) is

@@ -16,4 +16,4 @@ returns c =
     let bits : List Bool = file_bits c.args.bytes.now in
     let a = reached_by c.in-Ok.stop in
     let reached = subst (λ (w : List Bool). Ahead c.in_ok-state.state w a) (c.new-bits.ensures.left none) (c.in-Ok.ensures.answer none tt) in
-    record { answer = answer_reached (run_begun c.in_ok-sampler.sampler l) c.in_ok-state.state (run_on p l) bits a c.in_ok-state.ensures.rest reached (c.in_ok-sampler.ensures.runs l c.requires.limits) }
+    record { answer = answer_reached (run_begun c.in_ok-sampler.sampler l) c.in_ok-state.state (run_on p l) bits a c.in_ok-state.ensures.rest reached (c.in_ok-sampler.ensures.sampler.runs l c.requires.limits) }

@@ -23,7 +23,7 @@ returns-in-MoreBits-clause-none g c = λ file agrees.
     let l = c.args.l.now in
     let inv = c.loop-i.invariant in
     let lt : c.loop-i._i < c.args.count = grind arith in
-    let law = c.runs_leave_the_rest.ensures p l c.in_ok-sampler.sampler c.in_ok-sampler.ensures c.requires.limits in
+    let law = c.runs_leave_the_rest.ensures p l c.in_ok-sampler.sampler c.in_ok-sampler.ensures.sampler c.requires.limits in
     let home = subst (λ h. StandsAfter [] h c.loop-i.state) c.in_ok-state.ensures.start inv.home in
     let read = law.reads c.loop-i.state _ _ _ home (c.in_ok-stop.ensures.taken file agrees 0 (law.begins c.loop-i.state home)) in
     so_far_short (reads p l) c.args.count c.loop-i._i (g.B.Bits.left c.args.bits.now file) c.loop-i.row.items (g.B.Bits.left c.loop-i.bits file) (inv.drawn file (agrees_before file [] (g.B.Bits.answered c.loop-i.bits) (g.B.Bits.answered c.go_on.new.bits) c.in_ok-stop.ensures.goes_on agrees)) lt
@@ -41,7 +41,7 @@ loop-i-preserved g c =
       start = c.restart.ensures.same_start ∙ back;
       drawn = λ file agrees.
           let lt : c.loop-i._i < c.args.count = grind arith in
-          let law = c.runs_leave_the_rest.ensures p l s c.in_ok-sampler.ensures c.requires.limits in
+          let law = c.runs_leave_the_rest.ensures p l s c.in_ok-sampler.ensures.sampler c.requires.limits in
           let here = subst (λ h. StandsAfter [] h c.loop-i.state) c.in_ok-state.ensures.start inv.home in
           let read = law.reads c.loop-i.state _ _ _ here (c.in_ok-stop.ensures.taken file agrees 0 (law.begins c.loop-i.state here)) in
           let before = g.B.Bits.left c.args.bits.now file in

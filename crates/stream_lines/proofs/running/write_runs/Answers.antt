@@ -13,5 +13,5 @@ pub returns-clause-written : goal.returns-clause-written
 returns-clause-written g c =
     let is : IsRestOf (set_back c.in_ok-home.home) (run_on (source_of c.args.program.now) c.args.limits.now) =
     subst (λ (h : Held). IsRestOf h (run_on (source_of c.args.program.now) c.args.limits.now)) (sym c.in_ok-home.ensures.start)
-    (c.in_ok-sampler.ensures.runs c.args.limits.now c.requires.limits) in
+    (c.in_ok-sampler.ensures.sampler.runs c.args.limits.now c.requires.limits) in
     c.write_behind.ensures (run_on (source_of c.args.program.now) c.args.limits.now) is

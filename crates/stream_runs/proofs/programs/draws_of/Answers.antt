@@ -7,4 +7,4 @@ pub returns-clause-drawn : goal.returns-clause-drawn
 returns-clause-drawn c =
     let p = source_of c.args.program.now in
     let l = c.args.l.now in
-    IfOk-weaker c.draws_into.result _ _ (λ done drawn. drawn (run_on p l) (c.in_ok-sampler.ensures.runs l c.requires.limits)) c.draws_into.ensures.drawn
+    IfOk-weaker c.draws_into.result _ _ (λ done drawn. drawn (run_on p l) (c.in_ok-sampler.ensures.sampler.runs l c.requires.limits)) c.draws_into.ensures.drawn

@@ -11,6 +11,6 @@ returns c =
     record {
       rows = c.in_ok-found.found.rows;
       undecided = c.in_ok-found.found.undecided;
-      counted = c.in_ok-found.ensures.runs (run_on p l) (c.in_ok-sampler.ensures.runs l c.requires.limits);
+      counted = c.in_ok-found.ensures.runs (run_on p l) (c.in_ok-sampler.ensures.sampler.runs l c.requires.limits);
       lines = subst (λ d. c.in_ok-text.text ≡ audit_text c.args.depth d c.in_ok-found.found.rows c.in_ok-found.found.undecided) c.none.ensures c.in_ok-text.ensures;
     }

@@ -7,6 +7,6 @@ returns c =
     let l = c.args.l.now in
     record {
       stream = c.in_ok-stream.stream;
-      least = c.in_ok-stream.ensures.found (run_on (source_of c.args.program.now) l) (c.in_ok-sampler.ensures.runs l c.requires.limits);
+      least = c.in_ok-stream.ensures.found (run_on (source_of c.args.program.now) l) (c.in_ok-sampler.ensures.sampler.runs l c.requires.limits);
       told = c.found_by.ensures;
     }

@@ -11,7 +11,7 @@ returns g c =
     let is : AreAuditLines p c.args.depth l c.args.decimals c.in_ok-text.text = record {
       rows = c.in_ok-found.found.rows;
       undecided = c.in_ok-found.found.undecided;
-      counted = c.in_ok-found.ensures.runs (run_on p l) (c.in_ok-sampler.ensures.runs l c.requires.limits);
+      counted = c.in_ok-found.ensures.runs (run_on p l) (c.in_ok-sampler.ensures.sampler.runs l c.requires.limits);
       lines = c.in_ok-text.ensures;
     } in
     record { gives = λ file. (c.in_ok-text.text, is, refl) }

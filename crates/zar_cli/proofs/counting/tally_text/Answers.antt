@@ -8,6 +8,6 @@ returns g c =
     let l = c.args.limits.now in
     record {
       rows = c.in_ok-found.found;
-      counted = c.in_ok-found.ensures.rows (run_on p l) (c.in_ok-sampler.ensures.runs l c.requires.limits);
+      counted = c.in_ok-found.ensures.rows (run_on p l) (c.in_ok-sampler.ensures.sampler.runs l c.requires.limits);
       lines = c.in_ok-text.ensures;
     }

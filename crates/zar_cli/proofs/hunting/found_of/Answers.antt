@@ -8,7 +8,7 @@ use Rattle.zar_cli.proofs.hunting.found_of.Goals as goal
 pub returns : goal.returns
 returns g c =
     let l = c.args.limits.now in
-    let is = c.in_ok-found.ensures (run_on (source_of c.args.program.now) l) (c.in_ok-sampler.ensures.runs l c.requires.limits) in
+    let is = c.in_ok-found.ensures (run_on (source_of c.args.program.now) l) (c.in_ok-sampler.ensures.sampler.runs l c.requires.limits) in
     let line = hunt_text c.in_ok-found.found in
     let text = c.in_ok-push.ensures.ok ∙ ap (λ bytes. c.in_ok-text.text ++ bytes) (c.bytes.ensures.text ∙ c.hunt_line.ensures)
     ∙ ap (λ front. front ++ line) c.in_ok-text.ensures in

@@ -16,7 +16,7 @@ returns-in-Ok-clause-answer g c file agrees =
     let now = subst (λ files. Agrees file (g.F.Files.answered files)) same agrees in
     let first = subst (Agrees file) c.new-bits.ensures.answered (agrees_before file [] _ _ c.in-Ok.ensures.goes_on now) in
     let reached = subst (λ bits. CodeReaches c.in_ok-sampler.sampler l bits (reached_by c.in-Ok.stop)) (c.new-bits.ensures.left file) (c.in-Ok.ensures.answer file now) in
-    (bytes, left_opened file _ _ _ c.in_ok-open_bits.ensures.start first, c.in_ok-sampler.ensures.only l (file_bits bytes) _ c.requires reached)
+    (bytes, left_opened file _ _ _ c.in_ok-open_bits.ensures.start first, c.in_ok-sampler.ensures.sampler.only l (file_bits bytes) _ c.requires (_, reached))
 
 pub returns-in-Ok-clause-stage : goal.returns-in-Ok-clause-stage
 returns-in-Ok-clause-stage g c =

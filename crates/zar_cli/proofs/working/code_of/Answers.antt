@@ -6,7 +6,7 @@ use Rattle.zar_cli.proofs.working.code_of.Goals as goal
 
 pub returns : goal.returns
 returns c =
-    let code = c.code.ensures ∙ c.in_ok-sampler.ensures.code in
+    let code = c.code.ensures ∙ c.in_ok-sampler.ensures.code.code in
     let text =
     c.in_ok-text.ensures ∙ ap (λ q. listing q.names c.code.result.now.instrs) c.program.ensures.same
     ∙ ap (λ a. listing (source_of c.args.program.now).names a.instrs) code in

@@ -1,6 +1,6 @@
 use Rattle.std.proofs.Common.{◌≡◌, ◌+◌, true, sym, subst, ap, ◌∙◌, arith}
-use Rattle.tally_range.specs.Rows.{Rows, counted_at, keys_ascend}
-use Rattle.tally_range.specs.Tallies.{IsTally}
+use Rattle.tally_range.specs.Rows.{Rows, counted_at}
+use Rattle.tally_range.specs.Tallies.{keys_ascend, IsTally}
 use Rattle.tally_range.specs.Sums.{count_in}
 use Rattle.tally_range.proofs.Entries.{found_count, looked_up, written, tally_inserted, count_inserted, count_first}
 use Rattle.tally_range.proofs.table.Tally.add.Goals as goal
