@@ -1,5 +1,5 @@
 -- Bounds by pairs are answers where no unit passes, or where the others have less by them than by units.
-use Rattle.std.proofs.Common.{◌≡◌, ℕ, ◌+◌, ◌-◌, ◌*◌, ◌≤◌, ◌<◌, Bool, Option, Some, None, refl, sym, ap, ◌∙◌, subst, arith}
+use Rattle.std.proofs.Common.{◌≡◌, ℕ, ◌+◌, ◌-◌, ◌*◌, ◌≤◌, ◌<◌, Bool, None, ap, ◌∙◌, arith}
 use Rattle.std.specs.Prelude.{if◌then◌else◌}
 use Rattle.std.proofs.Math.Nat.{mul-le-mul_left, mul-le-mul_right, le_of_mul-le-mul_right}
 use Rattle.numbers.specs.declared.units.TheConstants.{ALL}
@@ -7,7 +7,7 @@ use Rattle.gcl_core.specs.declared.answers.Limit.TheVariants.{Turns}
 use Rattle.gcl_core.specs.declared.answers.Outcome.TheVariants as outcome
 use Rattle.gcl_core.specs.meaning.Outcomes.{same_outcome}
 use Rattle.gcl_core.specs.meaning.Syntax.{SourceProgram}
-use Rattle.gcl_core.specs.weighing.Fractions.{Fraction, zero_share, plus, one, AtMost, IsBelowOne}
+use Rattle.gcl_core.specs.weighing.Fractions.{Fraction, zero_share, one, AtMost, IsBelowOne}
 use Rattle.gcl_core.specs.weighing.Mass.{round_mass, failed_mass}
 use Rattle.posterior_bounds.specs.Rows.{Rows}
 use Rattle.units_law.specs.FewOthers.{lost_units_at_most, most_of_others, HaveLittle, NearlyFails}
