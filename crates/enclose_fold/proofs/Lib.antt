@@ -1,4 +1,5 @@
 pub mod Adding
+pub mod Paired
 pub mod CycleArms
 pub mod CycleBody
 pub mod CycleFlows

@@ -9,7 +9,7 @@ use Rattle.units_law.specs.Enclosures.{fails_in, NothingPasses}
 use Rattle.units_law.specs.FewOthers.{NearlyFails}
 use Rattle.enclose_fold.specs.declared.error.EncloseError.{EncloseError}
 use Rattle.enclose_fold.specs.declared.error.EncloseError.TheVariants.{AllFailed, TooUnlikely}
-use Rattle.enclose_fold.specs.NonePass.{NonePass}
+use Rattle.enclose_fold.specs.inner.NonePass.{NonePass}
 use Rattle.enclose_fold.specs.inner.AsWritten.{RefusedAsWritten}
 
 module _ (p : SourceProgram) (n : ℕ) (r : Option ℕ) where

@@ -1,3 +1,2 @@
 pub mod inner
 pub mod Refused
-pub mod NonePass

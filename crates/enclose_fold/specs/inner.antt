@@ -6,3 +6,4 @@ pub mod Body
 pub mod Outcomes
 pub mod Rows
 pub mod AsWritten
+pub mod NonePass

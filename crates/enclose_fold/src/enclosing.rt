@@ -1,6 +1,6 @@
 // Bounds of the masses of a program.
 
-ghost use Rattle.std.specs.Prelude.{◌≡◌, ◌≤◌, ◌<◌, ℕ, IfOk, IfErr, IfSome, IfNone};
+ghost use Rattle.std.specs.Prelude.{◌≡◌, ◌≤◌, ◌<◌, ◌+◌, ℕ, IfOk, IfErr, IfSome, IfNone};
 ghost use Rattle.numbers.specs.declared.units.TheConstants.{ALL};
 ghost use Rattle.gcl_core.specs.declared.rules.TheConstants.{MOST_LIMIT};
 ghost use Rattle.gcl_core.specs.meaning.Views.{source_of};
@@ -12,7 +12,7 @@ ghost use Rattle.units_law.specs.Enclosures.{AreEnclosures, SomePasses, upper_of
 ghost use Rattle.units_law.specs.FewOthers.{HaveLittle};
 ghost use Rattle.units_law.specs.Holding.{IsFor, MayEnd, AreOrdered, Enclose, AreClose, most_apart};
 ghost use Rattle.enclose_fold.specs.declared.error.EncloseError.TheVariants.{AllFailed, TooUnlikely};
-ghost use Rattle.enclose_fold.specs.NonePass.{NonePass};
+ghost use Rattle.enclose_fold.specs.inner.NonePass.{NonePass};
 ghost use Rattle.enclose_fold.specs.inner.AsWritten.{RefusedAsWritten};
 ghost use Rattle.enclose_fold.specs.inner.Outcomes.{RoundGives};
 ghost use Rattle.enclose_fold.specs.inner.Refusals.{Refuses};
@@ -80,27 +80,41 @@ fn none_passes(failed: u128) -> EncloseError
     }
 }
 
-// The bounds of a program itself, before anything is forgotten.
-pub fn enclose_as_written(
+// Whether roundings may be more than about 2^-80 of what passes.
+fn is_coarse(failed: u128, passing: u128) -> bool
+    requires { failed + passing ≤ ALL }
+{
+    ALL - failed - passing > passing >> 80
+}
+
+/// Bounds by units, and whether units are coarse beside what passes.
+#[derive(Drop)]
+pub struct Counted {
+    pub bounds: Bounds,
+    pub coarse: bool,
+}
+
+/// The bounds of a program itself, before anything is forgotten, by units.
+pub fn enclose_in_units(
     alloc: Global,
     p: &Checked,
     turns: u64,
     attempts: Option<u64>,
     rounds: Option<u64>,
     all_turns: bool,
-) -> Result<Bounds, EncloseError>
+) -> Result<Counted, EncloseError>
     requires turns { turns ≤ MOST_LIMIT }
     requires attempts { IfSome attempts IsLimit }
     requires rounds { IfSome rounds IsLimit }
-    ensures rows { IfOk result (λ b. AreEnclosures (source_of p.now) turns attempts rounds all_turns b.rows) }
-    ensures other { IfOk result (λ b. b.other ≡ upper_of_others (source_of p.now) turns attempts rounds all_turns) }
-    ensures ordered { IfOk result (λ b. AreOrdered b.rows b.other) }
+    ensures rows { IfOk result (λ b. AreEnclosures (source_of p.now) turns attempts rounds all_turns b.bounds.rows) }
+    ensures other { IfOk result (λ b. b.bounds.other ≡ upper_of_others (source_of p.now) turns attempts rounds all_turns) }
+    ensures ordered { IfOk result (λ b. AreOrdered b.bounds.rows b.bounds.other) }
     ensures some { IfOk result (λ b. IfNone rounds (SomePasses (source_of p.now) turns attempts)) }
     ensures passes { IfOk result (λ b. IfNone rounds (IsBelowOne (failed_mass (source_of p.now) turns attempts))) }
     ensures enclose { IfOk result
-        (λ b. (n : ℕ) → IsFor all_turns turns n → MayEnd (source_of p.now) n attempts rounds → Enclose (source_of p.now) n attempts rounds b.rows b.other) }
-    ensures close { IfOk result (λ b. AreClose (most_apart rounds) b.rows b.other) }
-    ensures few { IfOk result (λ b. HaveLittle (source_of p.now) turns attempts rounds all_turns b.other) }
+        (λ b. (n : ℕ) → IsFor all_turns turns n → MayEnd (source_of p.now) n attempts rounds → Enclose (source_of p.now) n attempts rounds b.bounds.rows b.bounds.other) }
+    ensures close { IfOk result (λ b. AreClose (most_apart rounds) b.bounds.rows b.bounds.other) }
+    ensures few { IfOk result (λ b. HaveLittle (source_of p.now) turns attempts rounds all_turns b.bounds.other) }
     ensures refused { IfErr result (λ e. RefusedAsWritten e (source_of p.now) turns attempts rounds) }
     ensures units { IfErr result (λ e. NonePass e (source_of p.now) turns attempts) }
 {
@@ -117,8 +131,12 @@ pub fn enclose_as_written(
         failed: given.failed,
         all: all_units(&given.units),
     };
-    Ok(Bounds {
-        rows: bound_rows(alloc, round, given.units)?,
-        other: round.upper_of_rest(),
+    let coarse = is_coarse(given.failed, given.passing);
+    Ok(Counted {
+        bounds: Bounds {
+            rows: bound_rows(alloc, round, given.units)?,
+            other: round.upper_of_rest(),
+        },
+        coarse,
     })
 }

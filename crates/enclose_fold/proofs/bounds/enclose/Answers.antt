@@ -1,13 +1,11 @@
-use Rattle.std.proofs.Common.{◌≡◌, ◌∙◌, ap, subst, sym}
+use Rattle.std.proofs.Common.{◌∙◌, ap, subst, sym}
 use Rattle.std.specs.Prelude.{Result, Ok, Err, IfOk, IfErr, IfNone}
 use Rattle.gcl_core.specs.meaning.Syntax.{SourceProgram}
 use Rattle.gcl_core.specs.meaning.Views.{source_of}
 use Rattle.gcl_core.specs.weighing.Fractions.{Fraction, IsBelowOne}
 use Rattle.gcl_core.specs.weighing.Mass.{failed_mass}
-use Rattle.units_law.specs.Enclosures.{AreEnclosures, SomePasses, upper_of_others}
 use Rattle.units_law.specs.FewOthers.{HaveLittle}
 use Rattle.units_law.specs.Holding.{Enclose, MayEnd}
-use Rattle.enclose_fold.specs.NonePass.{NonePass}
 use Rattle.enclose_fold.specs.inner.AsWritten.{RefusedAsWritten}
 use Rattle.enclose_fold.proofs.SameBounds.{ends_hold, bounds_hold, refused_holds}
 use Rattle.enclose_fold.proofs.bounds.enclose.Goals as goal
@@ -20,37 +18,33 @@ if_err : {A E : Type 0} (r : Result A E) {P Q : E → Type 0} → ((e : E) → P
 if_err (Ok b) f h = h
 if_err (Err e) f h = f e h
 
-pub returns-clause-rows : goal.returns-clause-rows
-returns-clause-rows c =
-    subst (λ (p : SourceProgram). IfOk c.enclose_as_written.result (λ b. AreEnclosures p c.args.turns c.args.attempts c.args.rounds c.args.all_turns b.rows)) c.in_ok-q.ensures c.enclose_as_written.ensures.rows
-
-pub returns-clause-other : goal.returns-clause-other
-returns-clause-other c =
-    subst (λ (p : SourceProgram). IfOk c.enclose_as_written.result (λ b. b.other ≡ upper_of_others p c.args.turns c.args.attempts c.args.rounds c.args.all_turns)) c.in_ok-q.ensures c.enclose_as_written.ensures.other
-
-pub returns-clause-some : goal.returns-clause-some
-returns-clause-some c =
-    subst (λ (p : SourceProgram). IfOk c.enclose_as_written.result (λ b. IfNone c.args.rounds (SomePasses p c.args.turns c.args.attempts))) c.in_ok-q.ensures c.enclose_as_written.ensures.some
+pub returns-clause-ordered : goal.returns-clause-ordered
+returns-clause-ordered c = if_ok c.enclose_as_written.result (λ b a. a.ordered) c.enclose_as_written.ensures.ok
 
 pub returns-clause-passes : goal.returns-clause-passes
 returns-clause-passes c =
     let same = ap (λ (p : SourceProgram). failed_mass p c.args.turns c.args.attempts) c.in_ok-q.ensures ∙ (c.forgetting_changes_no_meaning.ensures (source_of c.args.p.now)).failed c.args.turns c.args.attempts in
-    subst (λ (f : Fraction). IfOk c.enclose_as_written.result (λ b. IfNone c.args.rounds (IsBelowOne f))) same c.enclose_as_written.ensures.passes
+    if_ok c.enclose_as_written.result (λ b a. subst (λ (f : Fraction). IfNone c.args.rounds (IsBelowOne f)) same a.passes) c.enclose_as_written.ensures.ok
 
 pub returns-clause-enclose : goal.returns-clause-enclose
 returns-clause-enclose c =
     let p = source_of c.args.p.now in
     let same = c.forgetting_changes_no_meaning.ensures p in
     if_ok c.enclose_as_written.result
-    (λ b h n is may.
+    (λ b a n is may.
     bounds_hold p same n c.args.attempts c.args.rounds b.rows b.other
     (subst (λ (q : SourceProgram). Enclose q n c.args.attempts c.args.rounds b.rows b.other) c.in_ok-q.ensures
-    (h n is (subst (λ (q : SourceProgram). MayEnd q n c.args.attempts c.args.rounds) (sym c.in_ok-q.ensures) (ends_hold p same n c.args.attempts c.args.rounds may)))))
-    c.enclose_as_written.ensures.enclose
+    (a.enclose n is (subst (λ (q : SourceProgram). MayEnd q n c.args.attempts c.args.rounds) (sym c.in_ok-q.ensures) (ends_hold p same n c.args.attempts c.args.rounds may)))))
+    c.enclose_as_written.ensures.ok
+
+pub returns-clause-close : goal.returns-clause-close
+returns-clause-close c = if_ok c.enclose_as_written.result (λ b a. a.close) c.enclose_as_written.ensures.ok
 
 pub returns-clause-few : goal.returns-clause-few
 returns-clause-few c =
-    subst (λ (p : SourceProgram). IfOk c.enclose_as_written.result (λ b. HaveLittle p c.args.turns c.args.attempts c.args.rounds c.args.all_turns b.other)) c.in_ok-q.ensures c.enclose_as_written.ensures.few
+    if_ok c.enclose_as_written.result
+    (λ b a. subst (λ (p : SourceProgram). HaveLittle p c.args.turns c.args.attempts c.args.rounds c.args.all_turns b.other) c.in_ok-q.ensures a.few)
+    c.enclose_as_written.ensures.ok
 
 pub returns-clause-refused : goal.returns-clause-refused
 returns-clause-refused c =
@@ -59,7 +53,3 @@ returns-clause-refused c =
     (λ e h. refused_holds p (c.forgetting_changes_no_meaning.ensures p) e c.args.turns c.args.attempts c.args.rounds
     (subst (λ (q : SourceProgram). RefusedAsWritten e q c.args.turns c.args.attempts c.args.rounds) c.in_ok-q.ensures h))
     c.enclose_as_written.ensures.refused
-
-pub returns-clause-units : goal.returns-clause-units
-returns-clause-units c =
-    subst (λ (p : SourceProgram). IfErr c.enclose_as_written.result (λ e. NonePass e p c.args.turns c.args.attempts)) c.in_ok-q.ensures c.enclose_as_written.ensures.units

@@ -8,8 +8,8 @@ use Rattle.units_law.specs.FewOthers.{HaveLittle}
 use Rattle.enclose_fold.proofs.Enclosed.{rows_are, other_is}
 use Rattle.enclose_fold.proofs.Ending.{unlimited, anyway, limited, implied, may_end}
 use Rattle.enclose_fold.proofs.NonePass.{units_told, cause_told}
-use Rattle.enclose_fold.proofs.enclosing.enclose_as_written.Goals.{else-is_none-via-then-is_none+else-given-eq0, else-is_none-via-else-is_none}
-use Rattle.enclose_fold.proofs.enclosing.enclose_as_written.Goals as goal
+use Rattle.enclose_fold.proofs.enclosing.enclose_in_units.Goals.{else-is_none-via-then-is_none+else-given-eq0, else-is_none-via-else-is_none}
+use Rattle.enclose_fold.proofs.enclosing.enclose_in_units.Goals as goal
 
 pub returns-clause-rows : goal.returns-clause-rows
 returns-clause-rows c =

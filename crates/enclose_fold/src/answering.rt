@@ -1,0 +1,133 @@
+// Bounds by units, or where these are too coarse, by pairs.
+
+ghost use Rattle.std.specs.Prelude.{◌≡◌, ◌≤◌, true, None, IfOk, IfErr, IfSome};
+ghost use Rattle.gcl_core.specs.declared.rules.TheConstants.{MOST_LIMIT};
+ghost use Rattle.gcl_core.specs.meaning.Views.{source_of};
+ghost use Rattle.gcl_core.specs.weighing.Fractions.{AtMost};
+ghost use Rattle.mass_fold.specs.Refused.{IsLimit};
+ghost use Rattle.units_law.specs.FewOthers.{NearlyFails};
+ghost use Rattle.enclose_fold.specs.declared.error.EncloseError.TheVariants.{OutOfMemory};
+ghost use Rattle.enclose_fold.specs.inner.AsWritten.{AreAnswers, ArePaired, RefusedAsWritten};
+
+use crate::enclosing::enclose_in_units;
+use crate::error::EncloseError;
+use gcl_core::Checked;
+use numbers::Frac;
+use posterior_bounds::Bounds;
+use scaled_fold::{PairsError, enclose_in_pairs};
+use std::alloc::Global;
+use std::cmp::Ordering;
+
+// Whether one fraction is less than another.
+fn is_less(a: &Frac, b: &Frac) -> bool
+    ensures { result ≡ true → AtMost a.now b.now }
+{
+    match a.compare(b) {
+        Ordering::Less => true,
+        Ordering::Equal | Ordering::Greater => false,
+    }
+}
+
+// The bounds by pairs, where there are any.
+fn in_pairs(
+    alloc: Global,
+    p: &Checked,
+    turns: u64,
+    all_turns: bool,
+) -> Result<Option<Bounds>, EncloseError>
+    ensures ok { IfOk result (λ found. IfSome found (λ b. ArePaired (source_of p.now) turns all_turns b.rows b.other)) }
+    ensures cause { IfErr result (λ e. e ≡ OutOfMemory) }
+{
+    match enclose_in_pairs(alloc, p, turns, all_turns) {
+        Ok(bounds) => Ok(Some(bounds)),
+        Err(PairsError::OutOfMemory) => Err(EncloseError::OutOfMemory),
+        Err(PairsError::TooManyStates | PairsError::TooWide | PairsError::NothingLeft) => Ok(None),
+    }
+}
+
+// The bounds by pairs, where there are any and the others have less by them.
+fn finer(
+    alloc: Global,
+    p: &Checked,
+    turns: u64,
+    all_turns: bool,
+    units: Bounds,
+) -> Result<Bounds, EncloseError>
+    requires { AreAnswers (source_of p.now) turns None None all_turns units.rows units.other }
+    ensures ok { IfOk result (λ b. AreAnswers (source_of p.now) turns None None all_turns b.rows b.other) }
+    ensures cause { IfErr result (λ e. e ≡ OutOfMemory) }
+{
+    match in_pairs(alloc, p, turns, all_turns)? {
+        Some(pairs) => {
+            if is_less(&pairs.other, &units.other) {
+                Ok(pairs)
+            } else {
+                Ok(units)
+            }
+        }
+        None => Ok(units),
+    }
+}
+
+// The bounds by pairs, where no unit passes.
+fn in_pairs_alone(
+    alloc: Global,
+    p: &Checked,
+    turns: u64,
+    all_turns: bool,
+) -> Result<Bounds, EncloseError>
+    requires { NearlyFails (source_of p.now) turns None }
+    ensures ok { IfOk result (λ b. AreAnswers (source_of p.now) turns None None all_turns b.rows b.other) }
+    ensures refused { IfErr result (λ e. RefusedAsWritten e (source_of p.now) turns None None) }
+{
+    match in_pairs(alloc, p, turns, all_turns)? {
+        Some(pairs) => Ok(pairs),
+        None => Err(EncloseError::TooUnlikely),
+    }
+}
+
+// The bounds of a program whose attempts and rounds have no limits.
+fn enclose_without_limits(
+    alloc: Global,
+    p: &Checked,
+    turns: u64,
+    all_turns: bool,
+) -> Result<Bounds, EncloseError>
+    requires { turns ≤ MOST_LIMIT }
+    ensures ok { IfOk result (λ b. AreAnswers (source_of p.now) turns None None all_turns b.rows b.other) }
+    ensures refused { IfErr result (λ e. RefusedAsWritten e (source_of p.now) turns None None) }
+{
+    match enclose_in_units(alloc, p, turns, None, None, all_turns) {
+        Ok(units) => {
+            if units.coarse {
+                finer(alloc, p, turns, all_turns, units.bounds)
+            } else {
+                Ok(units.bounds)
+            }
+        }
+        Err(EncloseError::TooUnlikely) => in_pairs_alone(alloc, p, turns, all_turns),
+        Err(e) => Err(e),
+    }
+}
+
+/// The bounds of a program itself, before anything is forgotten.
+pub fn enclose_as_written(
+    alloc: Global,
+    p: &Checked,
+    turns: u64,
+    attempts: Option<u64>,
+    rounds: Option<u64>,
+    all_turns: bool,
+) -> Result<Bounds, EncloseError>
+    requires turns { turns ≤ MOST_LIMIT }
+    requires attempts { IfSome attempts IsLimit }
+    requires rounds { IfSome rounds IsLimit }
+    ensures ok { IfOk result (λ b. AreAnswers (source_of p.now) turns attempts rounds all_turns b.rows b.other) }
+    ensures refused { IfErr result (λ e. RefusedAsWritten e (source_of p.now) turns attempts rounds) }
+{
+    if attempts.is_none() && rounds.is_none() {
+        return enclose_without_limits(alloc, p, turns, all_turns);
+    }
+    let units = enclose_in_units(alloc, p, turns, attempts, rounds, all_turns)?;
+    Ok(units.bounds)
+}
