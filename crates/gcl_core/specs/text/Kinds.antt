@@ -2,7 +2,7 @@
 -- The expressions are those of cpGCL; that no number stands for a truth in a program's text is this project's own rule.
 use Rattle.std.specs.Prelude.{Bool, true, false, ◌&&◌}
 use Rattle.gcl_core.specs.declared.syntax.BinOp.{BinOp}
-use Rattle.gcl_core.specs.declared.syntax.BinOp.TheVariants.{Add, Sub, Mul, Div, Rem, Eq, Ne, Lt, Le, Gt, Ge, And, Or}
+use Rattle.gcl_core.specs.declared.syntax.BinOp.TheVariants.{Add, Sub, Mul, Div, Rem, And, Or}
 use Rattle.gcl_core.specs.declared.kinds.Kind.{Kind}
 use Rattle.gcl_core.specs.declared.kinds.Kind.TheVariants.{Number, Truth}
 use Rattle.gcl_core.specs.meaning.Syntax.{Expression}
@@ -10,19 +10,9 @@ use Rattle.gcl_core.specs.meaning.Syntax as source
 
 -- what an operator takes on either side
 abbrev pub operand_kind : BinOp → Kind
-operand_kind Add = Number
-operand_kind Sub = Number
-operand_kind Mul = Number
-operand_kind Div = Number
-operand_kind Rem = Number
-operand_kind Eq = Number
-operand_kind Ne = Number
-operand_kind Lt = Number
-operand_kind Le = Number
-operand_kind Gt = Number
-operand_kind Ge = Number
 operand_kind And = Truth
 operand_kind Or = Truth
+operand_kind _ = Number
 
 -- what an operator makes
 abbrev pub result_kind : BinOp → Kind
@@ -31,14 +21,7 @@ result_kind Sub = Number
 result_kind Mul = Number
 result_kind Div = Number
 result_kind Rem = Number
-result_kind Eq = Truth
-result_kind Ne = Truth
-result_kind Lt = Truth
-result_kind Le = Truth
-result_kind Gt = Truth
-result_kind Ge = Truth
-result_kind And = Truth
-result_kind Or = Truth
+result_kind _ = Truth
 
 abbrev pub same_kind : Kind → Kind → Bool
 same_kind Number Number = true
