@@ -18,6 +18,10 @@ use scaled_fold::{PairsError, enclose_in_pairs};
 use std::alloc::Global;
 use std::cmp::Ordering;
 
+// The most turns at which bounds are worked out by pairs: of a loop whose turns are all observed each turn is made, since pairs become as small
+// as what is left.
+const MOST_TURNS: u64 = 1 << 16;
+
 // Whether one fraction is less than another.
 fn is_less(a: &Frac, b: &Frac) -> bool
     ensures { result ≡ true → AtMost a.now b.now }
@@ -125,7 +129,7 @@ pub fn enclose_as_written(
     ensures ok { IfOk result (λ b. AreAnswers (source_of p.now) turns attempts rounds all_turns b.rows b.other) }
     ensures refused { IfErr result (λ e. RefusedAsWritten e (source_of p.now) turns attempts rounds) }
 {
-    if attempts.is_none() && rounds.is_none() {
+    if attempts.is_none() && rounds.is_none() && turns <= MOST_TURNS {
         return enclose_without_limits(alloc, p, turns, all_turns);
     }
     let units = enclose_in_units(alloc, p, turns, attempts, rounds, all_turns)?;
