@@ -1,2 +1,3 @@
 pub mod Expected
+pub mod Refused
 pub mod inner

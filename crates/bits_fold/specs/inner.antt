@@ -2,3 +2,4 @@
 pub mod Reading
 pub mod Turning
 pub mod Forever
+pub mod AsWritten

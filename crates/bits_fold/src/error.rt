@@ -18,6 +18,15 @@ pub enum BitsError {
 }
 
 impl From<MassError> for BitsError {
+    ghost use Rattle.std.specs.Prelude.{None};
+    ghost use Rattle.gcl_core.specs.meaning.Checked.{IsChecked};
+    ghost use Rattle.gcl_core.specs.meaning.Syntax.{SourceProgram};
+    ghost use Rattle.mass_fold.specs.Refused.{RoundRefused};
+    ghost use Rattle.exact_fold.specs.Refused.{HasNoLoop};
+    ghost use Rattle.bits_fold.specs.inner.AsWritten.{RefusedAsWritten};
+
+    ghost from_gives = { λ f e. (p : SourceProgram) → IsChecked p → HasNoLoop p → RoundRefused f p 1 None → RefusedAsWritten p e };
+
     fn from(error: MassError) -> Self {
         match error {
             MassError::TooWide => BitsError::TooWide,
@@ -30,6 +39,13 @@ impl From<MassError> for BitsError {
 }
 
 impl From<SettleError> for BitsError {
+    ghost use Rattle.gcl_core.specs.meaning.Syntax.{SourceProgram};
+    ghost use Rattle.std.specs.Prelude.{◌≡◌, true};
+    ghost use Rattle.exact_fold.specs.Loops.{any_loops};
+    ghost use Rattle.bits_fold.specs.inner.AsWritten.{RefusedAsWritten};
+
+    ghost from_gives = { λ _ e. (p : SourceProgram) → any_loops p.body ≡ true → RefusedAsWritten p e };
+
     fn from(error: SettleError) -> Self {
         match error {
             SettleError::TooWide => BitsError::TooWide,
@@ -41,6 +57,11 @@ impl From<SettleError> for BitsError {
 }
 
 impl From<AllocError> for BitsError {
+    ghost use Rattle.gcl_core.specs.meaning.Syntax.{SourceProgram};
+    ghost use Rattle.bits_fold.specs.Refused.{BitsRefused};
+
+    ghost from_gives = { λ _ e. (p : SourceProgram) → BitsRefused p e };
+
     fn from(_error: AllocError) -> Self {
         BitsError::OutOfMemory
     }

@@ -1,10 +1,17 @@
 // The expected bits of a program where nothing is limited.
 
-ghost use Rattle.std.specs.Prelude.{IfOk};
+ghost use Rattle.std.specs.Prelude.{◌≡◌, true, IfOk, IfErr, IfSome, IfNone};
 ghost use Rattle.gcl_core.specs.meaning.Views.{source_of};
+ghost use Rattle.exact_fold.specs.Exact.{FailsWith};
+ghost use Rattle.exact_fold.specs.Loops.{any_loops};
+ghost use Rattle.exact_fold.specs.Refused.{HasNoLoop};
 ghost use Rattle.bits_fold.specs.Expected.{IsAnswer};
+ghost use Rattle.bits_fold.specs.Refused.{BitsRefused};
+ghost use Rattle.bits_fold.specs.inner.AsWritten.{RefusedAsWritten, RoundsBlame};
+ghost use Rattle.bits_fold.specs.inner.Reading.{ReadsInRound};
 
 use crate::error::BitsError;
+use crate::loops::block_loops;
 use crate::reading::read_program;
 use crate::stop::Stop;
 use bits_law::{
@@ -14,6 +21,7 @@ use bits_law::{
 use exact_fold::failed_in_the_limit;
 use forgetting::{forgetful, forgetting_costs_nothing};
 use gcl_core::Checked;
+use mass_fold::round_bits;
 use numbers::Frac;
 use std::alloc::Global;
 
@@ -26,13 +34,40 @@ pub enum Bits {
     Unbounded,
 }
 
-// The bits that a run of the program itself reads, before anything is forgotten.
-fn bits_as_written(alloc: Global, p: &Checked) -> Result<Bits, BitsError>
-    ensures { IfOk result (IsAnswer (source_of p.now)) }
+// What is expected of rounds that read so many bits each and fail with this weight; none where it does not fit.
+fn over_rounds(p: &Checked, read: &Frac, failed: &Frac) -> Option<Bits>
+    requires reads { ReadsInRound (source_of p.now) read.now }
+    requires fails { FailsWith (source_of p.now) failed.now }
+    ensures answer { IfSome result (IsAnswer (source_of p.now)) }
+    ensures cause { IfNone result (RoundsBlame read.now failed.now) }
 {
     p.is_kept();
     bits_tend_to_their_limit();
     rounds_that_all_fail_read_nothing_or_have_no_bound();
+    failed.is_lowest();
+    if read.num() == 0 {
+        return Some(Bits::Expected(Frac::of(0, 1)));
+    }
+    if failed.num() >= failed.den() {
+        return Some(Bits::Unbounded);
+    }
+    let rounds = Frac::of(failed.den(), failed.den() - failed.num());
+    match read.mul(&rounds) {
+        None => None,
+        Some(bits) => {
+            bits.is_lowest();
+            Some(Bits::Expected(bits))
+        }
+    }
+}
+
+// A program with a loop: what its body reads is looked for.
+fn bits_of_loops(alloc: Global, p: &Checked) -> Result<Bits, BitsError>
+    requires { any_loops (source_of p.now).body ≡ true }
+    ensures answer { IfOk result (IsAnswer (source_of p.now)) }
+    ensures refused { IfErr result (RefusedAsWritten (source_of p.now)) }
+{
+    p.is_kept();
     bits_that_are_read_for_ever_have_no_bound();
     let read = match read_program(alloc, p) {
         Err(Stop::ReadsForever) => return Ok(Bits::Unbounded),
@@ -40,17 +75,39 @@ fn bits_as_written(alloc: Global, p: &Checked) -> Result<Bits, BitsError>
         Ok(read) => read,
     };
     let failed = failed_in_the_limit(alloc, p)?;
-    failed.is_lowest();
-    if read.num() == 0 {
-        return Ok(Bits::Expected(Frac::of(0, 1)));
+    match over_rounds(p, &read, &failed) {
+        None => Err(BitsError::TooWide),
+        Some(bits) => Ok(bits),
     }
-    if failed.num() >= failed.den() {
-        return Ok(Bits::Unbounded);
+}
+
+// A program without a loop: what its body reads at one turn.
+fn bits_at_once(alloc: Global, p: &Checked) -> Result<Bits, BitsError>
+    requires { HasNoLoop (source_of p.now) }
+    ensures answer { IfOk result (IsAnswer (source_of p.now)) }
+    ensures refused { IfErr result (RefusedAsWritten (source_of p.now)) }
+{
+    p.is_kept();
+    let (read, failed) = round_bits(alloc, p, 1, None)?;
+    match read {
+        None => Err(BitsError::TooWide),
+        Some(read) => match over_rounds(p, &read, &failed) {
+            None => Err(BitsError::TooWide),
+            Some(bits) => Ok(bits),
+        },
     }
-    let rounds = Frac::of(failed.den(), failed.den() - failed.num());
-    let bits = read.mul(&rounds).ok_or(BitsError::TooWide)?;
-    bits.is_lowest();
-    Ok(Bits::Expected(bits))
+}
+
+// The bits that a run of the program itself reads, before anything is forgotten.
+fn bits_as_written(alloc: Global, p: &Checked) -> Result<Bits, BitsError>
+    ensures answer { IfOk result (IsAnswer (source_of p.now)) }
+    ensures refused { IfErr result (RefusedAsWritten (source_of p.now)) }
+{
+    if block_loops(&p.program().body) {
+        bits_of_loops(alloc, p)
+    } else {
+        bits_at_once(alloc, p)
+    }
 }
 
 /// The bits that a run of a program reads on average where neither turns nor attempts nor rounds are limited.
@@ -60,10 +117,15 @@ fn bits_as_written(alloc: Global, p: &Checked) -> Result<Bits, BitsError>
 /// whose values no longer matter; both read as many bits.
 ///
 /// That there is no bound is told where a loop reads for ever with some weight, and where in the limit every round fails and reads
-/// some bits. No clause says that a program has an answer: a call that refused each would keep this contract. What is tried is a
-/// table of programs, in the tests.
+/// some bits.
+///
+/// A program without a loop is worked out by the tables of one turn of its forgetful program: it is refused as too wide only where the
+/// width of that program's bits is 2^128 or more, and for its states only where some point of it is reached with more than
+/// [`mass_fold::MOST_STATES`]. Of a program with a loop no clause says that it has an answer: a call that refused each of these as too
+/// wide would keep this contract. What is tried is a table of programs, in the tests.
 pub fn cost_in_the_limit(alloc: Global, p: &Checked) -> Result<Bits, BitsError>
-    ensures { IfOk result (IsAnswer (source_of p.now)) }
+    ensures answer { IfOk result (IsAnswer (source_of p.now)) }
+    ensures refused { IfErr result (BitsRefused (source_of p.now)) }
 {
     forgetting_costs_nothing();
     let q = forgetful(alloc, p)?;

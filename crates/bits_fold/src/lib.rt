@@ -1,17 +1,20 @@
 //! The expected bits of a run where nothing is limited, as an exact fraction. The expected visits of a loop are looked for, or a table
 //! from which it reads for ever, and turns of the loop check what was found.
 //!
-//! Proved: `cost_in_the_limit` answers what the expected bits under limits come to as all limits grow, or that they have no bound.
+//! Proved: `cost_in_the_limit` answers what the expected bits under limits come to as all limits grow, or that they have no bound
+//! (`answer`). But for want of memory a program without a loop is refused only for a cause that holds of its forgetful program: the
+//! width of its bits is 2^128 or more, or a point has more than 65,536 states (`refused`).
 //!
-//! No clause says that there is an answer: a call that refused each program would keep the contract, and tests alone show that it
-//! does not. A program is refused where what was found of a loop does not pass its check, and where a fraction is too wide or states
-//! are too many. No clause says that memory or the stack suffices, or how long a call takes.
+//! No clause says that a program with a loop has an answer: a call that refused each of these as too wide would keep the contract,
+//! and tests alone show that it does not. Such a program is refused where what was found of a loop does not pass its check, and where
+//! a fraction is too wide or states are too many. No clause says that memory or the stack suffices, or how long a call takes.
 #![tactic(auto)]
 
 mod draws;
 mod error;
 mod expected;
 mod finding;
+mod loops;
 mod reading;
 mod stop;
 

@@ -1,5 +1,6 @@
 -- Why lines are refused: each code has a cause, which holds of the program.
 use Rattle.std.specs.Prelude.{◌≡◌, ℕ, Option, None}
+use Rattle.bits_fold.specs.Refused.{BitsRefused}
 use Rattle.bits_fold.specs.declared.error.BitsError.{BitsError}
 use Rattle.bits_fold.specs.declared.error.BitsError.TheVariants as bits
 use Rattle.cost_fold.specs.Refused.{CostRefused}
@@ -69,9 +70,8 @@ WhyNoBounds p turns = WhyNoMasses p turns None None
 abbrev pub WhyNoBits : SourceProgram → Limits → ℕ → Type 0
 WhyNoBits p l = IsCause cost_reason (λ e. CostRefused e p l)
 
--- where nothing is limited no more is said of it than its code
-abbrev pub WhyNotExpected : ℕ → Type 0
-WhyNotExpected = IsCause expected_reason (λ e. Unit {0})
+abbrev pub WhyNotExpected : SourceProgram → ℕ → Type 0
+WhyNotExpected p = IsCause expected_reason (BitsRefused p)
 
 abbrev pub WhyNotEnclosed : SourceProgram → ℕ → Option ℕ → Option ℕ → ℕ → Type 0
 WhyNotEnclosed p turns attempts rounds = IsCause enclose_reason (λ e. EncloseRefused e p turns attempts rounds)

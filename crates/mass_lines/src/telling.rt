@@ -108,7 +108,7 @@ pub fn bits_text(
 /// The line of the bits that a run of a program reads on average where nothing is limited, or of there being no bound.
 pub fn expected_text(alloc: Global, program: &Checked, decimals: Decimals) -> Result<Text, Reason>
     ensures line { IfOk result (IsExpectedLine (source_of program.now) decimals) }
-    ensures refused { IfErr result (IsReason WhyNotExpected) }
+    ensures refused { IfErr result (IsReason (WhyNotExpected (source_of program.now))) }
 {
     match cost_in_the_limit(alloc, program)? {
         Bits::Expected(bits) => Ok(bit_line(alloc, &bits, decimals)?),

@@ -206,6 +206,18 @@ const SILENT: &str = "x ~ uniform(2); while 1 = 1 { skip; } return x;";
 // It is never left, and falls silent where the coin is 1.
 const FALLS_SILENT: &str = "while x < 2 { if x = 0 { x ~ uniform(2); } else { skip; } } return x;";
 
+// Two sides by numbers below a prime p = 2^61 - 1: a number is read on while its bits are all 0 or all 1, so an attempt reads 3 - 4/2^61
+// bits, and the draw 3 - 1/p.
+const BY_A_PRIME: &str = "choice 1/2305843009213693951 { x := 1; } or { x := 2; } return x;";
+
+// The bits of three choices by primes are a fraction over the product of these, above 2^181.
+const BY_THREE_PRIMES: &str =
+    "choice 1/2305843009213693951 { } or { } choice 1/2305843009213693921 { } or { } choice 1/1152921504606846883 { } or { } return 0;";
+
+const ONE_STATE_TOO_MANY: &str = "x ~ uniform(65537); return x % 2;";
+
+const AS_MANY_STATES_AS_MAY_BE: &str = "x ~ uniform(65536); return x % 2;";
+
 fn bits_of(alloc: Global, text: &str) -> Option<Result<Bits, BitsError>> {
     Some(cost_in_the_limit(alloc, &program(alloc, text)?))
 }
@@ -220,6 +232,13 @@ fn has_bits(alloc: Global, text: &str, want: Pair) -> bool {
 fn has_no_bound(alloc: Global, text: &str) -> bool {
     match bits_of(alloc, text) {
         Some(Ok(Bits::Unbounded)) => true,
+        _ => false,
+    }
+}
+
+fn is_refused(alloc: Global, text: &str, want: BitsError) -> bool {
+    match bits_of(alloc, text) {
+        Some(Err(error)) => error == want,
         _ => false,
     }
 }
@@ -253,5 +272,20 @@ fn rounds_and_loops_without_end(rt: HostRuntime) -> Result<(), Fail> {
     assert!(rt; has_no_bound(rt.alloc(), PASSED_BY));
     assert!(rt; has_bits(rt.alloc(), SILENT, (1, 1)));
     assert!(rt; has_bits(rt.alloc(), FALLS_SILENT, (2, 1)));
+    Ok(())
+}
+
+#[test]
+fn programs_without_loops_at_their_width_and_their_states(rt: HostRuntime) -> Result<(), Fail> {
+    assert!(rt;
+        has_bits(
+            rt.alloc(),
+            BY_A_PRIME,
+            (6917529027641081852, 2305843009213693951)
+        )
+    );
+    assert!(rt; is_refused(rt.alloc(), BY_THREE_PRIMES, BitsError::TooWide));
+    assert!(rt; has_bits(rt.alloc(), AS_MANY_STATES_AS_MAY_BE, (16, 1)));
+    assert!(rt; is_refused(rt.alloc(), ONE_STATE_TOO_MANY, BitsError::TooManyStates));
     Ok(())
 }

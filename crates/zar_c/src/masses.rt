@@ -140,7 +140,7 @@ pub extern "C" fn zar_cost(
 #[unsafe(no_mangle)]
 pub extern "C" fn zar_cost_in_the_limit(alloc: Global, text: &[u8], lines: &mut [u8]) -> ZarSaid
     ensures { IsReply (Spells text.now) (SpellsNone text.now) NoNumbers
-        (λ p. IsExpectedLine p 0) (λ p. WhyNotExpected) lines.old lines.new result }
+        (λ p. IsExpectedLine p 0) WhyNotExpected lines.old lines.new result }
 {
     match expected_of(alloc, text) {
         Ok(told) => written(told.bytes(), lines),

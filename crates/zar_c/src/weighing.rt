@@ -176,7 +176,7 @@ pub(crate) fn bits_of(alloc: Global, text: &[u8], l: &Limits) -> Result<Text, Za
 pub(crate) fn expected_of(alloc: Global, text: &[u8]) -> Result<Text, ZarSaid>
     ensures lines { IfOk result (λ lines. (p : SourceProgram) → Spells text.now p → IsExpectedLine p 0 lines) }
     ensures there { IfOk result (λ _. (p : SourceProgram) × Spells text.now p) }
-    ensures refused { IfErr result (IsRefusal (Spells text.now) (SpellsNone text.now) (λ p. WhyNotExpected)) }
+    ensures refused { IfErr result (IsRefusal (Spells text.now) (SpellsNone text.now) WhyNotExpected) }
 {
     one_reading();
     let program = match check_text(alloc, text) {

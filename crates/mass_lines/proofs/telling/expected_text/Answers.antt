@@ -8,5 +8,5 @@ pub returns-in_ok-bit_line-in-Expected-clause-line :
     goal.returns-in_ok-bit_line-in-Expected-clause-line
 returns-in_ok-bit_line-in-Expected-clause-line c =
     let text = c.in_ok-bit_line-in-Expected.ensures in
-    let is = subst (IsAnswer (source_of c.args.program.now)) c.in-Expected.is c.in_ok-bits.ensures in
+    let is = subst (IsAnswer (source_of c.args.program.now)) c.in-Expected.is c.in_ok-bits.ensures.answer in
     expected c.in-Expected.bits is.0 is.1 text.narrow text.line

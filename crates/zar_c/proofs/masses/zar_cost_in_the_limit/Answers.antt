@@ -9,6 +9,6 @@ use Rattle.zar_c.proofs.masses.zar_cost_in_the_limit.Goals as goal
 pub returns-in-Ok : goal.returns-in-Ok
 returns-in-Ok c =
     let text = c.args.text.now in
-    lines_told (Spells text) (SpellsNone text) NoNumbers (λ p. IsExpectedLine p 0) (λ p. WhyNotExpected) c.args.lines.now c.written.result c.written.new.to c.bytes.result.now
+    lines_told (Spells text) (SpellsNone text) NoNumbers (λ p. IsExpectedLine p 0) WhyNotExpected c.args.lines.now c.written.result c.written.new.to c.bytes.result.now
     tt c.written.ensures.told (λ p spells. subst (IsExpectedLine p 0) (sym c.bytes.ensures) (c.in-Ok.ensures.lines p spells)) c.in-Ok.ensures.there
     c.written.ensures.written c.written.ensures.kept

@@ -16,5 +16,5 @@ returns-in-Ok-expected_text-clause-lines c = λ p spells.
 pub returns-clause-refused : goal.returns-clause-refused
 returns-clause-refused c =
     let text = c.args.text.now in
-    by_lines text (c.one_reading.ensures.checked text) (source_of c.in-Ok.program) c.in-Ok.ensures.spelled c.told.result (λ (p : SourceProgram). WhyNotExpected) c.in-Err-expected_text.why
+    by_lines text (c.one_reading.ensures.checked text) (source_of c.in-Ok.program) c.in-Ok.ensures.spelled c.told.result (WhyNotExpected) c.in-Err-expected_text.why
     c.told.ensures c.in-Err-expected_text.ensures.refused

@@ -13,6 +13,7 @@ returns-in-Ok c = record { gives = λ file. shown c.in-Ok.line c.in-Ok.ensures.l
 pub returns-in-Err : goal.returns-in-Err
 returns-in-Err c =
     let Are = IsExpectedLine (source_of c.args.program.now) c.args.decimals in
+    let Why = WhyNotExpected (source_of c.args.program.now) in
     record {
-      gives = λ file. subst (λ e. Gives (ShowsOrRefuses Are WhyNotExpected) (Err e)) (sym c.refusal_by.ensures) (lines_refused Are WhyNotExpected c.in-Err.reason c.in-Err.ensures.refused);
+      gives = λ file. subst (λ e. Gives (ShowsOrRefuses Are Why) (Err e)) (sym c.refusal_by.ensures) (lines_refused Are Why c.in-Err.reason c.in-Err.ensures.refused);
     }

@@ -1,0 +1,46 @@
+// Whether a program has a loop.
+
+ghost use Rattle.std.specs.Prelude.{◌≡◌};
+ghost use Rattle.gcl_core.specs.meaning.Views.{statement_of, statements_of, list_of_arms};
+ghost use Rattle.exact_fold.specs.Loops.{one_loops, any_loops, arm_loops};
+
+use gcl_core::{Arms, Block, Stmt};
+
+/// Whether a block has a loop, in blocks inside too.
+#[cycle(loops)]
+pub fn block_loops(block: &Block) -> bool
+    ensures { result ≡ any_loops (statements_of block.now) }
+{
+    for statement in &block.stmts {
+        if statement_loops(statement) {
+            return true;
+        }
+    }
+    false
+}
+
+#[cycle(loops)]
+fn arms_loop(arms: &Arms) -> bool
+    ensures { result ≡ arm_loops (list_of_arms arms.now) }
+{
+    for (_, block) in &arms.arms {
+        if block_loops(block) {
+            return true;
+        }
+    }
+    false
+}
+
+#[cycle(loops)]
+#[tactic(auto, using(gcl_core::proofs::ViewLemmas::views))]
+fn statement_loops(statement: &Stmt) -> bool
+    ensures { result ≡ one_loops (statement_of statement.now) }
+{
+    match statement {
+        Stmt::If(_, first, second) => block_loops(first) || block_loops(second),
+        Stmt::Choice(_, first, second) => block_loops(first) || block_loops(second),
+        Stmt::Choose(arms) => arms_loop(arms),
+        Stmt::While(_, _) => true,
+        Stmt::Skip | Stmt::Set(_, _) | Stmt::Uniform(_, _) | Stmt::Observe(_) => false,
+    }
+}
