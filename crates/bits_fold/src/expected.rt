@@ -11,14 +11,13 @@ ghost use Rattle.bits_fold.specs.inner.AsWritten.{RefusedAsWritten, RoundsBlame}
 ghost use Rattle.bits_fold.specs.inner.Reading.{ReadsInRound};
 
 use crate::error::BitsError;
-use crate::loops::block_loops;
 use crate::reading::read_program;
 use crate::stop::Stop;
 use bits_law::{
     bits_tend_to_their_limit, bits_that_are_read_for_ever_have_no_bound,
     rounds_that_all_fail_read_nothing_or_have_no_bound,
 };
-use exact_fold::failed_in_the_limit;
+use exact_fold::{block_loops, failed_in_the_limit};
 use forgetting::{forgetful, forgetting_costs_nothing};
 use gcl_core::Checked;
 use mass_fold::round_bits;

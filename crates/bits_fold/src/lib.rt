@@ -14,7 +14,6 @@ mod draws;
 mod error;
 mod expected;
 mod finding;
-mod loops;
 mod reading;
 mod stop;
 

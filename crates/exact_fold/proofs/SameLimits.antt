@@ -51,7 +51,7 @@ module _ (count : ℕ) where
     arms_loop no_arm old F L = refl
     arms_loop (arm p b arms) old F L = either _ _ _ _ (forget_loops count _ _ _ ∙ block_loops b F L) (arms_loop arms old F L)
 
-same_loops : (p : SourceProgram) → any_loops (forgetful_of p).body ≡ any_loops p.body
+pub same_loops : (p : SourceProgram) → any_loops (forgetful_of p).body ≡ any_loops p.body
 same_loops p = block_loops (length p.names) p.body no_names (λ x. reads x p.result)
 
 -- ---- limits

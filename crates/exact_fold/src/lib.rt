@@ -31,6 +31,7 @@ pub use laws::{
     exact_masses_are_limits, exact_masses_are_told_by_their_limits, exact_masses_lie_within_bounds,
     strings_tend_to_exact_masses,
 };
+pub use loops::block_loops;
 pub use masses::exact;
 pub use parts::MOST_PARTS;
 pub use program::{ExactMasses, TURNS_TRIED, failed_in_the_limit};
