@@ -418,3 +418,12 @@ def field(crate, file, record, name):
     said = dict(zip(fields[1::3], fields[2::3]))[name]
     parameters_of = [it for group in re.findall(r"\(([^():]+) :", head) for it in group.split()]
     return functools.partial(called, value(("function", parameters_of, Reader(said).expression()), {}, definition))
+
+
+def some_case(crate, file, name):
+    """Whether what one of the cases of a statement asks holds, as a function of what the statement is of."""
+    definition = defined(crate, file, name)
+    head, *cases = definitions.FIELD.split(definition.text())
+    parameters_of = [it for group in re.findall(r"\(([^():]+) :", head) for it in group.split()]
+    asked = [Reader(case.rpartition("→")[0]).expression() for case in cases[2::3]]
+    return curried(len(parameters_of), lambda *these: any(value(it, dict(zip(parameters_of, these)), definition) for it in asked))

@@ -106,6 +106,9 @@ def rounded_down():
 NUMBERS = 4
 ALWAYS = [("observe", ("=", 1, 0))]
 SELDOM = [("while", ("=", "x", 0), [("choose", [(1, [("set", "x", 1)]), (1, [])])]), *ALWAYS]
+# At so many turns the masses of a program with a loop are taken to be tried, and by then this one has ended.
+TURNS = 3
+ENDS = [("while", ("<", "x", 2), [("draw", "y", 4), ("set", "x", ("+", "x", 1))])]
 
 
 def wide(part):
@@ -116,7 +119,7 @@ def wide(part):
 def chosen():
     """Programs that tell one cause from another, each with limits."""
     several = [([("draw", "x", 3), ("draw", "y", 2)], result) for result in ("y", ("+", "x", "y"))]
-    several += [([("draw", "x", 4), ("observe", ("=", "x", 3))], "y"), *((body, "x") for body in (ALWAYS, SELDOM, []))]
+    several += [([("draw", "x", 4), ("observe", ("=", "x", 3))], "y"), *((body, "x") for body in (ALWAYS, SELDOM, [])), *((ENDS, it) for it in "xy")]
     yield from itertools.product(several, [(1, None, None), (2, 1, None), (1, None, 2)])
     for body in (wide(2**32), wide(2**32 - 1), [("while", "x", []), *wide(2**32)]):
         yield (body, "x"), (1, None, None)
@@ -142,7 +145,8 @@ class Causes:
     def __init__(self, p, states, all_units):
         self.p, self.made = p, program(p)
         many = evaluating.strict(2, lambda m, b: m >= NUMBERS)
-        self.given = {"MOST_STATES": states, "ALL": all_units, "BlockWithin": many, "gcd": COMMON_DIVISOR}
+        self.given = {"MOST_STATES": states, "TURNS_TRIED": TURNS, "ALL": all_units, "BlockWithin": many, "gcd": COMMON_DIVISOR}
+        self.given["GoesBeyond"] = evaluating.some_case("exact_fold", "Refused", "GoesBeyond")
         self.forgetful = program_of(evaluating.of("forgetting", "Forgetful", "forgetful_of")(self.made))
 
     def told(self, crate, name, error, *limits):
@@ -166,16 +170,22 @@ class Causes:
             told = self.told("enclose_fold", "EncloseRefused", error, *limits)
             yield self.for_all(told, range(NUMBERS + 2)) == may, f"bounds: {error}"
 
+    def goes_beyond(self):
+        walk = Limited(TURNS, None)
+        goes_on = walk.round(self.forgetful).get("limit turns", 0) > 0
+        return goes_on or walk.width >= 2**128 or walk.peak > self.given["MOST_STATES"]
+
     def for_all(self, statement, members):
         """Whether a statement, if it is one of each number, holds of these."""
         with evaluating.given(**self.given):
             return all(evaluating.called(statement, it) for it in members) if callable(statement) else statement
 
     def of_unlimited(self):
-        """For exact masses: with a loop nothing is said of width and states."""
-        looped = loops(self.p[0])
+        """For exact masses: with a loop, where its masses are refused at some turns or a run has not ended by then."""
         walk, _ = round_of(self.forgetful, 1, None)
-        wanted = {"TooWide": looped or walk.width >= 2**128, "TooManyStates": looped or walk.peak > self.given["MOST_STATES"], "OutOfMemory": True}
+        wanted = {"TooWide": walk.width >= 2**128, "TooManyStates": walk.peak > self.given["MOST_STATES"], "OutOfMemory": True}
+        if loops(self.p[0]):
+            wanted |= dict.fromkeys(("TooWide", "TooManyStates"), self.goes_beyond())
         for error, may in wanted.items():
             yield self.told("exact_fold", "WhyRefused", error) == may, f"exact masses: {error}"
         fails = self.told("exact_fold", "WhyRefused", "AllFailed")
