@@ -8,7 +8,8 @@ import subprocess
 import tempfile
 import typing
 
-SECONDS = 60
+# A call that takes longer does not end: on a busy machine a long one takes minutes, under valgrind too.
+SECONDS = 300
 
 # Root may read every file. In a call behind these words it may not, where the system has the command.
 AS_A_USER = ["setpriv", "--bounding-set", "-dac_override,-dac_read_search"] if os.geteuid() == 0 and shutil.which("setpriv") else []

@@ -6,6 +6,7 @@ import random
 import subprocess
 from fractions import Fraction
 
+import calling
 import source
 
 ORDER = source.ROOT / "tools" / "order"
@@ -82,7 +83,7 @@ def written(folder, text, words):
     """What order prints of a network and says, and its status."""
     path = folder / "network.bif"
     path.write_text(text, encoding="utf-8")
-    run = subprocess.run([ORDER, path, *words.split()], capture_output=True, text=True, timeout=60)
+    run = subprocess.run([ORDER, path, *words.split()], capture_output=True, text=True, timeout=calling.SECONDS)
     return run.stdout, run.stderr, run.returncode
 
 
@@ -151,7 +152,7 @@ def has_masses(zar, folder, nodes, query, observed, *words):
     for order in ("", "--as-written"):
         text, _, status = written(folder, bif_of(nodes), f"--query {query} {seen} {order}")
         (folder / "network.gcl").write_text(text, encoding="utf-8")
-        run = subprocess.run([zar, "mass", folder / "network.gcl"], capture_output=True, text=True, timeout=60)
+        run = subprocess.run([zar, "mass", folder / "network.gcl"], capture_output=True, text=True, timeout=calling.SECONDS)
         if status or (run.stdout.splitlines() != wanted if wanted else not run.stderr.startswith("error E15 ")):
             return False
     return True
@@ -181,8 +182,8 @@ ASIA = {
 
 def asia_has_its_masses(zar, folder):
     words = [ORDER, NETWORKS / "asia.bif", "--query", "lung", "--observe", "dysp=yes", "xray=yes"]
-    (folder / "asia.gcl").write_text(subprocess.run(words, capture_output=True, text=True, timeout=60).stdout, encoding="utf-8")
-    run = subprocess.run([zar, "mass", folder / "asia.gcl"], capture_output=True, text=True, timeout=60)
+    (folder / "asia.gcl").write_text(subprocess.run(words, capture_output=True, text=True, timeout=calling.SECONDS).stdout, encoding="utf-8")
+    run = subprocess.run([zar, "mass", folder / "asia.gcl"], capture_output=True, text=True, timeout=calling.SECONDS)
     return run.stdout.splitlines() == masses(ASIA, "lung", {"dysp": 0, "xray": 0})
 
 

@@ -16,6 +16,7 @@ import urllib.parse
 from fractions import Fraction
 
 import browser
+import calling
 import png
 import source
 
@@ -65,12 +66,12 @@ class Tags(html.parser.HTMLParser):
 
 
 def report(zar, *words):
-    run = subprocess.run([TOOLS / "report", *words, "--zar", zar], capture_output=True, text=True, timeout=60)
+    run = subprocess.run([TOOLS / "report", *words, "--zar", zar], capture_output=True, text=True, timeout=calling.SECONDS)
     return run.stdout if run.returncode == 0 else run.stderr
 
 
 def said(zar, *words):
-    return subprocess.run([zar, *words], capture_output=True, text=True, timeout=60).stdout
+    return subprocess.run([zar, *words], capture_output=True, text=True, timeout=calling.SECONDS).stdout
 
 
 def masses(zar, path, turns):
@@ -181,7 +182,7 @@ def serving(zar, said=None):
 
 def asked(address, path, form=None, method=None, **heads):
     """What the server answers: its status and its page."""
-    connection = http.client.HTTPConnection(address, timeout=60)
+    connection = http.client.HTTPConnection(address, timeout=calling.SECONDS)
     body = None if form is None else urllib.parse.urlencode(form)
     heads = {"Content-Type": "application/x-www-form-urlencoded", **{name.replace("_", "-"): it for name, it in heads.items()}}
     connection.request(method or ("GET" if form is None else "POST"), path, body, heads)
@@ -216,7 +217,7 @@ def of_server(zar):
         yield "as is a GiB", resource.prlimit(server.pid, resource.RLIMIT_AS) == (2**30, 2**30)
         port = address.partition(":")[2]
         for taken, why in ((port, "Address already in use"), ("99999", "port must be 0-65535.")):
-            run = subprocess.run([TOOLS / "serve", "--port", taken, "--zar", zar], capture_output=True, text=True, timeout=60)
+            run = subprocess.run([TOOLS / "serve", "--port", taken, "--zar", zar], capture_output=True, text=True, timeout=calling.SECONDS)
             yield f"no server at {why}", run.returncode == 1 and run.stderr.startswith(f"serve: port {taken}: ") and run.stderr.endswith(f"{why}\n")
 
 

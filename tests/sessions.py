@@ -4,6 +4,7 @@ import os
 import re
 import subprocess
 
+import calling
 import source
 
 PART = re.compile(r"`(?P<file>\w+\.gcl)`:\n\n```gcl\n(?P<program>.*?)^```$|^```\n(?P<session>\$ .*?)^```$", re.DOTALL | re.MULTILINE)
@@ -33,4 +34,4 @@ def said(script, folder, env):
     """What the calls print in a folder, on either output, without empty lines."""
     words = ["bash", "-c", script]
     streams = {"stdin": subprocess.DEVNULL, "stdout": subprocess.PIPE, "stderr": subprocess.STDOUT}
-    return filled(subprocess.run(words, cwd=folder, env={**os.environ, **env}, text=True, timeout=60, check=False, **streams).stdout)
+    return filled(subprocess.run(words, cwd=folder, env={**os.environ, **env}, text=True, timeout=calling.SECONDS, check=False, **streams).stdout)

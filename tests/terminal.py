@@ -5,6 +5,8 @@ import pty
 import subprocess
 import threading
 
+import calling
+
 # What is put behind all that a call writes to a terminal, which has no such byte.
 END = b"\0"
 
@@ -36,4 +38,4 @@ def on_terminal(zar, words, out=None, breaks=False, folder=None, given=None, kin
     env = {**os.environ, "TERM": kind}
     with subprocess.Popen([zar, *words], cwd=folder, env=env, stdin=given or subprocess.DEVNULL, stdout=out or side, stderr=side) as run:
         threading.Thread(target=end, args=(run, side)).start()
-        return received(terminal, breaks), run.wait(timeout=60)
+        return received(terminal, breaks), run.wait(timeout=calling.SECONDS)
