@@ -6,7 +6,7 @@ use Rattle.gcl_core.specs.declared.answers.Limits.{Limits}
 use Rattle.gcl_core.specs.meaning.Runs.{run_on}
 use Rattle.gcl_core.specs.meaning.Syntax.{SourceProgram}
 use Rattle.gcl_core.specs.weighing.Fractions.{Fraction}
-use Rattle.mass_lines.specs.RowLines.{rows_text}
+use Rattle.report_text.specs.RowLines.{rows_text}
 use Rattle.numbers.specs.Fraction.{lowest}
 use Rattle.report_text.specs.Lines.{mass_text, undecided_text}
 

@@ -19,7 +19,7 @@ fn share_of(depth: u32, count: u64) -> Frac
 }
 
 // The lines of an audit's rows.
-#[tactic(auto, using(mass_lines::proofs::RowByRow::rows_end))]
+#[tactic(auto, using(report_text::proofs::RowByRow::rows_end))]
 fn audit_rows_text(
     alloc: Global,
     depth: u32,

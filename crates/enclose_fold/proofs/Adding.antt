@@ -15,7 +15,7 @@ use Rattle.gcl_core.specs.meaning.Outcomes.{outcome_of}
 use Rattle.gcl_core.specs.meaning.Syntax.{Expression}
 use Rattle.gcl_core.specs.meaning.Value.{State, value_of}
 use Rattle.mass_fold.proofs.OutcomeKeys.{Tells, equal_is}
-use Rattle.posterior_bounds.proofs.Chosen.{first_in, later_in}
+use Rattle.bounds_law.proofs.Contained.{first_in, later_in}
 use Rattle.units_law.specs.Units.{Units, held, total}
 use Rattle.enclose_fold.specs.inner.Outcomes.{found, those, Adds, AddsResults}
 

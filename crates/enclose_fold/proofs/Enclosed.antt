@@ -5,7 +5,7 @@ use Rattle.gcl_core.specs.declared.answers.Outcome.{Outcome}
 use Rattle.gcl_core.specs.meaning.Outcomes.{same_outcome}
 use Rattle.gcl_core.specs.meaning.Syntax.{SourceProgram}
 use Rattle.gcl_core.specs.weighing.Fractions.{Fraction}
-use Rattle.posterior_bounds.specs.Rows.{Rows}
+use Rattle.bounds_law.specs.Rows.{Rows}
 use Rattle.units_law.specs.Units.{Units, total}
 use Rattle.units_law.specs.Between.{whole_of, least_of, rounded_down, rounded_up}
 use Rattle.units_law.specs.Enclosures.{fails_in, given, least_units, most_units, lower_of, upper_of, upper_of_others, AreEnclosures}

@@ -14,8 +14,8 @@ use Rattle.gcl_core.specs.weighing.Fractions.{Fraction}
 use Rattle.gcl_core.proofs.OutcomeOrder.{before_differs, after_differs}
 use Rattle.gcl_core.proofs.SameOutcomes.{same_outcomes, outcome_itself}
 use Rattle.mass_fold.proofs.OutcomeRows.{ascending_rest, all_after}
-use Rattle.posterior_bounds.specs.Rows.{outcomes_of}
-use Rattle.posterior_bounds.proofs.Chosen.{first_in, later_in, in_cons}
+use Rattle.bounds_law.specs.Rows.{outcomes_of}
+use Rattle.bounds_law.proofs.Contained.{first_in, later_in, in_cons}
 use Rattle.units_law.specs.Units.{Units}
 use Rattle.units_law.specs.Between.{least_of}
 use Rattle.units_law.specs.SomeRounds.{in_rounds}

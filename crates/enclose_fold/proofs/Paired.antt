@@ -9,7 +9,7 @@ use Rattle.gcl_core.specs.meaning.Outcomes.{same_outcome}
 use Rattle.gcl_core.specs.meaning.Syntax.{SourceProgram}
 use Rattle.gcl_core.specs.weighing.Fractions.{Fraction, zero_share, one, AtMost, IsBelowOne}
 use Rattle.gcl_core.specs.weighing.Mass.{round_mass, failed_mass}
-use Rattle.posterior_bounds.specs.Rows.{Rows}
+use Rattle.bounds_law.specs.Rows.{Rows}
 use Rattle.units_law.specs.FewOthers.{lost_units_at_most, most_of_others, HaveLittle, NearlyFails}
 use Rattle.enclose_fold.specs.inner.AsWritten.{AreAnswers, ArePaired}
 

@@ -3,7 +3,7 @@ use Rattle.std.proofs.Common.{ℕ, ◌≤◌, Option, Some, None, sym, subst}
 use Rattle.gcl_core.specs.meaning.Outcomes.{same_outcome}
 use Rattle.gcl_core.specs.meaning.Syntax.{SourceProgram}
 use Rattle.gcl_core.specs.weighing.Fractions.{Fraction, AtMost, IsBelowOne, IsOne}
-use Rattle.posterior_bounds.specs.Rows.{Rows}
+use Rattle.bounds_law.specs.Rows.{Rows}
 use Rattle.units_law.specs.Holding.{MayEnd, Enclose}
 use Rattle.forgetting.specs.Forgetful.{forgetful_of}
 use Rattle.forgetting.specs.SameMeaning.{SameMeaning}

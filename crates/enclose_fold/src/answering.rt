@@ -13,7 +13,7 @@ use crate::enclosing::enclose_in_units;
 use crate::error::EncloseError;
 use gcl_core::Checked;
 use numbers::Frac;
-use posterior_bounds::Bounds;
+use bounds_law::Bounds;
 use scaled_fold::{PairsError, enclose_in_pairs};
 use std::alloc::Global;
 use std::cmp::Ordering;

@@ -15,7 +15,7 @@ use crate::answering::enclose_as_written;
 use crate::error::EncloseError;
 use forgetting::{forgetful, forgetting_changes_no_meaning};
 use gcl_core::Checked;
-use posterior_bounds::Bounds;
+use bounds_law::Bounds;
 use std::alloc::Global;
 
 /// Two bounds of the mass of each outcome, and one for all outcomes without a row together, from one round whose products are

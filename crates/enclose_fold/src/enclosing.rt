@@ -25,7 +25,7 @@ use crate::rows::bound_rows;
 use gcl_core::{Checked, Outcome, outcomes_are_ordered};
 use mass_fold::is_ordered;
 use numbers::ALL;
-use posterior_bounds::Bounds;
+use bounds_law::Bounds;
 use std::alloc::Global;
 use std::collections::BTreeMap;
 use units_law::{

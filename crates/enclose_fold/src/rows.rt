@@ -9,7 +9,7 @@ use crate::bounding::Round;
 use crate::error::EncloseError;
 use gcl_core::Outcome;
 use numbers::Frac;
-use posterior_bounds::BoundRows;
+use bounds_law::BoundRows;
 use std::alloc::Global;
 use std::collections::BTreeMap;
 

@@ -29,15 +29,15 @@ use Rattle.table_flow.proofs.Masses.{last_few, sum_held}
 use Rattle.table_flow.proofs.Paths.{ends_positive}
 use Rattle.table_flow.proofs.Positive.{Positive, FlowPositive, p_all}
 use Rattle.table_flow.proofs.Wholes.{whole_from}
-use Rattle.posterior_bounds.proofs.LowestTerms.{lowest_same}
+use Rattle.mass_fold.proofs.LowestTerms.{lowest_same}
 use Rattle.mass_fold.specs.Rows.{Rows, AreMasses}
 use Rattle.mass_fold.proofs.OutcomeRows.{lowest_is, one_value}
 use Rattle.weighing_law.proofs.Costs as costs
 use Rattle.weighing_law.proofs.Shares.{Share, counts_sum, factor_pos}
 use Rattle.weighing_law.proofs.StatedMasses.{rest_share}
-use Rattle.posterior_bounds.proofs.EntrySums.{whole_at}
-use Rattle.posterior_bounds.proofs.Growth.{scale, scale_pos, growth}
-use Rattle.posterior_bounds.proofs.OneLimit.{Sums}
+use Rattle.bounds_law.proofs.EntrySums.{whole_at}
+use Rattle.bounds_law.proofs.Growth.{scale, scale_pos, growth}
+use Rattle.bounds_law.proofs.OneLimit.{Sums}
 use Rattle.unlimited_law.specs.Ended.{is_out_of_turns, TurnsSuffice, flowed_in}
 use Rattle.unlimited_law.specs.Settling.{Outflow}
 use Rattle.unlimited_law.specs.SettledMasses.{ProgramSettles, EndlessTends, over, settled_weight, settled_failed, settled_mass, endless_mass, runs_out}

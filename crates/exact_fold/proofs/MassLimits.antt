@@ -14,8 +14,8 @@ use Rattle.gcl_core.specs.weighing.Mass.{mass_of, round_mass}
 use Rattle.gcl_core.proofs.Accepted.{checked_weights}
 use Rattle.table_flow.proofs.EqualFractions.{equal_plus}
 use Rattle.mass_fold.specs.Rows.{Rows}
-use Rattle.posterior_bounds.specs.PosteriorBounds.{fails, lower_of, upper_of}
-use Rattle.posterior_bounds.specs.Holding.{BoundsHold}
+use Rattle.bounds_law.specs.PosteriorBounds.{fails, lower_of, upper_of}
+use Rattle.bounds_law.specs.Holding.{BoundsHold}
 use Rattle.unlimited_law.specs.SettledMasses.{settled_failed, settled_mass, gap, nth_part, IsNear, MassTends, EndlessTends, endless_mass}
 use Rattle.unlimited_law.proofs.EndlessLimits.{endless_tends}
 use Rattle.unlimited_law.proofs.OneLimit.{parts_vanish, through}

@@ -20,8 +20,8 @@ use Rattle.weighing_law.proofs.Shares.{Share, share-plus, factor_pos, product_po
 use Rattle.weighing_law.proofs.WeightedLists.{Counts}
 use Rattle.mass_fold.specs.Rows.{Rows, outcomes_of, Ascending, AreMasses}
 use Rattle.mass_fold.proofs.OutcomeRows.{ascending_rest, all_after, outcome_at, same_length}
-use Rattle.posterior_bounds.proofs.EntrySums.{counts_join}
-use Rattle.posterior_bounds.proofs.OneLimit.{Sums, sum_of_those, lower_share, lower_pos}
+use Rattle.bounds_law.proofs.EntrySums.{counts_join}
+use Rattle.bounds_law.proofs.OneLimit.{Sums, sum_of_those, lower_share, lower_pos}
 use Rattle.exact_fold.specs.Exact.{all_of}
 
 -- how often an outcome has a row

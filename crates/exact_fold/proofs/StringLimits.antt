@@ -23,11 +23,11 @@ use Rattle.weighing_law.proofs.WeighingLaw.{weighs_exactly}
 use Rattle.weighing_law.proofs.CutOffLaw.{cut_off_vanishes}
 use Rattle.weighing_law.proofs.Fractions.{at_most_then, at_most_plus}
 use Rattle.mass_fold.specs.Rows.{Rows}
-use Rattle.posterior_bounds.specs.ComingTogether.{AreGreat}
-use Rattle.posterior_bounds.specs.PosteriorBounds.{fails}
-use Rattle.posterior_bounds.specs.StringBounds.{weight_at}
-use Rattle.posterior_bounds.proofs.Between.{share_below}
-use Rattle.posterior_bounds.proofs.StringBounds.{lies_between}
+use Rattle.string_bounds.specs.ComingTogether.{AreGreat}
+use Rattle.bounds_law.specs.PosteriorBounds.{fails}
+use Rattle.string_bounds.specs.StringBounds.{weight_at}
+use Rattle.bounds_law.proofs.Between.{share_below}
+use Rattle.string_bounds.proofs.StringBounds.{lies_between}
 use Rattle.unlimited_law.specs.SettledMasses.{nth_part}
 use Rattle.exact_fold.specs.Exact.{IsExact}
 use Rattle.exact_fold.specs.Limits.{AreLimits, rate_of}

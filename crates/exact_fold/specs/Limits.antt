@@ -7,7 +7,7 @@ use Rattle.gcl_core.specs.meaning.Syntax.{SourceProgram}
 use Rattle.gcl_core.specs.weighing.Fractions.{Fraction, AtMost, divided_by_rest}
 use Rattle.gcl_core.specs.weighing.Mass.{mass_of}
 use Rattle.mass_fold.specs.Rows.{Rows}
-use Rattle.posterior_bounds.specs.PosteriorBounds.{lower_of, upper_of}
+use Rattle.bounds_law.specs.PosteriorBounds.{lower_of, upper_of}
 use Rattle.gcl_core.specs.meaning.Outcomes.{is_settled}
 use Rattle.unlimited_law.specs.Settling.{Outflow}
 use Rattle.unlimited_law.specs.SettledMasses.{settled_failed, IsNear}

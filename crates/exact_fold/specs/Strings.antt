@@ -9,9 +9,9 @@ use Rattle.gcl_core.specs.weighing.Fractions.{Fraction, plus, AtMost}
 use Rattle.gcl_core.specs.weighing.LongestReading.{longest}
 use Rattle.gcl_core.specs.weighing.StringWeight.{outcome_weight}
 use Rattle.mass_fold.specs.Rows.{Rows}
-use Rattle.posterior_bounds.specs.ComingTogether.{AreGreat}
+use Rattle.string_bounds.specs.ComingTogether.{AreGreat}
 use Rattle.gcl_core.specs.meaning.Outcomes.{is_settled}
-use Rattle.posterior_bounds.specs.StringBounds.{weight_at}
+use Rattle.string_bounds.specs.StringBounds.{weight_at}
 use Rattle.weighing_law.specs.Weighing.{Suffices}
 
 -- The strings on which the run ends in the outcome of a row weigh at most what the row says, whatever the limits are. No string

@@ -5,6 +5,7 @@ pub mod OutcomeKeys
 pub mod Results
 pub mod Listing
 pub mod OutcomeRows
+pub mod LowestTerms
 pub mod OneList
 pub mod Repeats
 pub mod Passing

@@ -1,2 +1,1 @@
-pub mod RowByRow
 pub mod NarrowRows

@@ -2,7 +2,7 @@
 use Rattle.std.proofs.Common.{◌≡◌, ℕ, suc, zero, ◌+◌, ◌≤◌, ◌<◌, List, [], ◌∷◌, ◌++◌, length, take, take_all, drop, get_or, Some, sym, subst, arith}
 use Rattle.std.specs.List.{All, slice_get}
 use Rattle.std.proofs.lemmas.List.Elements.{All-more, All-same}
-use Rattle.mass_lines.specs.RowLines.{rows_text}
+use Rattle.report_text.specs.RowLines.{rows_text}
 
 -- the rows before a place are written, and each is narrow
 pub record AreWritten {A : Type 0} (line : A → List ℕ) (Narrow : A → Type 0) (rows : List A) (i : ℕ) (text : List ℕ) : Type 0 where

@@ -4,11 +4,11 @@ use Rattle.numbers.specs.Fraction.{lowest}
 use Rattle.gcl_core.specs.declared.answers.Outcome.{Outcome}
 use Rattle.gcl_core.specs.meaning.Syntax.{SourceProgram}
 use Rattle.gcl_core.specs.weighing.Fractions.{Fraction, IsBelowOne}
-use Rattle.posterior_bounds.specs.PosteriorBounds.{fails, upper_of_others}
-use Rattle.posterior_bounds.specs.Rows.{Rows, AreBoundsOf, HoldAt}
+use Rattle.bounds_law.specs.PosteriorBounds.{fails, upper_of_others}
+use Rattle.bounds_law.specs.Rows.{Rows, AreBoundsOf, HoldAt}
 use Rattle.report_text.specs.Lines.{bound_text, other_text}
 use Rattle.mass_lines.specs.Narrow.{IsNarrow}
-use Rattle.mass_lines.specs.RowLines.{rows_text}
+use Rattle.report_text.specs.RowLines.{rows_text}
 
 -- each value and fault with its bounds
 abbrev pub bound_rows_text : ℕ → List (Outcome × Fraction × Fraction) → List ℕ

@@ -6,7 +6,7 @@ use Rattle.gcl_core.specs.meaning.Syntax.{SourceProgram}
 use Rattle.gcl_core.specs.weighing.Fractions.{Fraction, IsBelowOne}
 use Rattle.gcl_core.specs.weighing.Mass.{failed_mass}
 use Rattle.forgetting.specs.Forgetful.{forgetful_of}
-use Rattle.posterior_bounds.specs.Rows.{Rows}
+use Rattle.bounds_law.specs.Rows.{Rows}
 use Rattle.mass_lines.specs.BoundLines.{bound_lines}
 use Rattle.mass_lines.specs.Narrow.{IsNarrow}
 

@@ -1,5 +1,4 @@
 pub mod Narrow
-pub mod RowLines
 pub mod MassLines
 pub mod BoundLines
 pub mod EnclosedLines

@@ -7,7 +7,7 @@ use Rattle.gcl_core.specs.weighing.Mass.{failed_mass, mass_of}
 use Rattle.mass_fold.specs.Rows.{Rows, AreMasses}
 use Rattle.report_text.specs.Lines.{mass_text}
 use Rattle.mass_lines.specs.Narrow.{IsNarrow}
-use Rattle.mass_lines.specs.RowLines.{rows_text}
+use Rattle.report_text.specs.RowLines.{rows_text}
 
 -- each outcome with its mass
 abbrev pub mass_rows_text : ℕ → List (Outcome × Fraction) → List ℕ

@@ -12,14 +12,14 @@ use exact_fold::ExactMasses;
 use gcl_print::Text;
 use mass_fold::FracRows;
 use numbers::Frac;
-use posterior_bounds::{BoundRows, Bounds};
+use bounds_law::{BoundRows, Bounds};
 use report_text::{
     Decimals, bound_line, cost_line, endless_line, mass_line, other_line, unbounded_line,
 };
 use std::alloc::{AllocError, Global};
 
 // The lines of masses. An error comes only where memory runs out.
-#[tactic(auto, using(crate::proofs::RowByRow::rows_end, crate::proofs::NarrowRows::all_narrow))]
+#[tactic(auto, using(report_text::proofs::RowByRow::rows_end, crate::proofs::NarrowRows::all_narrow))]
 pub(crate) fn mass_rows_text(
     alloc: Global,
     rows: &FracRows,
@@ -38,7 +38,7 @@ pub(crate) fn mass_rows_text(
 }
 
 // The lines of the rows of bounds.
-#[tactic(auto, using(crate::proofs::RowByRow::rows_end, crate::proofs::NarrowRows::all_narrow))]
+#[tactic(auto, using(report_text::proofs::RowByRow::rows_end, crate::proofs::NarrowRows::all_narrow))]
 fn bound_rows_text(alloc: Global, rows: &BoundRows, decimals: Decimals) -> Result<Text, AllocError>
     ensures lines { IfOk result (λ text. text ≡ bound_rows_text decimals rows.now) }
     ensures narrow { IfOk result (λ _. All (λ row. IsNarrow row.1 × IsNarrow row.2) rows.now) }

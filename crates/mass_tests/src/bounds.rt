@@ -4,7 +4,8 @@ use crate::programs::{GEOMETRIC, IMPOSSIBLE, TWO_COINS, program};
 use crate::rows::{Pair, is};
 use gcl_core::{Fault, Outcome};
 use mass_fold::MassError;
-use posterior_bounds::{BoundRows, bounds};
+use bounds_law::BoundRows;
+use posterior_bounds::bounds;
 use std::alloc::Global;
 use std::test::Fail;
 

@@ -20,14 +20,14 @@ use Rattle.mass_fold.specs.Rows as masses
 use Rattle.table_flow.specs.Width.{width_of}
 use Rattle.table_flow.proofs.Wholes.{sum_refused}
 use Rattle.weighing_law.proofs.Shares.{product_pos, factor_pos}
-use Rattle.posterior_bounds.specs.PosteriorBounds.{fails, given, lower_of, upper_of, upper_of_others}
-use Rattle.posterior_bounds.specs.Holding.{BoundsHold}
-use Rattle.posterior_bounds.specs.Rows.{Rows, AreBoundsOf, HasNone, HoldAt}
+use Rattle.bounds_law.specs.PosteriorBounds.{fails, given, lower_of, upper_of, upper_of_others}
+use Rattle.bounds_law.specs.Holding.{BoundsHold}
+use Rattle.bounds_law.specs.Rows.{Rows, AreBoundsOf, HasNone, HoldAt}
 use Rattle.posterior_bounds.specs.inner.Rising.{mass_in, raised, RaiseRefused}
-use Rattle.posterior_bounds.proofs.BoundsLaw.{bounds_hold}
+use Rattle.bounds_law.proofs.BoundsLaw.{bounds_hold}
 use Rattle.posterior_bounds.proofs.Chosen.{NoRow, in_or_none, beside, raised_from, raised_has, kept_order}
-use Rattle.posterior_bounds.proofs.EqualFractions.{equal_below, equal_above}
-use Rattle.posterior_bounds.proofs.LowestTerms.{lowest_same, lowest_sum}
+use Rattle.bounds_law.proofs.EqualFractions.{equal_below, equal_above}
+use Rattle.mass_fold.proofs.LowestTerms.{lowest_same, lowest_sum}
 
 abbrev turns : Outcome
 turns = outcome.Limit Turns

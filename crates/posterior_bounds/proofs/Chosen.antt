@@ -14,19 +14,9 @@ use Rattle.mass_fold.specs.Rows as masses
 use Rattle.mass_fold.proofs.OutcomeRows.{ascending_rest, all_after}
 use Rattle.table_flow.specs.Scale.{whole, Whole}
 use Rattle.table_flow.proofs.Wholes.{whole_from, whole_lowest}
-use Rattle.posterior_bounds.specs.Rows.{outcomes_of}
+use Rattle.bounds_law.specs.Rows.{outcomes_of}
+use Rattle.bounds_law.proofs.Contained.{first_in, later_in, in_cons}
 use Rattle.posterior_bounds.specs.inner.Rising.{mass_in, raised}
-
--- ---- lists
-pub first_in : {A : Type 0} (x : A) (xs : List A) (y : A) → x ≡ y → Contains (x ∷ xs) y
-first_in x xs y e = (0, omega arith, e)
-
-pub later_in : {A : Type 0} (x : A) (xs : List A) (y : A) → Contains xs y → Contains (x ∷ xs) y
-later_in x xs y c = let l : c.0 < length xs = c.1 in (suc c.0, omega arith, c.2)
-
-pub in_cons : {A : Type 0} (x : A) (xs : List A) (y : A) → Contains (x ∷ xs) y → (x ≡ y) ⊎ Contains xs y
-in_cons x xs y (zero, l, e) = inl e
-in_cons x xs y (suc k, l, e) = inr (k, omega arith, e)
 
 -- ---- the mass of an outcome
 abbrev pub NoRow : Outcome → masses.Rows → Type 0

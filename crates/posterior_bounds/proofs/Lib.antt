@@ -1,14 +1,3 @@
 pub mod RisingRows
-pub mod LowestTerms
 pub mod Chosen
 pub mod BoundsOfMasses
-pub mod MoreTurns
-pub mod EntrySums
-pub mod Growth
-pub mod OneLimit
-pub mod BoundsLaw
-pub mod EqualFractions
-pub mod WorkedBounds
-pub mod Between
-pub mod StringBounds
-pub mod ComingTogether

@@ -12,7 +12,7 @@ use Rattle.mass_fold.proofs.OutcomeRows.{lowest_is}
 use Rattle.table_flow.specs.Scale.{whole}
 use Rattle.table_flow.proofs.Wholes.{whole_from, sum_whole}
 use Rattle.weighing_law.proofs.Shares.{product_pos}
-use Rattle.posterior_bounds.specs.Rows.{Rows}
+use Rattle.bounds_law.specs.Rows.{Rows}
 use Rattle.posterior_bounds.specs.inner.Rising.{mass_in, raised}
 
 -- ---- the row at a place

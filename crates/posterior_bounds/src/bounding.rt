@@ -6,11 +6,11 @@ ghost use Rattle.gcl_core.specs.weighing.Fractions.{IsBelowOne};
 ghost use Rattle.gcl_core.specs.meaning.Views.{source_of};
 ghost use Rattle.gcl_core.specs.declared.rules.TheConstants.{MOST_LIMIT};
 ghost use Rattle.mass_fold.specs.Refused.{MassRefused};
-ghost use Rattle.posterior_bounds.specs.PosteriorBounds.{fails, upper_of_others};
-ghost use Rattle.posterior_bounds.specs.Rows.{AreBoundsOf, HoldAt};
+ghost use Rattle.bounds_law.specs.PosteriorBounds.{fails, upper_of_others};
+ghost use Rattle.bounds_law.specs.Rows.{AreBoundsOf, HoldAt};
 
 use crate::rising::{raised, undecided};
-use crate::rows::Bounds;
+use bounds_law::Bounds;
 use gcl_core::Checked;
 use mass_fold::{MassError, mass};
 use std::alloc::Global;

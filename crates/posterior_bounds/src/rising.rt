@@ -9,7 +9,7 @@ ghost use Rattle.gcl_core.specs.weighing.Fractions.{plus};
 ghost use Rattle.gcl_core.specs.meaning.Outcomes.{same_outcome, is_settled};
 ghost use Rattle.posterior_bounds.specs.inner.Rising.{mass_in, raised, RaiseRefused};
 
-use crate::rows::BoundRows;
+use bounds_law::BoundRows;
 use gcl_core::{Limit, Outcome};
 use mass_fold::{FracRows, MassError};
 use numbers::Frac;

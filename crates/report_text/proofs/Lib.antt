@@ -1,3 +1,4 @@
 mod LongDivision
 mod Rounded
 mod Digits
+pub mod RowByRow

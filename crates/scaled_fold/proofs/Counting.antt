@@ -9,7 +9,7 @@ use Rattle.gcl_core.specs.meaning.Outcomes.{same_outcome}
 use Rattle.gcl_core.proofs.OutcomeOrder.{before_differs, after_differs}
 use Rattle.gcl_core.proofs.SameOutcomes.{same_outcomes, outcome_itself}
 use Rattle.mass_fold.proofs.OutcomeRows.{ascending_rest, all_after}
-use Rattle.posterior_bounds.proofs.Chosen.{first_in, later_in, in_cons}
+use Rattle.bounds_law.proofs.Contained.{first_in, later_in, in_cons}
 use Rattle.std.proofs.lemmas.List.Elements.{All-head, All-tail}
 use Rattle.units_law.specs.Units.{Units, held, total}
 use Rattle.scaled_law.specs.Given.{stay, may_be}

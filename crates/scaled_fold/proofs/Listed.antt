@@ -11,7 +11,7 @@ use Rattle.gcl_core.specs.meaning.Outcomes.{same_outcome}
 use Rattle.gcl_core.specs.meaning.Syntax.{SourceProgram}
 use Rattle.gcl_core.specs.weighing.Fractions.{Fraction, plus, AtMost}
 use Rattle.numbers.specs.Fraction.{lowest}
-use Rattle.posterior_bounds.specs.Rows.{Rows}
+use Rattle.bounds_law.specs.Rows.{Rows}
 use Rattle.units_law.specs.Holding.{AreOrdered, Enclose, AreClose}
 use Rattle.units_law.specs.Between.{rounded_down, rounded_up}
 use Rattle.units_law.specs.Units.{held, total}

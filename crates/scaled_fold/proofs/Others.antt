@@ -11,8 +11,8 @@ use Rattle.numbers.proofs.Divisors.{lowest_equal, lowest_in_lowest}
 use Rattle.gcl_core.specs.meaning.Syntax.{SourceProgram}
 use Rattle.gcl_core.specs.weighing.Fractions.{Fraction, plus, AtMost, one}
 use Rattle.gcl_core.specs.weighing.Mass.{mass_of_those}
-use Rattle.posterior_bounds.specs.Rows.{Rows}
-use Rattle.posterior_bounds.proofs.EqualFractions.{equal_below, equal_above}
+use Rattle.bounds_law.specs.Rows.{Rows}
+use Rattle.bounds_law.proofs.EqualFractions.{equal_below, equal_above}
 use Rattle.units_law.specs.Between.{rounded_up}
 use Rattle.units_law.specs.Holding.{AreOrdered, Enclose}
 use Rattle.units_law.proofs.Orders.{from_left}

@@ -9,8 +9,8 @@ use Rattle.gcl_core.specs.declared.answers.Outcome.{Outcome}
 use Rattle.gcl_core.specs.meaning.Order.{is_before}
 use Rattle.gcl_core.specs.weighing.Fractions.{Fraction}
 use Rattle.mass_fold.proofs.OutcomeRows.{ascending_rest, all_after}
-use Rattle.posterior_bounds.specs.Rows.{Rows, outcomes_of}
-use Rattle.posterior_bounds.proofs.Chosen.{first_in, later_in, in_cons}
+use Rattle.bounds_law.specs.Rows.{Rows, outcomes_of}
+use Rattle.bounds_law.proofs.Contained.{first_in, later_in, in_cons}
 use Rattle.units_law.specs.Units.{held}
 use Rattle.scaled_law.specs.Pairs.{Pair, Pairs, added, at_least, at_most}
 use Rattle.scaled_fold.specs.inner.Listing.{Ascending, with_row, rows_by, kept_at, kept_by}

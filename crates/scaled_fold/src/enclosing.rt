@@ -12,7 +12,7 @@ use crate::rounds::ends_of;
 use gcl_core::{Checked, outcomes_are_ordered};
 use mass_fold::is_ordered;
 use numbers::{ALL, Frac};
-use posterior_bounds::{BoundRows, Bounds};
+use bounds_law::{BoundRows, Bounds};
 use scaled_law::{bounds_beside_others_hold, masses_lie_beside_others, products_are_rounded_up};
 use std::alloc::Global;
 use units_law::products_are_rounded_down;

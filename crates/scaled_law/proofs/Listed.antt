@@ -18,7 +18,7 @@ use Rattle.gcl_core.specs.meaning.Syntax.{Expression, SourceProgram}
 use Rattle.gcl_core.specs.meaning.Value.{value_of}
 use Rattle.gcl_core.specs.weighing.Fractions.{Fraction, plus, AtMost}
 use Rattle.gcl_core.specs.weighing.Mass.{ends_in, mass_of, mass_of_those, round_mass}
-use Rattle.posterior_bounds.specs.Rows.{Rows, HasNone}
+use Rattle.bounds_law.specs.Rows.{Rows, HasNone}
 use Rattle.units_law.specs.Flows.{UnitFlow}
 use Rattle.units_law.specs.Holding.{AreOrdered, Enclose}
 use Rattle.units_law.specs.Rounds.{meant_units}

@@ -6,7 +6,7 @@ use Rattle.gcl_core.specs.meaning.Order.{is_before}
 use Rattle.gcl_core.specs.meaning.Outcomes.{same_outcome}
 use Rattle.gcl_core.specs.meaning.Syntax.{SourceProgram}
 use Rattle.gcl_core.specs.weighing.Fractions.{Fraction, plus, AtMost}
-use Rattle.posterior_bounds.specs.Rows.{Rows, outcomes_of}
+use Rattle.bounds_law.specs.Rows.{Rows, outcomes_of}
 use Rattle.units_law.specs.Between.{rounded_down, rounded_up}
 use Rattle.scaled_law.specs.Given.{least_of, most_of}
 use Rattle.scaled_law.specs.Scaled.{Scaled}

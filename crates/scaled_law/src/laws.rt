@@ -12,7 +12,7 @@ ghost use Rattle.gcl_core.specs.weighing.Mass.{round_mass, failed_mass};
 ghost use Rattle.table_flow.specs.Tables.{peak_of};
 ghost use Rattle.units_law.specs.Merged.{IsMerged, merged};
 ghost use Rattle.units_law.specs.Rounding.{Rounding, RoundsDown};
-ghost use Rattle.posterior_bounds.specs.Rows.{Rows};
+ghost use Rattle.bounds_law.specs.Rows.{Rows};
 ghost use Rattle.units_law.specs.Holding.{IsFor, AreOrdered, Enclose};
 ghost use Rattle.units_law.specs.Units.{held};
 ghost use Rattle.scaled_law.specs.Given.{least_of, most_of, AreWithin, AreEnough, LiesBetween};

@@ -16,7 +16,7 @@ use Rattle.gcl_core.specs.meaning.Syntax.{SourceProgram}
 use Rattle.gcl_core.specs.weighing.Fractions.{Fraction, zero_share, plus, times, power_sum, IsBelowOne, AtMost}
 use Rattle.gcl_core.specs.weighing.Mass.{round_mass, failed_mass}
 use Rattle.gcl_core.proofs.Accepted.{checked_weights}
-use Rattle.posterior_bounds.proofs.EqualFractions.{equal_below}
+use Rattle.bounds_law.proofs.EqualFractions.{equal_below}
 use Rattle.units_law.specs.Down.{down}
 use Rattle.units_law.specs.Flows.{all_units}
 use Rattle.units_law.specs.Rounding.{LosesFew}

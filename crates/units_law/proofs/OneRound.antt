@@ -15,7 +15,7 @@ use Rattle.gcl_core.specs.weighing.Mass.{sum_of, ends_in, is_failed, round_mass,
 use Rattle.gcl_core.specs.weighing.WeightedEnds.{weighted_ends}
 use Rattle.gcl_core.proofs.TreeWeights.{chi}
 use Rattle.weighing_law.proofs.Shares.{Share, counts_sum, sum_pos}
-use Rattle.posterior_bounds.proofs.Growth.{scale, scale_pos, growth, high_all, high_join, spared_meant, spared_failed}
+use Rattle.bounds_law.proofs.Growth.{scale, scale_pos, growth, high_all, high_join, spared_meant, spared_failed}
 
 share_rises : (N v v' : ℕ) (p q : Fraction) → 0 < N → Share N v p → Share N v' q → v ≤ v' → AtMost p q
 share_rises N v v' p q some e f h =

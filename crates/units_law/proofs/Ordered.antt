@@ -9,7 +9,7 @@ use Rattle.numbers.proofs.Divisors.{lowest_in_lowest, lowest_equal}
 use Rattle.gcl_core.specs.meaning.Outcomes.{same_outcome}
 use Rattle.gcl_core.specs.meaning.Syntax.{SourceProgram}
 use Rattle.gcl_core.specs.weighing.Fractions.{Fraction}
-use Rattle.posterior_bounds.specs.Rows.{Rows}
+use Rattle.bounds_law.specs.Rows.{Rows}
 use Rattle.weighing_law.proofs.Shares.{product_pos}
 use Rattle.units_law.specs.Enclosures.{whole_units, least_units, most_units, lost_units, upper_of_others, AreEnclosures}
 use Rattle.units_law.specs.Holding.{AreOrdered}

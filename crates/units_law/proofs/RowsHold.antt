@@ -14,8 +14,8 @@ use Rattle.gcl_core.specs.meaning.Outcomes.{same_outcome}
 use Rattle.gcl_core.specs.meaning.Syntax.{SourceProgram}
 use Rattle.gcl_core.specs.weighing.Fractions.{Fraction, AtMost}
 use Rattle.gcl_core.specs.weighing.Mass.{failed_mass, mass_of, mass_of_those}
-use Rattle.posterior_bounds.specs.Rows.{Rows, HasNone}
-use Rattle.posterior_bounds.proofs.EqualFractions.{equal_below, equal_above}
+use Rattle.bounds_law.specs.Rows.{Rows, HasNone}
+use Rattle.bounds_law.proofs.EqualFractions.{equal_below, equal_above}
 use Rattle.units_law.specs.Rounds.{StandsBelow}
 use Rattle.units_law.specs.SomeRounds.{in_rounds}
 use Rattle.units_law.specs.Between.{rounded_down, rounded_up}

@@ -19,7 +19,7 @@ use Rattle.gcl_core.specs.meaning.Syntax.{SourceProgram}
 use Rattle.gcl_core.specs.weighing.Fractions.{Fraction, plus, AtMost, IsBelowOne}
 use Rattle.gcl_core.specs.weighing.Mass.{is_failed, round_mass, failed_mass}
 use Rattle.gcl_core.proofs.TreeWeights.{chi}
-use Rattle.posterior_bounds.specs.Rows.{Rows}
+use Rattle.bounds_law.specs.Rows.{Rows}
 use Rattle.units_law.specs.Down.{down}
 use Rattle.units_law.specs.Flows.{UnitFlow, all_units}
 use Rattle.units_law.specs.Rounds.{StandsBelow, round_units}

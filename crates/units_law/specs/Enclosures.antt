@@ -8,7 +8,7 @@ use Rattle.gcl_core.specs.meaning.Order.{is_before}
 use Rattle.gcl_core.specs.meaning.Outcomes.{same_outcome}
 use Rattle.gcl_core.specs.meaning.Syntax.{SourceProgram}
 use Rattle.gcl_core.specs.weighing.Fractions.{Fraction}
-use Rattle.posterior_bounds.specs.Rows.{Rows, outcomes_of}
+use Rattle.bounds_law.specs.Rows.{Rows, outcomes_of}
 use Rattle.units_law.specs.Down.{down}
 use Rattle.units_law.specs.Rounds.{round_units, meant_units, failed_units}
 use Rattle.units_law.specs.Between.{whole, least, most, lost, rounded_down, rounded_up}

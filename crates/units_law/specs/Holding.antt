@@ -8,7 +8,7 @@ use Rattle.gcl_core.specs.meaning.Order.{is_before}
 use Rattle.gcl_core.specs.meaning.Syntax.{SourceProgram}
 use Rattle.gcl_core.specs.weighing.Fractions.{Fraction, plus, AtMost, IsBelowOne}
 use Rattle.gcl_core.specs.weighing.Mass.{failed_mass, mass_of, mass_of_those}
-use Rattle.posterior_bounds.specs.Rows.{Rows, HasNone, outcomes_of}
+use Rattle.bounds_law.specs.Rows.{Rows, HasNone, outcomes_of}
 
 -- the limits of turns that bounds are for: the n that they were made with, or it and every greater one
 abbrev pub IsFor : Bool → ℕ → ℕ → Type 0

@@ -7,7 +7,7 @@ ghost use Rattle.gcl_core.specs.meaning.Checked.{IsChecked};
 ghost use Rattle.gcl_core.specs.meaning.Syntax.{SourceProgram};
 ghost use Rattle.gcl_core.specs.weighing.Fractions.{Fraction, times, power, power_sum, AtMost, IsBelowOne, IsOne};
 ghost use Rattle.gcl_core.specs.weighing.Mass.{failed_mass};
-ghost use Rattle.posterior_bounds.specs.Rows.{Rows};
+ghost use Rattle.bounds_law.specs.Rows.{Rows};
 ghost use Rattle.units_law.specs.Down.{down};
 ghost use Rattle.units_law.specs.Rounding.{LosesFew};
 ghost use Rattle.units_law.specs.Roundings.{round_roundings};

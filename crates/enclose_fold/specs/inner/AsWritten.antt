@@ -5,7 +5,7 @@ use Rattle.gcl_core.specs.weighing.Fractions.{Fraction, AtMost, IsBelowOne, IsOn
 use Rattle.gcl_core.specs.weighing.Mass.{failed_mass}
 use Rattle.table_flow.specs.Tables.{peak_of}
 use Rattle.mass_fold.specs.declared.table.TheConstants.{MOST_STATES}
-use Rattle.posterior_bounds.specs.Rows.{Rows}
+use Rattle.bounds_law.specs.Rows.{Rows}
 use Rattle.units_law.specs.FewOthers.{HaveLittle, NearlyFails}
 use Rattle.units_law.specs.Holding.{IsFor, MayEnd, AreOrdered, Enclose, AreClose, most_apart}
 use Rattle.enclose_fold.specs.declared.error.EncloseError.{EncloseError}

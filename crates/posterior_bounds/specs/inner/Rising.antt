@@ -8,7 +8,7 @@ use Rattle.gcl_core.specs.meaning.Outcomes.{same_outcome, is_settled}
 use Rattle.mass_fold.specs.declared.error.MassError.{MassError}
 use Rattle.mass_fold.specs.declared.error.MassError.TheVariants.{TooWide, TooManyStates, AllFailed, OutOfMemory}
 use Rattle.mass_fold.specs.Rows as masses
-use Rattle.posterior_bounds.specs.Rows.{Rows}
+use Rattle.bounds_law.specs.Rows.{Rows}
 
 -- the mass in the row of an outcome, and nothing where it has none
 abbrev pub mass_in : Outcome → masses.Rows → Fraction

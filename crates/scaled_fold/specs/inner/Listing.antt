@@ -5,7 +5,7 @@ use Rattle.numbers.specs.declared.units.TheConstants.{ALL}
 use Rattle.gcl_core.specs.declared.answers.Outcome.{Outcome}
 use Rattle.gcl_core.specs.meaning.Order.{is_before}
 use Rattle.gcl_core.specs.weighing.Fractions.{Fraction}
-use Rattle.posterior_bounds.specs.Rows.{Rows}
+use Rattle.bounds_law.specs.Rows.{Rows}
 use Rattle.units_law.specs.Between.{rounded_down, rounded_up}
 use Rattle.units_law.specs.Enclosures.{counts}
 use Rattle.scaled_law.specs.Pairs.{Pair, Pairs, added}

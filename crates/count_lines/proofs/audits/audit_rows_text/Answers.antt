@@ -1,6 +1,6 @@
 use Rattle.std.proofs.Common.{◌≡◌, ◌∙◌, ◌+◌, ◌++◌, ap, drop}
 use Rattle.count_lines.specs.AuditLines.{share_of, audit_rows_text}
-use Rattle.mass_lines.proofs.RowByRow.{rows_go}
+use Rattle.report_text.proofs.RowByRow.{rows_go}
 use Rattle.report_text.specs.Lines.{mass_text}
 use Rattle.count_lines.proofs.audits.audit_rows_text.Goals as goal
 

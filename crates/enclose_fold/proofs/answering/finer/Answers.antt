@@ -1,7 +1,7 @@
 use Rattle.std.proofs.Common.{refl, subst}
 use Rattle.std.specs.Prelude.{IfSome, Option}
 use Rattle.gcl_core.specs.meaning.Views.{source_of}
-use Rattle.posterior_bounds.specs.declared.rows.Bounds.{Bounds}
+use Rattle.bounds_law.specs.declared.rows.Bounds.{Bounds}
 use Rattle.enclose_fold.specs.inner.AsWritten.{ArePaired}
 use Rattle.enclose_fold.proofs.Paired.{answers_finer}
 use Rattle.enclose_fold.proofs.answering.finer.Goals as goal

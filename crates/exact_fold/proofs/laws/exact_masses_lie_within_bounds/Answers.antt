@@ -1,4 +1,4 @@
-use Rattle.posterior_bounds.proofs.BoundsLaw.{bounds_hold}
+use Rattle.bounds_law.proofs.BoundsLaw.{bounds_hold}
 use Rattle.exact_fold.proofs.MassLimits.{lie_within}
 use Rattle.exact_fold.proofs.laws.exact_masses_lie_within_bounds.Goals as goal
 

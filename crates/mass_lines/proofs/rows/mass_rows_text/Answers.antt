@@ -3,7 +3,7 @@ use Rattle.report_text.specs.Lines.{mass_text}
 use Rattle.mass_lines.specs.MassLines.{mass_rows_text}
 use Rattle.mass_lines.specs.Narrow.{IsNarrow}
 use Rattle.mass_lines.proofs.NarrowRows.{one_more}
-use Rattle.mass_lines.proofs.RowByRow.{rows_go}
+use Rattle.report_text.proofs.RowByRow.{rows_go}
 use Rattle.mass_lines.proofs.rows.mass_rows_text.Goals as goal
 
 pub loop-i-preserved : goal.loop-i-preserved

@@ -1,6 +1,6 @@
 use Rattle.std.proofs.Common.{◌≡◌, ◌∙◌, Err, sym, subst, arith}
 use Rattle.gcl_core.specs.meaning.Views.{source_of}
-use Rattle.posterior_bounds.specs.Rows.{AreBoundsOf}
+use Rattle.bounds_law.specs.Rows.{AreBoundsOf}
 use Rattle.posterior_bounds.proofs.BoundsOfMasses.{others_is, are_bounds, rows_hold, raise_refused}
 use Rattle.posterior_bounds.proofs.bounding.bounds.Goals as goal
 

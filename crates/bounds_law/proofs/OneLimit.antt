@@ -13,8 +13,8 @@ use Rattle.gcl_core.proofs.TreeWeights.{chi}
 use Rattle.weighing_law.proofs.Shares.{Share, share-plus, counts_sum, sum_pos, product_pos}
 use Rattle.weighing_law.proofs.StatedMasses.{rest_share}
 use Rattle.weighing_law.proofs.WeightedLists.{Counts}
-use Rattle.posterior_bounds.specs.PosteriorBounds.{fails, given, ran_out, lower_of_those, upper_of_those, upper_of_others}
-use Rattle.posterior_bounds.specs.Holding.{AreBounds}
+use Rattle.bounds_law.specs.PosteriorBounds.{fails, given, ran_out, lower_of_those, upper_of_those, upper_of_others}
+use Rattle.bounds_law.specs.Holding.{AreBounds}
 
 -- what the ends of a round add up to at the scale N, of which `passed` did not fail
 pub record Sums (p : SourceProgram) (n N : ℕ) : Type 0 where

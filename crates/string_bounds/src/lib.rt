@@ -1,25 +1,22 @@
-// What more turns may bring.
+//! What the bounds of a program's masses say of the strings of bits that its runs read. The functions do nothing: their clauses are
+//! theorems about definitions.
+//!
+//! Proved: what the strings of bits of a run weigh lies between the bounds, but for what its limits weigh
+//! (`strings_lie_between_the_bounds`); and where the bound of all others goes to 0, any two runs come to weigh alike as limits grow
+//! (`runs_come_together`).
+//!
+//! No clause says that the bound of all others goes to 0.
+#![tactic(auto)]
 
 ghost use Rattle.std.specs.Prelude.{◌≡◌, ◌≤◌, ℕ, Bool, List};
 ghost use Rattle.gcl_core.specs.declared.answers.Answer.{Answer};
 ghost use Rattle.gcl_core.specs.declared.answers.Limits.{Limits};
-ghost use Rattle.gcl_core.specs.weighing.Fractions.{IsBelowOne};
 ghost use Rattle.gcl_core.specs.meaning.Checked.{IsChecked};
 ghost use Rattle.gcl_core.specs.meaning.Runs.{run_on};
 ghost use Rattle.gcl_core.specs.meaning.Syntax.{SourceProgram};
 ghost use Rattle.weighing_law.specs.LimitsCost.{MayPass};
-ghost use Rattle.posterior_bounds.specs.PosteriorBounds.{fails};
-ghost use Rattle.posterior_bounds.specs.ComingTogether.{OthersVanish, ComeTogether};
-ghost use Rattle.posterior_bounds.specs.Holding.{BoundsHold};
-ghost use Rattle.posterior_bounds.specs.StringBounds.{LiesBetween, AreNear};
-
-/// It does nothing: its clause is the law of the bounds, for every checked program, every limit of turns and every one of at
-/// least that at which a round fails with probability below 1, without limits of attempts and of rounds. At the greater limit the
-/// mass of a value or a fault lies between its bounds at the lesser one, both included, and the bounds at the greater limit lie
-/// within those at the lesser. They are as far apart for each outcome.
-pub fn more_turns_stay_within_the_bounds()
-    ensures { (p : SourceProgram) (n n' : ℕ) → IsChecked p → n ≤ n' → IsBelowOne (fails p n') → BoundsHold p n n' }
-{}
+ghost use Rattle.string_bounds.specs.ComingTogether.{OthersVanish, ComeTogether};
+ghost use Rattle.string_bounds.specs.StringBounds.{LiesBetween, AreNear};
 
 /// It does nothing: its clauses tie the bounds of n turns to strings of bits, for every checked program, all limits of at least n
 /// turns at which a round fails with probability below 1, and whatever answers on bits as the run of the program does. The

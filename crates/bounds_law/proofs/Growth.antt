@@ -21,8 +21,8 @@ use Rattle.weighing_law.proofs.EveryLength.{worth-all}
 use Rattle.weighing_law.proofs.WeightedLists.{Counts}
 use Rattle.weighing_law.proofs.WholeWeights.{Whole}
 use Rattle.weighing_law.proofs.PlayWeights.{AtSomeScale}
-use Rattle.posterior_bounds.proofs.EntrySums.{counts_join, whole_at}
-use Rattle.posterior_bounds.proofs.MoreTurns.{RanOut, Grows, grows_block}
+use Rattle.bounds_law.proofs.EntrySums.{counts_join, whole_at}
+use Rattle.bounds_law.proofs.MoreTurns.{RanOut, Grows, grows_block}
 
 -- ---- ends that are meant, that failed, and that ran out of turns
 module _ (result : Expression) (meant : Outcome → Bool) where

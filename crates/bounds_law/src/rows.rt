@@ -15,7 +15,7 @@ pub struct BoundRows {
 }
 
 impl Model for BoundRows {
-    ghost use Rattle.posterior_bounds.specs.Rows.{Rows};
+    ghost use Rattle.bounds_law.specs.Rows.{Rows};
 
     ghost Value = { Rows };
 

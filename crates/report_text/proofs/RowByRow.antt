@@ -2,7 +2,7 @@
 use Rattle.std.proofs.Common.{◌≡◌, ◌∙◌, ℕ, suc, zero, ◌+◌, ◌≤◌, List, [], ◌∷◌, ◌++◌, length, drop, Some, refl, sym, ap, arith, append_assoc}
 use Rattle.std.specs.List.{slice_get}
 use Rattle.std.proofs.lemmas.List.{append-nil}
-use Rattle.mass_lines.specs.RowLines.{rows_text}
+use Rattle.report_text.specs.RowLines.{rows_text}
 
 -- the rows from a place on begin with the row there
 rows_from : {A : Type 0} (line : A → List ℕ) (rows : List A) (i : ℕ) (row : A) → slice_get rows i ≡ Some row

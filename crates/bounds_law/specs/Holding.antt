@@ -9,7 +9,7 @@ use Rattle.gcl_core.specs.weighing.Fractions.{plus, AtMost, IsBelowOne}
 use Rattle.gcl_core.specs.weighing.Mass.{mass_of_those}
 use Rattle.gcl_core.specs.meaning.Outcomes.{same_outcome, is_settled}
 use Rattle.gcl_core.specs.meaning.Syntax.{SourceProgram}
-use Rattle.posterior_bounds.specs.PosteriorBounds.{fails, given, lower_of_those, upper_of_those, upper_of_others}
+use Rattle.bounds_law.specs.PosteriorBounds.{fails, given, lower_of_those, upper_of_those, upper_of_others}
 
 -- The bounds at n turns are fractions. Whatever is meant, they are as far apart as the bound of all others says.
 pub record AreBounds (p : SourceProgram) (n : ℕ) (meant : Outcome → Bool) : Type 0 where

@@ -10,7 +10,7 @@ use Rattle.gcl_core.specs.weighing.StringWeight.{outcome_weight}
 use Rattle.weighing_law.specs.LimitsCost.{cut_off}
 use Rattle.weighing_law.specs.Weighing.{Suffices}
 use Rattle.many_runs.specs.Fronts.{undecided}
-use Rattle.posterior_bounds.specs.PosteriorBounds.{given, lower_of, upper_of, upper_of_others}
+use Rattle.bounds_law.specs.PosteriorBounds.{given, lower_of, upper_of, upper_of_others}
 
 -- what an outcome weighs at L bits, of all
 abbrev pub weight_at : (List Bool → Answer) → Outcome → ℕ → Fraction

@@ -16,13 +16,13 @@ use Rattle.weighing_law.proofs.Shares.{counts_sum, sum_pos, product_pos}
 use Rattle.weighing_law.proofs.StatedMasses.{fails_in_part}
 use Rattle.weighing_law.proofs.Fractions.{at_most_then, at_most_plus}
 use Rattle.weighing_law.proofs.CutOffLaw.{cut_off_vanishes}
-use Rattle.posterior_bounds.specs.ComingTogether.{OthersVanish, ComeTogether}
-use Rattle.posterior_bounds.specs.PosteriorBounds.{fails, upper_of_others}
-use Rattle.posterior_bounds.specs.StringBounds.{weight_at}
-use Rattle.posterior_bounds.proofs.BoundsLaw.{bounds_hold, share_below_one}
-use Rattle.posterior_bounds.proofs.Growth.{scale, scale_pos, growth, gains}
-use Rattle.posterior_bounds.proofs.OneLimit.{Sums, others_share, lower_pos}
-use Rattle.posterior_bounds.proofs.StringBounds.{are_near}
+use Rattle.string_bounds.specs.ComingTogether.{OthersVanish, ComeTogether}
+use Rattle.bounds_law.specs.PosteriorBounds.{fails, upper_of_others}
+use Rattle.string_bounds.specs.StringBounds.{weight_at}
+use Rattle.bounds_law.proofs.BoundsLaw.{bounds_hold, share_below_one}
+use Rattle.bounds_law.proofs.Growth.{scale, scale_pos, growth, gains}
+use Rattle.bounds_law.proofs.OneLimit.{Sums, others_share, lower_pos}
+use Rattle.string_bounds.proofs.StringBounds.{are_near}
 
 -- ---- where all others have at most half, a round fails in part at more turns too
 half_left : (u M q0 q1 : ℕ) → 0 < q1 → q1 * u ≡ q0 * M → q0 * 2 ≤ 1 * q1 → 2 * u ≤ M

@@ -6,7 +6,7 @@ use Rattle.gcl_core.specs.declared.syntax.BinOp.TheVariants as op
 use Rattle.gcl_core.specs.weighing.Fractions.{Fraction, IsOne}
 use Rattle.gcl_core.specs.meaning.Syntax.{Num, Var, Bin, Set, While, Choice, Uniform, Observe, done, ◌▸◌, SourceProgram}
 use Rattle.weighing_law.proofs.WorkedPrograms.{one_of_two_coins, geometric, weight}
-use Rattle.posterior_bounds.specs.PosteriorBounds.{fails, lower_of, upper_of, upper_of_others}
+use Rattle.bounds_law.specs.PosteriorBounds.{fails, lower_of, upper_of, upper_of_others}
 
 abbrev Is : Fraction → ℕ → ℕ → Type 0
 Is m a b = m.0 * b ≡ a * m.1

@@ -8,7 +8,7 @@ use Rattle.gcl_core.specs.weighing.Mass.{mass_of}
 use Rattle.gcl_core.specs.meaning.Order.{is_before}
 use Rattle.gcl_core.specs.meaning.Outcomes.{same_outcome, is_settled}
 use Rattle.gcl_core.specs.meaning.Syntax.{SourceProgram}
-use Rattle.posterior_bounds.specs.PosteriorBounds.{given, lower_of, upper_of, upper_of_others}
+use Rattle.bounds_law.specs.PosteriorBounds.{given, lower_of, upper_of, upper_of_others}
 
 -- an outcome, its lower bound and its upper bound
 abbrev pub Rows : Type 0

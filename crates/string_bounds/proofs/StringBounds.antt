@@ -16,13 +16,13 @@ use Rattle.weighing_law.proofs.LimitsLaw.{limits_cost}
 use Rattle.weighing_law.proofs.Shares.{product_pos}
 use Rattle.weighing_law.proofs.WeighingLaw.{weighs_exactly}
 use Rattle.weighing_law.proofs.Fractions.{at_most_then, at_most_plus}
-use Rattle.posterior_bounds.specs.PosteriorBounds.{lower_of, upper_of, upper_of_others}
-use Rattle.posterior_bounds.specs.Holding.{IsBounded, BoundsHold}
-use Rattle.posterior_bounds.proofs.BoundsLaw.{bounds_hold}
+use Rattle.bounds_law.specs.PosteriorBounds.{lower_of, upper_of, upper_of_others}
+use Rattle.bounds_law.specs.Holding.{IsBounded, BoundsHold}
+use Rattle.bounds_law.proofs.BoundsLaw.{bounds_hold}
 use Rattle.many_runs.specs.Fronts.{undecided}
 use Rattle.many_runs.proofs.Undecided.{falls_short}
-use Rattle.posterior_bounds.specs.StringBounds.{weight_at, rest_at, LiesBetween, AreNear}
-use Rattle.posterior_bounds.proofs.Between.{share_below, share_above, share_above_parts, equal_at_most}
+use Rattle.string_bounds.specs.StringBounds.{weight_at, rest_at, LiesBetween, AreNear}
+use Rattle.bounds_law.proofs.Between.{share_below, share_above, share_above_parts, equal_at_most}
 
 -- a value or a fault is cut off by no limit
 not_cut : (x : Outcome) → is_settled x ≡ true → is_cut_off x ≡ false

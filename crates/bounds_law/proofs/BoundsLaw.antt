@@ -14,10 +14,10 @@ use Rattle.gcl_core.specs.meaning.Syntax.{SourceProgram}
 use Rattle.gcl_core.proofs.TreeWeights.{chi}
 use Rattle.weighing_law.proofs.Shares.{Share, counts_sum, sum_pos, product_pos}
 use Rattle.weighing_law.proofs.StatedMasses.{fails_in_part}
-use Rattle.posterior_bounds.specs.PosteriorBounds.{fails, given, ran_out, lower_of_those, upper_of_those, upper_of_others}
-use Rattle.posterior_bounds.specs.Holding.{IsBounded, BoundsHold}
-use Rattle.posterior_bounds.proofs.Growth.{Gains, scale, scale_pos, growth, gains}
-use Rattle.posterior_bounds.proofs.OneLimit.{Sums, sum_of_those, sum_of_turns, lower_share, upper_share, others_share, given_pos, lower_pos, are_bounds}
+use Rattle.bounds_law.specs.PosteriorBounds.{fails, given, ran_out, lower_of_those, upper_of_those, upper_of_others}
+use Rattle.bounds_law.specs.Holding.{IsBounded, BoundsHold}
+use Rattle.bounds_law.proofs.Growth.{Gains, scale, scale_pos, growth, gains}
+use Rattle.bounds_law.proofs.OneLimit.{Sums, sum_of_those, sum_of_turns, lower_share, upper_share, others_share, given_pos, lower_pos, are_bounds}
 
 -- ---- shares of two wholes
 shares_at_most : (M v M' v' : ℕ) (p q : Fraction) → Share M v p → Share M' v' q → 0 < M → 0 < M' → v * M' ≤ v' * M → AtMost p q

@@ -9,9 +9,9 @@ use Rattle.gcl_core.specs.meaning.Syntax.{SourceProgram}
 use Rattle.gcl_core.specs.weighing.Fractions.{plus, AtMost, IsBelowOne}
 use Rattle.weighing_law.specs.Weighing.{Suffices}
 use Rattle.weighing_law.specs.CutOff.{enough_attempts, enough_rounds}
-use Rattle.posterior_bounds.specs.PosteriorBounds.{fails, upper_of_others}
+use Rattle.bounds_law.specs.PosteriorBounds.{fails, upper_of_others}
 use Rattle.gcl_core.specs.meaning.Outcomes.{is_settled}
-use Rattle.posterior_bounds.specs.StringBounds.{weight_at}
+use Rattle.string_bounds.specs.StringBounds.{weight_at}
 
 -- the bound of all others goes to 0: for each k it is at most 1 / k at some limit of turns, at which a round fails with
 -- probability below 1

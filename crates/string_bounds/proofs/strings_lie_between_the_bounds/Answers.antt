@@ -1,5 +1,5 @@
-use Rattle.posterior_bounds.proofs.StringBounds.{lies_between, are_near}
-use Rattle.posterior_bounds.proofs.laws.strings_lie_between_the_bounds.Goals as goal
+use Rattle.string_bounds.proofs.StringBounds.{lies_between, are_near}
+use Rattle.string_bounds.proofs.strings_lie_between_the_bounds.Goals as goal
 
 pub returns-clause-between : goal.returns-clause-between
 returns-clause-between c = λ p l run n ok same passes le. lies_between p l run ok same passes n le

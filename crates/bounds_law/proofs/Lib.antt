@@ -1,0 +1,9 @@
+pub mod MoreTurns
+pub mod EntrySums
+pub mod Growth
+pub mod OneLimit
+pub mod BoundsLaw
+pub mod EqualFractions
+pub mod Contained
+pub mod Between
+pub mod WorkedBounds

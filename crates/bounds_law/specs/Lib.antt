@@ -1,0 +1,3 @@
+pub mod PosteriorBounds
+pub mod Holding
+pub mod Rows

@@ -1,0 +1,2 @@
+pub mod StringBounds
+pub mod ComingTogether
