@@ -6,5 +6,5 @@ pub mod Arms
 pub mod Turns
 pub mod Forever
 pub mod Programs
-pub mod AtOnce
+pub mod EndedRounds
 pub mod NoLoops

@@ -1,5 +1,5 @@
 -- Why it is not said what is read on average where nothing is limited. This project's own rule.
-use Rattle.std.specs.Prelude.{ℕ, ◌+◌, ◌*◌, ◌<◌, List, map, None}
+use Rattle.std.specs.Prelude.{◌⊎◌, ℕ, ◌+◌, ◌*◌, ◌<◌, List, map, None}
 use Rattle.numbers.specs.Fraction.{Overfills}
 use Rattle.gcl_core.specs.meaning.Draw.{last_end}
 use Rattle.gcl_core.specs.meaning.Syntax.{SourceProgram}
@@ -11,7 +11,8 @@ use Rattle.table_flow.specs.Tables.{peak_of}
 use Rattle.table_flow.specs.Width.{round_width, common_denominator}
 use Rattle.mass_fold.specs.declared.table.TheConstants.{MOST_STATES}
 use Rattle.forgetting.specs.Forgetful.{forgetful_of}
-use Rattle.exact_fold.specs.Refused.{HasNoLoop}
+use Rattle.exact_fold.specs.Refused.{HasNoLoop, HasLoops, GoesBeyond}
+use Rattle.exact_fold.specs.declared.program.TheConstants.{TURNS_TRIED}
 use Rattle.bits_law.specs.Draws.{bits_of_draws}
 use Rattle.bits_fold.specs.declared.error.BitsError.{BitsError}
 use Rattle.bits_fold.specs.declared.error.BitsError.TheVariants.{TooWide, TooManyStates, NotFound, OutOfMemory}
@@ -20,18 +21,22 @@ use Rattle.bits_fold.specs.declared.error.BitsError.TheVariants.{TooWide, TooMan
 abbrev pub number_weights : ReachedDraws → List Fraction
 number_weights D = map (λ e. class_weight (last_end e.1) None 1) D
 
--- the common denominator of a round, times that of the numbers of the draws that it reaches
-abbrev pub bit_parts : SourceProgram → ℕ
-bit_parts p = round_width p 1 None * common_denominator (number_weights (draws_of p 1 None))
+-- at a limit of n turns: the common denominator of a round, times that of the numbers of the draws that it reaches
+abbrev pub bit_parts : SourceProgram → ℕ → ℕ
+bit_parts p n = round_width p n None * common_denominator (number_weights (draws_of p n None))
 
 -- so many of these parts are one bit, and what a round reads
-abbrev pub bits_width : SourceProgram → ℕ
-bits_width p = bit_parts p + whole (bit_parts p) (bits_of_draws (draws_of p 1 None))
+abbrev pub bits_width : SourceProgram → ℕ → ℕ
+bits_width p n = bit_parts p n + whole (bit_parts p n) (bits_of_draws (draws_of p n None))
 
--- Of a program without a loop, at a limit of one turn: the width of the bits of its forgetful program is 2^128 or more, or some point
--- of that is reached with too many states. What is not found is a loop's. With a loop no more is said.
+-- At 256 turns the width of the bits is 2^128 or more, or masses are refused, or some run has not ended.
+abbrev pub ReadsBeyond : SourceProgram → Type 0
+ReadsBeyond p = Overfills (bits_width p TURNS_TRIED) ⊎ GoesBeyond p
+
+-- Without a loop, at a limit of one turn: the width of the bits of the forgetful program is 2^128 or more, or some point of it is reached
+-- with too many states; what is not found is a loop's. With a loop, at 256 turns: the forgetful program goes beyond.
 abbrev pub BitsRefused : SourceProgram → BitsError → Type 0
-BitsRefused p TooWide = HasNoLoop p → Overfills (bits_width (forgetful_of p))
-BitsRefused p TooManyStates = HasNoLoop p → MOST_STATES < peak_of (forgetful_of p) 1 None
-BitsRefused p NotFound = HasNoLoop p → ⊥
+BitsRefused p TooWide = (HasNoLoop p → Overfills (bits_width (forgetful_of p) 1)) × (HasLoops p → ReadsBeyond (forgetful_of p))
+BitsRefused p TooManyStates = (HasNoLoop p → MOST_STATES < peak_of (forgetful_of p) 1 None) × (HasLoops p → ReadsBeyond (forgetful_of p))
+BitsRefused p NotFound = (HasNoLoop p → ⊥) × (HasLoops p → ReadsBeyond (forgetful_of p))
 BitsRefused p OutOfMemory = Unit {0}

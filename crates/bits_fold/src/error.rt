@@ -18,14 +18,13 @@ pub enum BitsError {
 }
 
 impl From<MassError> for BitsError {
-    ghost use Rattle.std.specs.Prelude.{None};
+    ghost use Rattle.std.specs.Prelude.{ℕ, None};
     ghost use Rattle.gcl_core.specs.meaning.Checked.{IsChecked};
     ghost use Rattle.gcl_core.specs.meaning.Syntax.{SourceProgram};
     ghost use Rattle.mass_fold.specs.Refused.{RoundRefused};
-    ghost use Rattle.exact_fold.specs.Refused.{HasNoLoop};
-    ghost use Rattle.bits_fold.specs.inner.AsWritten.{RefusedAsWritten};
+    ghost use Rattle.bits_fold.specs.inner.AsWritten.{RefusedAt};
 
-    ghost from_gives = { λ f e. (p : SourceProgram) → IsChecked p → HasNoLoop p → RoundRefused f p 1 None → RefusedAsWritten p e };
+    ghost from_gives = { λ f e. (p : SourceProgram) (n : ℕ) → IsChecked p → RoundRefused f p n None → RefusedAt p n e };
 
     fn from(error: MassError) -> Self {
         match error {
@@ -39,13 +38,6 @@ impl From<MassError> for BitsError {
 }
 
 impl From<SettleError> for BitsError {
-    ghost use Rattle.gcl_core.specs.meaning.Syntax.{SourceProgram};
-    ghost use Rattle.std.specs.Prelude.{◌≡◌, true};
-    ghost use Rattle.exact_fold.specs.Loops.{any_loops};
-    ghost use Rattle.bits_fold.specs.inner.AsWritten.{RefusedAsWritten};
-
-    ghost from_gives = { λ _ e. (p : SourceProgram) → any_loops p.body ≡ true → RefusedAsWritten p e };
-
     fn from(error: SettleError) -> Self {
         match error {
             SettleError::TooWide => BitsError::TooWide,

@@ -3,13 +3,13 @@
 ghost use Rattle.std.specs.Prelude.{◌≡◌, true, IfOk, IfErr, IfSome, IfNone};
 ghost use Rattle.gcl_core.specs.meaning.Views.{source_of};
 ghost use Rattle.exact_fold.specs.Exact.{FailsWith};
-ghost use Rattle.exact_fold.specs.Loops.{any_loops};
-ghost use Rattle.exact_fold.specs.Refused.{HasNoLoop};
+ghost use Rattle.exact_fold.specs.Refused.{HasNoLoop, HasLoops};
 ghost use Rattle.bits_fold.specs.Expected.{IsAnswer};
 ghost use Rattle.bits_fold.specs.Refused.{BitsRefused};
 ghost use Rattle.bits_fold.specs.inner.AsWritten.{RefusedAsWritten, RoundsBlame};
 ghost use Rattle.bits_fold.specs.inner.Reading.{ReadsInRound};
 
+use crate::ended::{bits_at, tried};
 use crate::error::BitsError;
 use crate::reading::read_program;
 use crate::stop::Stop;
@@ -20,7 +20,6 @@ use bits_law::{
 use exact_fold::{block_loops, failed_in_the_limit};
 use forgetting::{forgetful, forgetting_costs_nothing};
 use gcl_core::Checked;
-use mass_fold::round_bits;
 use numbers::Frac;
 use std::alloc::Global;
 
@@ -34,7 +33,7 @@ pub enum Bits {
 }
 
 // What is expected of rounds that read so many bits each and fail with this weight; none where it does not fit.
-fn over_rounds(p: &Checked, read: &Frac, failed: &Frac) -> Option<Bits>
+pub fn over_rounds(p: &Checked, read: &Frac, failed: &Frac) -> Option<Bits>
     requires reads { ReadsInRound (source_of p.now) read.now }
     requires fails { FailsWith (source_of p.now) failed.now }
     ensures answer { IfSome result (IsAnswer (source_of p.now)) }
@@ -62,9 +61,7 @@ fn over_rounds(p: &Checked, read: &Frac, failed: &Frac) -> Option<Bits>
 
 // A program with a loop: what its body reads is looked for.
 fn bits_of_loops(alloc: Global, p: &Checked) -> Result<Bits, BitsError>
-    requires { any_loops (source_of p.now).body ≡ true }
-    ensures answer { IfOk result (IsAnswer (source_of p.now)) }
-    ensures refused { IfErr result (RefusedAsWritten (source_of p.now)) }
+    ensures { IfOk result (IsAnswer (source_of p.now)) }
 {
     p.is_kept();
     bits_that_are_read_for_ever_have_no_bound();
@@ -80,21 +77,28 @@ fn bits_of_loops(alloc: Global, p: &Checked) -> Result<Bits, BitsError>
     }
 }
 
+// A program with a loop.
+fn bits_in_loops(alloc: Global, p: &Checked) -> Result<Bits, BitsError>
+    requires { HasLoops (source_of p.now) }
+    ensures answer { IfOk result (IsAnswer (source_of p.now)) }
+    ensures refused { IfErr result (RefusedAsWritten (source_of p.now)) }
+{
+    match bits_of_loops(alloc, p) {
+        Ok(bits) => Ok(bits),
+        Err(BitsError::TooWide) => tried(alloc, p, BitsError::TooWide),
+        Err(BitsError::TooManyStates) => tried(alloc, p, BitsError::TooManyStates),
+        Err(BitsError::NotFound) => tried(alloc, p, BitsError::NotFound),
+        Err(BitsError::OutOfMemory) => Err(BitsError::OutOfMemory),
+    }
+}
+
 // A program without a loop: what its body reads at one turn.
 fn bits_at_once(alloc: Global, p: &Checked) -> Result<Bits, BitsError>
     requires { HasNoLoop (source_of p.now) }
     ensures answer { IfOk result (IsAnswer (source_of p.now)) }
     ensures refused { IfErr result (RefusedAsWritten (source_of p.now)) }
 {
-    p.is_kept();
-    let (read, failed) = round_bits(alloc, p, 1, None)?;
-    match read {
-        None => Err(BitsError::TooWide),
-        Some(read) => match over_rounds(p, &read, &failed) {
-            None => Err(BitsError::TooWide),
-            Some(bits) => Ok(bits),
-        },
-    }
+    bits_at(alloc, p, 1)
 }
 
 // The bits that a run of the program itself reads, before anything is forgotten.
@@ -103,7 +107,7 @@ fn bits_as_written(alloc: Global, p: &Checked) -> Result<Bits, BitsError>
     ensures refused { IfErr result (RefusedAsWritten (source_of p.now)) }
 {
     if block_loops(&p.program().body) {
-        bits_of_loops(alloc, p)
+        bits_in_loops(alloc, p)
     } else {
         bits_at_once(alloc, p)
     }
@@ -120,8 +124,10 @@ fn bits_as_written(alloc: Global, p: &Checked) -> Result<Bits, BitsError>
 ///
 /// A program without a loop is worked out by the tables of one turn of its forgetful program: it is refused as too wide only where the
 /// width of that program's bits is 2^128 or more, and for its states only where some point of it is reached with more than
-/// [`mass_fold::MOST_STATES`]. Of a program with a loop no clause says that it has an answer: a call that refused each of these as too
-/// wide would keep this contract. What is tried is a table of programs, in the tests.
+/// [`mass_fold::MOST_STATES`]. Where a loop's visits are not found, what is read at [`exact_fold::TURNS_TRIED`] turns is the answer
+/// if every run has ended by then. So a program with a loop is refused only where at so many turns bits are too wide, or of too many
+/// states, or some run goes on. No clause says that loops which go on longer have an answer: what is tried is a table of programs, in
+/// the tests.
 pub fn cost_in_the_limit(alloc: Global, p: &Checked) -> Result<Bits, BitsError>
     ensures answer { IfOk result (IsAnswer (source_of p.now)) }
     ensures refused { IfErr result (BitsRefused (source_of p.now)) }

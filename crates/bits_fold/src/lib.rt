@@ -2,15 +2,16 @@
 //! from which it reads for ever, and turns of the loop check what was found.
 //!
 //! Proved: `cost_in_the_limit` answers what the expected bits under limits come to as all limits grow, or that they have no bound
-//! (`answer`). But for want of memory a program without a loop is refused only for a cause that holds of its forgetful program: the
-//! width of its bits is 2^128 or more, or a point has more than 65,536 states (`refused`).
+//! (`answer`). But for want of memory a program is refused only for a cause that holds of its forgetful program (`refused`): without a
+//! loop the width of its bits is 2^128 or more, or a point has more than 65,536 states; with a loop that is so at 256 turns, or some
+//! run has not ended there.
 //!
-//! No clause says that a program with a loop has an answer: a call that refused each of these as too wide would keep the contract,
-//! and tests alone show that it does not. Such a program is refused where what was found of a loop does not pass its check, and where
-//! a fraction is too wide or states are too many. No clause says that memory or the stack suffices, or how long a call takes.
+//! So no clause says that loops which go on longer have an answer: a call that refused each of these as too wide would keep the
+//! contract, and tests alone show that it does not. No clause says that memory or the stack suffices, or how long a call takes.
 #![tactic(auto)]
 
 mod draws;
+mod ended;
 mod error;
 mod expected;
 mod finding;

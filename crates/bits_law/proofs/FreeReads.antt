@@ -33,17 +33,17 @@ nothing_plus (a, b) = pair_is a b (0 * b + a * 1) (1 * b) (omega arith) (omega a
 plus_assoc : (p q r : Fraction) → plus p (plus q r) ≡ plus (plus p q) r
 plus_assoc p q r = pair_is _ _ _ _ (omega arith) (omega arith)
 
-draws_both : (D E : ReachedDraws) → bits_of_draws (D ++ E) ≡ plus (bits_of_draws D) (bits_of_draws E)
+pub draws_both : (D E : ReachedDraws) → bits_of_draws (D ++ E) ≡ plus (bits_of_draws D) (bits_of_draws E)
 draws_both [] E = nothing_plus (bits_of_draws E)
 draws_both (e ∷ D) E =
     let x = times e.0 (bits_of_draw None e.1) in
     ap (plus x) (draws_both D E) ∙ plus_assoc x (bits_of_draws D) (bits_of_draws E)
 
-draws_three : (D E M : ReachedDraws) → bits_of_draws (D ++ (E ++ M)) ≡ plus (bits_of_draws D) (plus (bits_of_draws E) (bits_of_draws M))
+pub draws_three : (D E M : ReachedDraws) → bits_of_draws (D ++ (E ++ M)) ≡ plus (bits_of_draws D) (plus (bits_of_draws E) (bits_of_draws M))
 draws_three D E M = draws_both D (E ++ M) ∙ ap (plus (bits_of_draws D)) (draws_both E M)
 
 -- it comes to a table as it stands
-comes : (J : Table) (bits read : Fraction) → Positive J → bits ≡ read → 0 < read.1 → Comes J bits J read
+pub comes : (J : Table) (bits read : Fraction) → Positive J → bits ≡ read → 0 < read.1 → Comes J bits J read
 comes J bits read h e some = record {
   next = alike_itself J h;
   equal = subst (λ x. IsEqual x read) (sym e) refl;

@@ -13,3 +13,5 @@ pub mod NoBound
 pub mod OneFraction
 pub mod WorkedBits
 pub mod FreeReads
+pub mod LimitedDraws
+pub mod EndedReads

@@ -154,7 +154,7 @@ average_is f [] h = of_zero 1
 average_is f (e ∷ m) h =
     same_trans (of_plus (times e.0 (f e.1)) (on_average m f) (product_pos e.0.1 (f e.1).1 h.0 h.1) (average_some f m h.2)) (add_same (of_times e.0 (f e.1)) (average_is f m h.2))
 
-each_counted : (ends : List ℕ) → 0 < last_end ends → (I : Table) → Positive I → Counted (bits_of_draw None) (drawn_each ends I)
+pub each_counted : (ends : List ℕ) → 0 < last_end ends → (I : Table) → Positive I → Counted (bits_of_draw None) (drawn_each ends I)
 each_counted ends some [] p = tt
 each_counted ends some (e ∷ I) p = (p.0, draw_some ends some, each_counted ends some I p.1)
 
@@ -173,7 +173,7 @@ module _ (ends : List ℕ) (some : 0 < last_end ends) (I : Table) (p : Positive 
 abbrev pub bound_reads : Value → Rational
 bound_reads v = by_value v (λ f. nought) (λ z. by_bound z nought (λ m. of (bits_of_draw None (uniform_ends m))))
 
-bound_counted : (v : State → Value) (I : Table) → Positive I → Counted (bits_of_draw None) (drawn_bound v I)
+pub bound_counted : (v : State → Value) (I : Table) → Positive I → Counted (bits_of_draw None) (drawn_bound v I)
 bound_counted v [] p = tt
 bound_counted v (e ∷ I) p = by (v e.1) (bound_counted v I p.1)
   where

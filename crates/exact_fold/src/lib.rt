@@ -34,4 +34,4 @@ pub use laws::{
 pub use loops::block_loops;
 pub use masses::exact;
 pub use parts::MOST_PARTS;
-pub use program::{ExactMasses, TURNS_TRIED, failed_in_the_limit};
+pub use program::{ExactMasses, TURNS_TRIED, failed_in_the_limit, weight_of};

@@ -153,8 +153,8 @@ fn settled(alloc: Global, program: &Checked) -> Result<ExactMasses, ExactError>
     Ok(masses)
 }
 
-// The weight in the row of an outcome.
-fn weight_of(rows: &FracRows, x: Outcome) -> Option<Frac>
+/// The weight in the row of an outcome, or none where no row has it.
+pub fn weight_of(rows: &FracRows, x: Outcome) -> Option<Frac>
     ensures found { IfSome result (λ f. Contains rows.now (x, f)) }
     ensures none { IfNone result ((f : Fraction) → Contains rows.now (x, f) → ⊥) }
 {

@@ -32,7 +32,7 @@ abbrev pub Suffice : Weighted End → Type 0
 Suffice ended = sum_of_all out_of_turns ended ≡ 0
 
 -- ---- parts of two tables
-only_append : (test : State → Bool) (I J : Table) → only test (I ++ J) ≡ only test I ++ only test J
+pub only_append : (test : State → Bool) (I J : Table) → only test (I ++ J) ≡ only test I ++ only test J
 only_append test [] J = refl
 only_append test (e ∷ I) J = by (test e.1) (only_append test I J)
   where
@@ -84,10 +84,10 @@ module _ (n : ℕ) (v : State → Value) (a : Statements) where
   visits_positive keeps zero J h = h
   visits_positive keeps (suc t) J h = p_append J (visits t (turn J)) h (visits_positive keeps t (turn J) (keeps (only (holds v) J) (p_only (holds v) J h)))
 
-  turn_adds : (G : Fraction → State → ℕ) → Zero G → (I J : Table) → sum_of_all G (turn (I ++ J)) ≡ sum_of_all G (turn I) + sum_of_all G (turn J)
+  pub turn_adds : (G : Fraction → State → ℕ) → Zero G → (I J : Table) → sum_of_all G (turn (I ++ J)) ≡ sum_of_all G (turn I) + sum_of_all G (turn J)
   turn_adds G z I J = ap (λ K. sum_of_all G (block_flow n None a K).next) (only_append (holds v) I J) ∙ next_adds n a G z (only (holds v) I) (only (holds v) J)
 
-  ends_add : (F : Fraction → End → ℕ) → Zero F → (I J : Table) → sum_of_all F (ends (I ++ J)) ≡ sum_of_all F (ends I) + sum_of_all F (ends J)
+  pub ends_add : (F : Fraction → End → ℕ) → Zero F → (I J : Table) → sum_of_all F (ends (I ++ J)) ≡ sum_of_all F (ends I) + sum_of_all F (ends J)
   ends_add F z I J = ap (λ K. sum_of_all F (block_flow n None a K).ended) (only_append (holds v) I J) ∙ ended_adds n a F z (only (holds v) I) (only (holds v) J)
 
   -- ---- whatever is left at the last turn

@@ -1,7 +1,7 @@
 use Rattle.std.proofs.Common.{◌≡◌, ◌-◌, ◌≤◌, ◌<◌, ◌∙◌, sym, ap, subst, arith}
 use Rattle.numbers.specs.Fraction.{IsEqual}
 use Rattle.gcl_core.specs.meaning.Views.{source_of}
-use Rattle.bits_fold.proofs.AtOnce.{rounds_blame}
+use Rattle.bits_fold.proofs.EndedRounds.{rounds_blame}
 use Rattle.bits_fold.proofs.Programs.{all_fail, nothing_read, bits_read}
 use Rattle.bits_fold.proofs.expected.over_rounds.Goals as goal
 

@@ -1,31 +1,34 @@
--- A program without a loop: what a round of merged tables reads and fails with, and why its bits are refused.
-use Rattle.std.proofs.Common.{◌≡◌, ℕ, suc, ◌+◌, ◌-◌, ◌*◌, ◌/◌, ◌%◌, ◌^◌, ◌≤◌, ◌<◌, cond, List, [], ◌∷◌, Option, Some, None, length, refl, sym, ap, ◌∙◌, arith}
+-- A program whose runs have all ended by some number of turns: what a round of merged tables reads and fails with there, and why its bits
+-- are refused.
+use Rattle.std.proofs.Common.{◌≡◌, ℕ, zero, suc, ◌+◌, ◌-◌, ◌*◌, ◌/◌, ◌%◌, ◌^◌, ◌≤◌, ◌<◌, cond, List, [], ◌∷◌, Option, Some, None, length, refl, sym, ap, ◌∙◌, arith}
 use Rattle.std.proofs.Math.Nat.{lt_of_mul-lt-mul_left, mul-le-mul_left, mul-lt-mul_of_pos_right}
 use Rattle.std.proofs.lemmas.Nat.{div-add-mod', mod_below}
 use Rattle.std.proofs.lemmas.Nat.Gcd.{dvd_refl}
 use Rattle.numbers.specs.Arithmetic.{product_of}
 use Rattle.numbers.specs.Fraction.{IsEqual, lowest}
 use Rattle.numbers.proofs.Divisors.{product_pos, cancel, equal_trans, lowest_equal}
+use Rattle.gcl_core.specs.declared.answers.Limit.TheVariants.{Turns}
+use Rattle.gcl_core.specs.declared.answers.Outcome.TheVariants as outcome
 use Rattle.gcl_core.specs.meaning.Blocks.{End, on, failed, fault, limit}
 use Rattle.gcl_core.specs.meaning.Bounds.{BlockIsWeighed}
 use Rattle.gcl_core.specs.meaning.Checked.{IsChecked}
 use Rattle.gcl_core.specs.meaning.Draw.{bits_for, last_end, rejected_numbers}
-use Rattle.gcl_core.specs.meaning.Outcomes.{zeros}
+use Rattle.gcl_core.specs.meaning.Outcomes.{same_outcome, zeros}
 use Rattle.gcl_core.specs.meaning.Syntax.{SourceProgram}
 use Rattle.gcl_core.specs.weighing.Fractions.{Fraction}
-use Rattle.gcl_core.specs.weighing.Mass.{sum_of, is_failed, failed_mass}
+use Rattle.gcl_core.specs.weighing.Mass.{sum_of, is_failed, round_mass, mass_of, failed_mass}
 use Rattle.gcl_core.specs.weighing.WeightedEnds.{Weighted, sure}
 use Rattle.gcl_core.proofs.Accepted.{checked_weights}
 use Rattle.cost_law.specs.ExpectedBits.{attempt_bits}
 use Rattle.table_flow.specs.Reached.{ReachedDraws, draws_of}
 use Rattle.table_flow.specs.Scale.{whole, Whole, AllWhole, Wholes, WholeAtWidth, amount}
-use Rattle.table_flow.specs.Tables.{Table, tables_of, peak_of}
+use Rattle.table_flow.specs.Tables.{Table, Flow, tables_of, peak_of}
 use Rattle.table_flow.specs.Width.{round_width, common_denominator}
 use Rattle.table_flow.proofs.AtWidth.{at_width}
 use Rattle.table_flow.proofs.Denominators.{AllPositive, common_positive, wholes_at}
 use Rattle.table_flow.proofs.Linear.{sum_amount}
 use Rattle.table_flow.proofs.Masses.{last_few, sum_held}
-use Rattle.table_flow.proofs.Positive.{p_sure, p_all}
+use Rattle.table_flow.proofs.Positive.{FlowPositive, p_sure, p_all}
 use Rattle.table_flow.proofs.Wholes.{whole_from, whole_multiple, product_wide}
 use Rattle.mass_fold.specs.Body.{BitsAt, RoundBits, IsMass}
 use Rattle.mass_fold.specs.Metering.{Priced, price}
@@ -33,18 +36,22 @@ use Rattle.mass_fold.proofs.DrawsWhole.{block_whole}
 use Rattle.mass_fold.proofs.Insertion.{product_below}
 use Rattle.mass_fold.proofs.RoundMasses.{round_positive}
 use Rattle.mass_fold.proofs.Transfer.{EachShare, average_amount}
-use Rattle.unlimited_law.specs.LoopFree.{BlockFree}
+use Rattle.unlimited_law.specs.Ended.{TurnsSuffice, flowed_in}
 use Rattle.unlimited_law.specs.Settling.{Outflow}
 use Rattle.unlimited_law.specs.SettledMasses.{over, settled_failed}
 use Rattle.unlimited_law.proofs.BlockLimits.{all_fractions}
-use Rattle.unlimited_law.proofs.FreeBlocks as settling
+use Rattle.unlimited_law.proofs.EndedBlocks as settling
+use Rattle.unlimited_law.proofs.EndedBlocks.{sum_suffices, FlowSettles}
+use Rattle.unlimited_law.proofs.EndedLoops.{Suffice}
 use Rattle.unlimited_law.proofs.SameWeights.{sum_some}
 use Rattle.exact_fold.specs.Exact.{FailsWith}
+use Rattle.exact_fold.proofs.EndedMasses.{no_mass_suffices}
 use Rattle.exact_fold.proofs.Rows.{both_at}
 use Rattle.bits_law.specs.Draws.{bits_of_draw, bits_of_draws}
-use Rattle.bits_law.specs.InTheLimit.{RoundReads, free_outflow}
-use Rattle.bits_law.proofs.BlockTends.{block_some}
-use Rattle.bits_law.proofs.FreeReads.{block_free}
+use Rattle.bits_law.specs.InTheLimit.{RoundReads}
+use Rattle.bits_law.proofs.EndedReads.{block_ended}
+use Rattle.bits_law.proofs.LimitedDraws.{block_counted}
+use Rattle.bits_law.proofs.TableReads.{average_some}
 use Rattle.bits_fold.specs.Refused.{number_weights, bit_parts, bits_width}
 use Rattle.bits_fold.specs.inner.AsWritten.{RoundsBlame}
 use Rattle.bits_fold.specs.inner.Reading.{ReadsInRound}
@@ -136,39 +143,42 @@ one_share p q V N pos e h = by p.0 p.1 q.0 q.1 e h
     by : (a b c d : ℕ) → b * V ≡ a * N → d * V ≡ c * N → a * d ≡ c * b
     by a b c d e h = cancel N _ _ pos (let x = ap (λ z. d * z) e in let y = ap (λ z. b * z) h in omega arith)
 
-module _ (p : SourceProgram) (ok : IsChecked p) (free : BlockFree p.body) where
+module _ (p : SourceProgram) (ok : IsChecked p) (n : ℕ) where
   w : BlockIsWeighed p.body
   w = checked_weights p ok
 
   abbrev s : Table
   s = sure (zeros (length p.names))
 
+  abbrev flow : Flow
+  flow = tables_of p n None
+
+  positive : FlowPositive flow
+  positive = p_all n None p.body s w (p_sure (zeros (length p.names)))
+
   abbrev D : ReachedDraws
-  D = draws_of p 1 None
+  D = draws_of p n None
 
   abbrev read : Fraction
   read = bits_of_draws D
 
   abbrev Q : ℕ
-  Q = round_width p 1 None
+  Q = round_width p n None
 
   abbrev M : ℕ
   M = common_denominator (number_weights D)
 
   abbrev N : ℕ
-  N = bit_parts p
+  N = bit_parts p n
 
   abbrev X : ℕ
   X = amount Q (price None M) D
 
-  at : WholeAtWidth p 1 None
-  at = at_width p 1 None w
-
-  reads : RoundReads p (tables_of p 1 None).next read
-  reads = block_free 1 p.body free w s (p_sure (zeros (length p.names)))
+  at : WholeAtWidth p n None
+  at = at_width p n None w
 
   read_some : 0 < read.1
-  read_some = block_some p.body s (tables_of p 1 None).next read reads
+  read_some = average_some (bits_of_draw None) D (block_counted n p.body w s (p_sure (zeros (length p.names))))
 
   numbers : AllPositive (number_weights D)
   numbers = all_positive D (numbers_of D read_some)
@@ -183,16 +193,16 @@ module _ (p : SourceProgram) (ok : IsChecked p) (free : BlockFree p.body) where
   all_whole = wholes_at M (number_weights D) numbers (dvd_refl M)
 
   read_share : read.1 * X ≡ read.0 * N
-  read_share = average_amount Q M (bits_of_draw None) (price None M) D (block_whole 1 None Q (peak_of p 1 None) p.body s at.within) (shares M D all_whole)
+  read_share = average_amount Q M (bits_of_draw None) (price None M) D (block_whole n None Q (peak_of p n None) p.body s at.within) (shares M D all_whole)
 
   read_parts : whole N read ≡ X
   read_parts = (whole_from N read X read_some read_share).0
 
-  counted : (o : Option Fraction) → RoundBits p 1 None o → BitsAt N X o
+  counted : (o : Option Fraction) → RoundBits p n None o → BitsAt N X o
   counted o h = h M Mp (priced M D all_whole)
 
   -- ---- why they are refused
-  pub bits_wide : RoundBits p 1 None None → 2 ^ 128 ≤ bits_width p
+  pub bits_wide : RoundBits p n None None → 2 ^ 128 ≤ bits_width p n
   bits_wide h =
       let b = bound_of X N Np in
       let c = counted None h b.bound b.some b.within in
@@ -200,10 +210,10 @@ module _ (p : SourceProgram) (ok : IsChecked p) (free : BlockFree p.body) where
       let e = read_parts in
       omega arith
 
-  pub round_wide : 2 ^ 128 ≤ Q → 2 ^ 128 ≤ bits_width p
+  pub round_wide : 2 ^ 128 ≤ Q → 2 ^ 128 ≤ bits_width p n
   round_wide h = let z : Q * 1 ≤ Q * M = mul-le-mul_left Q Mp in omega arith
 
-  pub rounds_wide : (b f : Fraction) → RoundBits p 1 None (Some b) → IsMass Q f → RoundsBlame b f → 2 ^ 128 ≤ bits_width p
+  pub rounds_wide : (b f : Fraction) → RoundBits p n None (Some b) → IsMass Q f → RoundsBlame b f → 2 ^ 128 ≤ bits_width p n
   rounds_wide b f h m blame =
       let c = counted (Some b) h in
       let d = blame N Np c.0 (whole_multiple Q M f m.parts).1 in
@@ -211,51 +221,80 @@ module _ (p : SourceProgram) (ok : IsChecked p) (free : BlockFree p.body) where
       let g = c.1 in
       omega arith
 
-  -- ---- what a round reads
-  pub round_reads : (b : Fraction) → RoundBits p 1 None (Some b) → ReadsInRound p b
-  round_reads b h =
-      let c = counted (Some b) h in
-      let J = (tables_of p 1 None).next in
-      let e : b.1 * X ≡ b.0 * N = ap (λ z. b.1 * z) (sym c.1) ∙ c.0.exact in
-      let some = c.0.positive in
-      (J, block_as p.body s J J read b (alike_refl J (all_fractions J (p_all 1 None p.body s w (p_sure (zeros (length p.names)))).next)) (one_share b read X N Np e read_share) (omega arith) reads)
+  module _ (suffice : TurnsSuffice (tables_of p n None).ended) where
+    none_out : Suffice flow.ended
+    none_out = sum_suffices flow.ended (all_fractions flow.ended positive.ended) suffice
 
-  -- ---- what a round fails with
-  abbrev outflow : Outflow
-  outflow = free_outflow p
+    -- ---- what a round reads
+    reads : RoundReads p flow.next read
+    reads = block_ended n p.body w s (p_sure (zeros (length p.names))) none_out
 
-  abbrev lost : Fraction
-  lost = settled_failed p outflow
+    pub round_reads : (b : Fraction) → RoundBits p n None (Some b) → ReadsInRound p b
+    round_reads b h =
+        let c = counted (Some b) h in
+        let e : b.1 * X ≡ b.0 * N = ap (λ z. b.1 * z) (sym c.1) ∙ c.0.exact in
+        let some = c.0.positive in
+        (flow.next, block_as p.body s flow.next flow.next read b (alike_refl flow.next (all_fractions flow.next positive.next)) (one_share b read X N Np e read_share) (omega arith) reads)
 
-  lost_some : 0 < lost.1
-  lost_some =
-      let f = p_all 1 None p.body s w (p_sure (zeros (length p.names))) in
-      product_pos (sum_of (λ s. is_failed (on s)) outflow.next).1 (sum_of (over is_failed) outflow.ended).1 (sum_some (λ s. is_failed (on s)) outflow.next (all_fractions outflow.next f.next)) (sum_some (over is_failed) outflow.ended (all_fractions outflow.ended f.ended))
+    -- ---- what a round fails with
+    abbrev settled : FlowSettles n p.body s
+    settled = settling.block_ended n p.body w s (p_sure (zeros (length p.names))) none_out
 
-  lost_is : IsEqual (failed_mass p 1 None) lost
-  lost_is =
-      let next = outflow.next in
-      let ended = outflow.ended in
-      let first : Wholes Q next = (last_few 1 None Q (peak_of p 1 None) p.body s at.within.tables).0 in
-      let A = amount Q (λ s. cond (is_failed (on s)) 1 0) next in
-      let a = both_at (sum_of (λ s. is_failed (on s)) next) (sum_of (over is_failed) ended) A (amount Q (λ x. cond (over is_failed x) 1 0) ended) Q (sum_amount Q (λ s. is_failed (on s)) next first) (sum_amount Q (over is_failed) ended at.within.ended) in
-      let b = sum_held 1 None Q (peak_of p 1 None) p.body (zeros (length p.names)) at.within is_failed in
-      let e : A + amount Q (λ x. cond (over is_failed x) 1 0) ended ≡ A + amount Q (λ x. cond (is_failed x) 1 0) ended = ap (λ z. A + z) (failed_amount Q ended) in
-      one_share (failed_mass p 1 None) lost (A + amount Q (λ x. cond (is_failed x) 1 0) ended) Q at.positive b (ap (λ z. lost.1 * z) (sym e) ∙ a)
+    abbrev outflow : Outflow
+    outflow = flowed_in settled.turns flow
 
-  pub round_fails : (f : Fraction) → f ≡ lowest (failed_mass p 1 None) → FailsWith p f
-  round_fails f e =
-      let g = failed_mass p 1 None in
-      let same : IsEqual f g = rw e (lowest_equal g.0 g.1) in
-      record {
-        settled = outflow;
-        settles = settling.block_free 1 p.body free w s (p_sure (zeros (length p.names)));
-        fails = equal_trans f g lost fails_some same lost_is;
-        fraction = let z = lost_some in omega arith;
-      }
+    abbrev lost : Fraction
+    lost = settled_failed p outflow
+
+    lost_some : 0 < lost.1
+    lost_some =
+        product_pos (sum_of (λ s. is_failed (on s)) outflow.next).1 (sum_of (over is_failed) outflow.ended).1 (sum_some (λ s. is_failed (on s)) outflow.next (all_fractions outflow.next positive.next)) (sum_some (over is_failed) outflow.ended (all_fractions outflow.ended positive.ended))
+
+    lost_is : IsEqual (failed_mass p n None) lost
+    lost_is =
+        let next = outflow.next in
+        let ended = outflow.ended in
+        let first : Wholes Q next = (last_few n None Q (peak_of p n None) p.body s at.within.tables).0 in
+        let A = amount Q (λ s. cond (is_failed (on s)) 1 0) next in
+        let a = both_at (sum_of (λ s. is_failed (on s)) next) (sum_of (over is_failed) ended) A (amount Q (λ x. cond (over is_failed x) 1 0) ended) Q (sum_amount Q (λ s. is_failed (on s)) next first) (sum_amount Q (over is_failed) ended at.within.ended) in
+        let b = sum_held n None Q (peak_of p n None) p.body (zeros (length p.names)) at.within is_failed in
+        let e : A + amount Q (λ x. cond (over is_failed x) 1 0) ended ≡ A + amount Q (λ x. cond (is_failed x) 1 0) ended = ap (λ z. A + z) (failed_amount Q ended) in
+        one_share (failed_mass p n None) lost (A + amount Q (λ x. cond (is_failed x) 1 0) ended) Q at.positive b (ap (λ z. lost.1 * z) (sym e) ∙ a)
+
+    pub round_fails : (f : Fraction) → f ≡ lowest (failed_mass p n None) → FailsWith p f
+    round_fails f e =
+        let g = failed_mass p n None in
+        let same : IsEqual f g = rw e (lowest_equal g.0 g.1) in
+        record {
+          settled = outflow;
+          settles = settled.settles;
+          fails = equal_trans f g lost fails_some same lost_is;
+          fraction = let z = lost_some in omega arith;
+        }
+      where
+        fails_some : 0 < (failed_mass p n None).1
+        fails_some = round_positive p n None w is_failed
+
+-- ---- whether some run goes on at a limit of turns
+module _ (p : SourceProgram) (ok : IsChecked p) (n : ℕ) where
+  abbrev out : Fraction
+  out = round_mass p n None (same_outcome (outcome.Limit Turns))
+
+  abbrev fails : Fraction
+  fails = failed_mass p n None
+
+  pub still_runs : 0 < out.0 → 0 < (mass_of p n None None (outcome.Limit Turns)).0
+  still_runs some = product_pos out.0 fails.1 some (round_positive p n None (checked_weights p ok) is_failed)
+
+  pub none_runs : 1 ≤ n → (0 < out.0 → ⊥) → TurnsSuffice (tables_of p n None).ended
+  none_runs one none = no_mass_suffices p ok n one (ap (λ z. z * fails.1) (nothing out.0 none) ∙ no_parts fails.1)
     where
-      fails_some : 0 < (failed_mass p 1 None).1
-      fails_some = round_positive p 1 None w is_failed
+      nothing : (k : ℕ) → (0 < k → ⊥) → k ≡ 0
+      nothing zero h = refl
+      nothing (suc k) h = absurd (h (omega arith))
+
+      no_parts : (k : ℕ) → 0 * k ≡ 0
+      no_parts k = omega arith
 
 -- ---- all rounds
 module _ (read failed rounds : Fraction) (less : failed.0 < failed.1) (is : IsEqual rounds (failed.1, failed.1 - failed.0)) (some : 1 ≤ rounds.1) where
