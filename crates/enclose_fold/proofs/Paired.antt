@@ -1,5 +1,5 @@
 -- Bounds by pairs are answers where no unit passes, or where the others have less by them than by units.
-use Rattle.std.proofs.Common.{◌≡◌, ℕ, ◌+◌, ◌-◌, ◌*◌, ◌≤◌, ◌<◌, Bool, None, ap, ◌∙◌, arith}
+use Rattle.std.proofs.Common.{◌≡◌, ℕ, ◌+◌, ◌-◌, ◌*◌, ◌≤◌, ◌<◌, Bool, Option, None, ap, ◌∙◌, arith}
 use Rattle.std.specs.Prelude.{if◌then◌else◌}
 use Rattle.std.proofs.Math.Nat.{mul-le-mul_left, mul-le-mul_right, le_of_mul-le-mul_right}
 use Rattle.numbers.specs.declared.units.TheConstants.{ALL}
@@ -29,25 +29,25 @@ nothing_more S f0 f1 c t0 t1 o0 o1 below nearly most = by (f1 - f0) (omega (arit
         let b = mul-le-mul_left (t1 * S * (c * f1)) most in
         omega (arith, a, b)
 
-module _ (p : SourceProgram) (n : ℕ) (all_turns : Bool) where
+module _ (p : SourceProgram) (n : ℕ) (r : Option ℕ) (all_turns : Bool) where
   abbrev ran_out : Fraction
-  ran_out = if all_turns then round_mass p n None (same_outcome (outcome.Limit Turns)) else zero_share
+  ran_out = if all_turns then round_mass p n r (same_outcome (outcome.Limit Turns)) else zero_share
 
-  little_where_none_passes : (other : Fraction) → NearlyFails p n None → IsBelowOne (failed_mass p n None) → AtMost other one → HaveLittle p n None None all_turns other
+  little_where_none_passes : (other : Fraction) → NearlyFails p n r → IsBelowOne (failed_mass p n r) → AtMost other one → HaveLittle p n r None all_turns other
   little_where_none_passes other nearly below most m within =
-      let f = failed_mass p n None in
-      let c = lost_units_at_most p n None m in
+      let f = failed_mass p n r in
+      let c = lost_units_at_most p n r m in
       nothing_more ALL f.0 f.1 c ran_out.0 ran_out.1 other.0 other.1 below (let x = nearly m within in omega (arith, x)) (omega (arith, most))
 
-  little_where_less : (other more : Fraction) → 0 < more.1 → AtMost other more → HaveLittle p n None None all_turns more → HaveLittle p n None None all_turns other
-  little_where_less other more some less little m within = through other more (most_of_others p n None None all_turns (lost_units_at_most p n None m)) some less (little m within)
+  little_where_less : (other more : Fraction) → 0 < more.1 → AtMost other more → HaveLittle p n r None all_turns more → HaveLittle p n r None all_turns other
+  little_where_less other more some less little m within = through other more (most_of_others p n r None all_turns (lost_units_at_most p n r m)) some less (little m within)
 
-  module _ (rows : Rows) (other : Fraction) (paired : ArePaired p n all_turns rows other) where
-    paired_answers : HaveLittle p n None None all_turns other → AreAnswers p n None None all_turns rows other
+  module _ (rows : Rows) (other : Fraction) (paired : ArePaired p n r all_turns rows other) where
+    paired_answers : HaveLittle p n r None all_turns other → AreAnswers p n r None all_turns rows other
     paired_answers little = record { ordered = paired.ordered; passes = paired.passes; enclose = λ n' is may. paired.enclose n' is; close = paired.close; few = little }
 
-    pub answers_alone : NearlyFails p n None → AreAnswers p n None None all_turns rows other
+    pub answers_alone : NearlyFails p n r → AreAnswers p n r None all_turns rows other
     answers_alone nearly = paired_answers (little_where_none_passes other nearly paired.passes paired.most)
 
-    pub answers_finer : (rows' : Rows) (more : Fraction) → AreAnswers p n None None all_turns rows' more → AtMost other more → AreAnswers p n None None all_turns rows other
+    pub answers_finer : (rows' : Rows) (more : Fraction) → AreAnswers p n r None all_turns rows' more → AtMost other more → AreAnswers p n r None all_turns rows other
     answers_finer rows' more units less = paired_answers (little_where_less other more (let z = units.ordered.others.positive in omega arith) less units.few)

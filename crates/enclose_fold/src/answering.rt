@@ -37,12 +37,13 @@ fn in_pairs(
     alloc: Global,
     p: &Checked,
     turns: u64,
+    attempts: Option<u64>,
     all_turns: bool,
 ) -> Result<Option<Bounds>, EncloseError>
-    ensures ok { IfOk result (λ found. IfSome found (λ b. ArePaired (source_of p.now) turns all_turns b.rows b.other)) }
+    ensures ok { IfOk result (λ found. IfSome found (λ b. ArePaired (source_of p.now) turns attempts all_turns b.rows b.other)) }
     ensures cause { IfErr result (λ e. e ≡ OutOfMemory) }
 {
-    match enclose_in_pairs(alloc, p, turns, all_turns) {
+    match enclose_in_pairs(alloc, p, turns, attempts, all_turns) {
         Ok(bounds) => Ok(Some(bounds)),
         Err(PairsError::OutOfMemory) => Err(EncloseError::OutOfMemory),
         Err(PairsError::TooManyStates | PairsError::TooWide | PairsError::NothingLeft) => Ok(None),
@@ -54,14 +55,15 @@ fn finer(
     alloc: Global,
     p: &Checked,
     turns: u64,
+    attempts: Option<u64>,
     all_turns: bool,
     units: Bounds,
 ) -> Result<Bounds, EncloseError>
-    requires { AreAnswers (source_of p.now) turns None None all_turns units.rows units.other }
-    ensures ok { IfOk result (λ b. AreAnswers (source_of p.now) turns None None all_turns b.rows b.other) }
+    requires { AreAnswers (source_of p.now) turns attempts None all_turns units.rows units.other }
+    ensures ok { IfOk result (λ b. AreAnswers (source_of p.now) turns attempts None all_turns b.rows b.other) }
     ensures cause { IfErr result (λ e. e ≡ OutOfMemory) }
 {
-    match in_pairs(alloc, p, turns, all_turns)? {
+    match in_pairs(alloc, p, turns, attempts, all_turns)? {
         Some(pairs) => {
             if is_less(&pairs.other, &units.other) {
                 Ok(pairs)
@@ -78,38 +80,41 @@ fn in_pairs_alone(
     alloc: Global,
     p: &Checked,
     turns: u64,
+    attempts: Option<u64>,
     all_turns: bool,
 ) -> Result<Bounds, EncloseError>
-    requires { NearlyFails (source_of p.now) turns None }
-    ensures ok { IfOk result (λ b. AreAnswers (source_of p.now) turns None None all_turns b.rows b.other) }
-    ensures refused { IfErr result (λ e. RefusedAsWritten e (source_of p.now) turns None None) }
+    requires { NearlyFails (source_of p.now) turns attempts }
+    ensures ok { IfOk result (λ b. AreAnswers (source_of p.now) turns attempts None all_turns b.rows b.other) }
+    ensures refused { IfErr result (λ e. RefusedAsWritten e (source_of p.now) turns attempts None) }
 {
-    match in_pairs(alloc, p, turns, all_turns)? {
+    match in_pairs(alloc, p, turns, attempts, all_turns)? {
         Some(pairs) => Ok(pairs),
         None => Err(EncloseError::TooUnlikely),
     }
 }
 
-// The bounds of a program whose attempts and rounds have no limits.
-fn enclose_without_limits(
+// The bounds of a program whose rounds have no limit.
+fn enclose_without_rounds(
     alloc: Global,
     p: &Checked,
     turns: u64,
+    attempts: Option<u64>,
     all_turns: bool,
 ) -> Result<Bounds, EncloseError>
-    requires { turns ≤ MOST_LIMIT }
-    ensures ok { IfOk result (λ b. AreAnswers (source_of p.now) turns None None all_turns b.rows b.other) }
-    ensures refused { IfErr result (λ e. RefusedAsWritten e (source_of p.now) turns None None) }
+    requires turns { turns ≤ MOST_LIMIT }
+    requires attempts { IfSome attempts IsLimit }
+    ensures ok { IfOk result (λ b. AreAnswers (source_of p.now) turns attempts None all_turns b.rows b.other) }
+    ensures refused { IfErr result (λ e. RefusedAsWritten e (source_of p.now) turns attempts None) }
 {
-    match enclose_in_units(alloc, p, turns, None, None, all_turns) {
+    match enclose_in_units(alloc, p, turns, attempts, None, all_turns) {
         Ok(units) => {
             if units.coarse {
-                finer(alloc, p, turns, all_turns, units.bounds)
+                finer(alloc, p, turns, attempts, all_turns, units.bounds)
             } else {
                 Ok(units.bounds)
             }
         }
-        Err(EncloseError::TooUnlikely) => in_pairs_alone(alloc, p, turns, all_turns),
+        Err(EncloseError::TooUnlikely) => in_pairs_alone(alloc, p, turns, attempts, all_turns),
         Err(e) => Err(e),
     }
 }
@@ -129,8 +134,8 @@ pub fn enclose_as_written(
     ensures ok { IfOk result (λ b. AreAnswers (source_of p.now) turns attempts rounds all_turns b.rows b.other) }
     ensures refused { IfErr result (λ e. RefusedAsWritten e (source_of p.now) turns attempts rounds) }
 {
-    if attempts.is_none() && rounds.is_none() && turns <= MOST_TURNS {
-        return enclose_without_limits(alloc, p, turns, all_turns);
+    if rounds.is_none() && turns <= MOST_TURNS {
+        return enclose_without_rounds(alloc, p, turns, attempts, all_turns);
     }
     let units = enclose_in_units(alloc, p, turns, attempts, rounds, all_turns)?;
     Ok(units.bounds)

@@ -26,8 +26,8 @@ use std::alloc::Global;
 /// hold for every greater limit of turns too: what ran out of turns has no row, and counts as lost.
 ///
 /// What is lost in a round is at most a unit for each product, and at most six with a limit of attempts. Without a limit of rounds
-/// it is divided by what does not fail. Where neither attempts nor rounds have a limit, turns are no more than 65,536, and roundings may
-/// be more than about 2^-80 of what does not fail, a round is walked again over units at least and at most, which shrink with it
+/// it is divided by what does not fail. Where rounds have no limit, turns are no more than 65,536, and roundings may be more than about
+/// 2^-80 of what does not fail, a round is walked again over units at least and at most, which shrink with it
 /// (`enclose_in_pairs`); those bounds are given where no unit passes, or where by them the others have less. Two bounds are no further
 /// apart than what outcomes without a row have, but for some units; and these have no more than all rounds may lose (`few`).
 ///

@@ -1,6 +1,6 @@
 //! Bounds of masses, by merged tables of states whose weights are rounded down to units of 2^-120. They are worked out of the forgetful
 //! program, in which states that differ in variables alone whose values no longer matter are one. Where that is too coarse beside what passes,
-//! and neither attempts nor rounds are limited, they are those of `scaled_fold`, by units at least and at most.
+//! and rounds are not limited, they are those of `scaled_fold`, by units at least and at most.
 //!
 //! Proved: each mass lies between its two bounds (`enclose`), for all turns at every greater limit of turns too, where without a
 //! limit of rounds a round fails with probability below 1. The bounds are no further apart than the bound of the others and a few

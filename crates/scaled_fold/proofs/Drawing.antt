@@ -1,5 +1,5 @@
 -- A uniform draw of one state, by the value of its bound.
-use Rattle.std.proofs.Common.{◌≡◌, ℕ, zero, suc, ◌+◌, ℤ, pos, negsuc, ◌≤ℤ◌, Ok, Err, None, [], ◌∷◌, ◌++◌, slice_set, append_assoc, refl, sym, ap, ◌∙◌, subst, arith}
+use Rattle.std.proofs.Common.{◌≡◌, ℕ, zero, suc, ◌+◌, ℤ, pos, negsuc, ◌≤ℤ◌, Ok, Err, Option, [], ◌∷◌, ◌++◌, slice_set, append_assoc, refl, sym, ap, ◌∙◌, subst, arith}
 use Rattle.std.proofs.lemmas.Int.{ints}
 use Rattle.gcl_core.specs.declared.answers.Fault.{Fault}
 use Rattle.gcl_core.specs.declared.answers.Fault.TheVariants.{BadBound}
@@ -8,21 +8,21 @@ use Rattle.gcl_core.specs.meaning.Blocks.{End, fault, limit, by_value, by_bound}
 use Rattle.gcl_core.specs.meaning.Value.{State, Value}
 use Rattle.table_flow.specs.Tables.{below_go, drawn_go, undrawn_go}
 use Rattle.mass_fold.proofs.Bounds.{unsigned, IsBound}
-use Rattle.units_law.specs.Down.{down, share_of}
+use Rattle.units_law.specs.Down.{down, share_of, rest_of}
 use Rattle.scaled_law.specs.Pairs.{Pair, Pairs, counted_pairs, pairs_kind, put_pair, put_pairs}
-use Rattle.scaled_law.specs.Up.{up, share_up}
+use Rattle.scaled_law.specs.Up.{up, share_up, rest_up}
 use Rattle.scaled_fold.specs.declared.ended.Ended.{Ended}
 use Rattle.scaled_fold.specs.inner.Ended.{EndsWith}
 use Rattle.scaled_fold.proofs.Merged.{put_further}
 
 -- the first entry's, before those of the rest
-pub drawn_first : (x : ℕ) (v : State → Value) (s : State) (w : Pair) (J : Pairs State) →
-    drawn_go (pairs_kind down up) x v None ((s, w) ∷ J) ≡ drawn_go (pairs_kind down up) x v None ((s, w) ∷ []) ++ drawn_go (pairs_kind down up) x v None J
-drawn_first x v s w J = sym (append_assoc _ [] (drawn_go (pairs_kind down up) x v None J))
+pub drawn_first : (x : ℕ) (v : State → Value) (r : Option ℕ) (s : State) (w : Pair) (J : Pairs State) →
+    drawn_go (pairs_kind down up) x v r ((s, w) ∷ J) ≡ drawn_go (pairs_kind down up) x v r ((s, w) ∷ []) ++ drawn_go (pairs_kind down up) x v r J
+drawn_first x v r s w J = sym (append_assoc _ [] (drawn_go (pairs_kind down up) x v r J))
 
-pub undrawn_first : (v : State → Value) (s : State) (w : Pair) (J : Pairs State) →
-    undrawn_go (pairs_kind down up) v None ((s, w) ∷ J) ≡ undrawn_go (pairs_kind down up) v None ((s, w) ∷ []) ++ undrawn_go (pairs_kind down up) v None J
-undrawn_first v s w J = sym (append_assoc _ [] (undrawn_go (pairs_kind down up) v None J))
+pub undrawn_first : (v : State → Value) (r : Option ℕ) (s : State) (w : Pair) (J : Pairs State) →
+    undrawn_go (pairs_kind down up) v r ((s, w) ∷ J) ≡ undrawn_go (pairs_kind down up) v r ((s, w) ∷ []) ++ undrawn_go (pairs_kind down up) v r J
+undrawn_first v r s w J = sym (append_assoc _ [] (undrawn_go (pairs_kind down up) v r J))
 
 -- one number more
 pub number_more : (x i : ℕ) (s t : State) (w : Pair) (es fs fs' : Pairs State) → t ≡ slice_set s x (pos i) → fs ≡ put_pairs es (below_go counted_pairs x i ((s, w) ∷ [])) → fs' ≡ put_pair fs t w.0 w.1 →
@@ -33,16 +33,20 @@ number_more x i s t w es fs fs' q p r =
     r ∙ ap (λ t. put_pair fs t w.0 w.1) q ∙ ap (λ fs. put_pair fs (slice_set s x (pos i)) w.0 w.1) p ∙ sym (put_further es J ((slice_set s x (pos i), w) ∷ []))
     ∙ sym (ap (λ n. put_pairs es (below_go counted_pairs x n ((s, w) ∷ []))) n)
 
-module _ (x : ℕ) (s : State) (w : Pair) where
+module _ (x : ℕ) (r : Option ℕ) (s : State) (w : Pair) where
   -- what each number gets
   abbrev pub each : ℕ → Pair
-  each m = (share_of m None 1 w.0, share_up m None 1 w.1)
+  each m = (share_of m r 1 w.0, share_up m r 1 w.1)
+
+  -- and what none gets
+  abbrev pub none_of : ℕ → Pair
+  none_of m = (rest_of m r w.0, rest_up m r w.1)
 
   abbrev pub drawn_at : Value → Pairs State
   drawn_at o = by_value o (λ f. []) (λ z. by_bound z [] (λ m. below_go counted_pairs x m ((s, each m) ∷ []))) ++ []
 
   abbrev pub undrawn_at : Value → Pairs End
-  undrawn_at o = by_value o (λ f. (fault f, w) ∷ []) (λ z. by_bound z ((fault BadBound, w) ∷ []) (λ m. (limit Attempts, (0, 0)) ∷ [])) ++ []
+  undrawn_at o = by_value o (λ f. (fault f, w) ∷ []) (λ z. by_bound z ((fault BadBound, w) ∷ []) (λ m. (limit Attempts, none_of m) ∷ [])) ++ []
 
   abbrev pub AddedAt : Value → Pairs State → Pairs State → Type 0
   AddedAt o es fs = fs ≡ put_pairs es (drawn_at o)
@@ -76,5 +80,9 @@ module _ (x : ℕ) (s : State) (w : Pair) where
         let k : fs ≡ put_pairs es (below_go counted_pairs x (suc b.less) ((s, each (suc b.less)) ∷ [])) = subst (λ n. fs ≡ put_pairs es (below_go counted_pairs x n ((s, each n) ∷ []))) b.cast a in
         subst (λ o. AddedAt o es fs) is_value (k ∙ sym (put_further es (below_go counted_pairs x (suc b.less) ((s, each (suc b.less)) ∷ [])) []))
 
-    pub draw_stopped : (E : Ended) → StoppedAt o E E
-    draw_stopped E = subst (λ o. StoppedAt o E E) is_value (record { least = λ G q. omega arith; most = λ G q. omega arith })
+    -- by a draw among m numbers, of which no attempt of s decides u
+    pub draw_stopped : (E F : Ended) (m : ℕ) (s : Option ℕ) (u : Pair) → m ≡ unsigned z → s ≡ r → u ≡ (rest_of m s w.0, rest_up m s w.1) → EndsWith E ((limit Attempts, u) ∷ []) F → StoppedAt o E F
+    draw_stopped E F m s u bound attempts rest h =
+        let k = subst (λ u. EndsWith E ((limit Attempts, u) ∷ []) F) rest h in
+        let l = subst (λ s. EndsWith E ((limit Attempts, (rest_of m s w.0, rest_up m s w.1)) ∷ []) F) attempts k in
+        subst (λ o. StoppedAt o E F) is_value (subst (λ n. EndsWith E ((limit Attempts, none_of n) ∷ []) F) (bound ∙ b.cast) l)

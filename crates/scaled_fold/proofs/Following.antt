@@ -1,5 +1,5 @@
 -- A walk follows each step of a round.
-use Rattle.std.proofs.Common.{◌≡◌, ℕ, ◌-◌, ◌*◌, Bool, None, List, [], ◌∷◌, ◌++◌, refl, sym, ap, ◌∙◌, subst, arith}
+use Rattle.std.proofs.Common.{◌≡◌, ℕ, ◌-◌, ◌*◌, Bool, Option, None, List, [], ◌∷◌, ◌++◌, refl, sym, ap, ◌∙◌, subst, arith}
 use Rattle.gcl_core.specs.declared.answers.Limit.TheVariants.{Turns, Attempts}
 use Rattle.gcl_core.specs.declared.syntax.Weight.{Weight}
 use Rattle.gcl_core.specs.meaning.Blocks.{End, failed, limit}
@@ -9,14 +9,14 @@ use Rattle.table_flow.specs.Tables.{holds, fails, set_go, only_go, faults_go, en
 use Rattle.units_law.specs.Down.{down}
 use Rattle.units_law.specs.Merged.{IsMerged}
 use Rattle.units_law.specs.Units.{held, total}
-use Rattle.scaled_law.specs.Pairs.{Pairs, InOrder, added, at_least, at_most, counted_pairs, class_pairs, rest_pairs, pairs_kind, put_pairs, merged_pairs}
+use Rattle.scaled_law.specs.Pairs.{Pair, Pairs, InOrder, added, at_least, at_most, counted_pairs, class_pairs, rest_pairs, pairs_kind, put_pairs, merged_pairs}
 use Rattle.scaled_law.specs.Scaled.{Scaled, top, below, with_tables, ends_more, swapped, taken_back, enters, left_loop}
 use Rattle.scaled_law.specs.Up.{up}
 use Rattle.scaled_law.proofs.Merging.{merged_in_order, pairs_merged_again}
 use Rattle.scaled_fold.specs.declared.ended.Ended.{Ended}
 use Rattle.scaled_fold.specs.declared.walk.Walk.{Walk}
 use Rattle.scaled_fold.specs.inner.Ended.{units_of, EndAlike, EndsWith}
-use Rattle.scaled_fold.specs.inner.Folding.{statement_after, parted, chosen, none_aside, with_part, gathered, turns_end}
+use Rattle.scaled_fold.specs.inner.Folding.{statement_after, parted, chosen, none_aside, arms_begun, with_part, gathered, turns_end}
 use Rattle.scaled_fold.specs.inner.Holding.{IsMergedOf, AreMergedOf, Holds, Follows, FollowsMerged}
 use Rattle.scaled_fold.specs.inner.Stack.{stack_of}
 use Rattle.scaled_fold.proofs.Merged.{merged_alike, of_itself, both_merged, none_merged, least_append, most_append}
@@ -138,30 +138,16 @@ least_failed J G q = least_ended G failed J ∙ nothing _ _ q
 most_failed : (J : Pairs State) (G : End → ℕ) → G failed ≡ 0 → held G (at_most (end_go counted_pairs failed J)) ≡ 0
 most_failed J G q = most_ended G failed J ∙ nothing _ _ q
 
-least_rest : (b : ℕ) (J : Pairs State) (G : End → ℕ) → held G (at_least (end_go counted_pairs (limit Attempts) (rest_pairs down up b None J))) ≡ 0
-least_rest b [] G = refl
-least_rest b (e ∷ J) G = let i = least_rest b J G in omega arith
+-- the units of all states, in one way
+all_end : (E F : Ended) (x : End) (J : Pairs State) → EndsWith E ((x, (total (at_least J), total (at_most J))) ∷ []) F → EndsWith E (end_go counted_pairs x J) F
+all_end E F x J e = record {
+  least = λ G q. let a = e.least G q in let b = least_ended G x J in omega arith;
+  most = λ G q. let a = e.most G q in let b = most_ended G x J in omega arith;
+}
 
-most_rest : (b : ℕ) (J : Pairs State) (G : End → ℕ) → held G (at_most (end_go counted_pairs (limit Attempts) (rest_pairs down up b None J))) ≡ 0
-most_rest b [] G = refl
-most_rest b (e ∷ J) G = let i = most_rest b J G in omega arith
-
--- nothing ends undecided, where attempts have no limit
-pub none_undecided : (b : ℕ) (J : Pairs State) (f : Scaled) (w : Walk) → Holds f w → Holds (ends_more (end_go counted_pairs (limit Attempts) (rest_pairs down up b None J)) f) w
-none_undecided b J f w h =
-    let Z = end_go counted_pairs (limit Attempts) (rest_pairs down up b None J) in
-    record {
-      next = h.next;
-      aside = h.aside;
-      ended = record {
-        least = λ G q. let a = h.ended.least G q in let c = least_append G f.ended Z in let z = least_rest b J G in omega arith;
-        most = λ G q. let a = h.ended.most G q in let c = most_append G f.ended Z in let z = most_rest b J G in omega arith;
-      };
-      loose = h.loose;
-    }
-
-pub unchanged : (E : Ended) → EndsWith E [] E
-unchanged E = record { least = λ G q. refl; most = λ G q. refl }
+-- all that no attempt of a draw among b numbers decides
+abbrev pub rest_of_all : ℕ → Option ℕ → Pairs State → Pair
+rest_of_all b r J = (total (at_least (rest_pairs down up b r J)), total (at_most (rest_pairs down up b r J)))
 
 -- ---- one statement
 
@@ -191,7 +177,7 @@ module _ (w t : Walk) where
   of_ends stop e f h = more_ends w.ended t.ended f.ended (stop (merged_pairs f.next)) h.ended (subst (λ J. EndsWith w.ended (stop J) t.ended) (own f h) e)
 
   module _ (aside : stack_of t.aside ≡ stack_of w.aside) (loose : t.loose ≡ w.loose) (vars : t.next.vars ≡ w.next.vars) where
-    pub set_follows : (x : ℕ) (e : Expression) → ts ≡ merged_pairs (set_go counted_pairs x (value_of e) es) → EndsWith w.ended (faults_go counted_pairs (value_of e) es) t.ended → Follows (statement_after 0 (Set x e)) w t
+    pub set_follows : (x : ℕ) (e : Expression) → ts ≡ merged_pairs (set_go counted_pairs x (value_of e) es) → EndsWith w.ended (faults_go counted_pairs (value_of e) es) t.ended → Follows (statement_after 0 None (Set x e)) w t
     set_follows x e p q = record {
       holds = λ f h. record {
         next = of_table (set_go counted_pairs x (value_of e)) (order_set x (value_of e)) ts p f h;
@@ -202,18 +188,18 @@ module _ (w t : Walk) where
       vars = vars;
     }
 
-    pub drawn_follows : (x : ℕ) (e : Expression) → ts ≡ merged_pairs (drawn_go (pairs_kind down up) x (value_of e) None es) → EndsWith w.ended (undrawn_go (pairs_kind down up) (value_of e) None es) t.ended → Follows (statement_after 0 (Uniform x e)) w t
-    drawn_follows x e p q = record {
+    pub drawn_follows : (x : ℕ) (e : Expression) (r : Option ℕ) → ts ≡ merged_pairs (drawn_go (pairs_kind down up) x (value_of e) r es) → EndsWith w.ended (undrawn_go (pairs_kind down up) (value_of e) r es) t.ended → Follows (statement_after 0 r (Uniform x e)) w t
+    drawn_follows x e r p q = record {
       holds = λ f h. record {
-        next = of_table (drawn_go (pairs_kind down up) x (value_of e) None) (order_drawn x (value_of e)) ts p f h;
+        next = of_table (drawn_go (pairs_kind down up) x (value_of e) r) (order_drawn x (value_of e) r) ts p f h;
         aside = as_aside _ _ f.aside aside h.aside;
-        ended = of_ends (undrawn_go (pairs_kind down up) (value_of e) None) q f h;
+        ended = of_ends (undrawn_go (pairs_kind down up) (value_of e) r) q f h;
         loose = loose ∙ h.loose;
       };
       vars = vars;
     }
 
-    pub observed_follows : (e : Expression) → ts ≡ merged_pairs (only_go counted_pairs (holds (value_of e)) es) → EndsWith w.ended (faults_go counted_pairs (value_of e) es) t.ended → Follows (statement_after 0 (Observe e)) w t
+    pub observed_follows : (e : Expression) → ts ≡ merged_pairs (only_go counted_pairs (holds (value_of e)) es) → EndsWith w.ended (faults_go counted_pairs (value_of e) es) t.ended → Follows (statement_after 0 None (Observe e)) w t
     observed_follows e p q = record {
       holds = λ f h. record {
         next = of_table (only_go counted_pairs (holds (value_of e))) (order_only (holds (value_of e))) ts p f h;
@@ -239,25 +225,52 @@ module _ (w t : Walk) where
       vars = vars;
     }
 
-    pub chosen_follows : (p : Weight) → ts ≡ merged_pairs (class_pairs down up p.den None p.num es) → second ≡ merged_pairs (class_pairs down up p.den None (p.den - p.num) es) → t.ended ≡ w.ended → Follows (chosen p) w t
-    chosen_follows k p q r = record {
+    -- what no attempt of a draw decides ends
+    undecided_ends : (b : ℕ) (r : Option ℕ) → EndsWith w.ended ((limit Attempts, rest_of_all b r es) ∷ []) t.ended → (f : Scaled) → Holds f w →
+        EndAlike (units_of t.ended) [] (f.ended ++ end_go counted_pairs (limit Attempts) (rest_pairs down up b r (merged_pairs f.next))) []
+    undecided_ends b r e = of_ends (λ J. end_go counted_pairs (limit Attempts) (rest_pairs down up b r J)) (all_end w.ended t.ended (limit Attempts) (rest_pairs down up b r es) e)
+
+    -- what a choice gives, where a draw among b numbers by r attempts makes it
+    abbrev AreSides : Weight → ℕ → Option ℕ → Type 0
+    AreSides k b r =
+        (ts ≡ merged_pairs (class_pairs down up b r k.num es)) × (second ≡ merged_pairs (class_pairs down up b r (k.den - k.num) es))
+        × EndsWith w.ended ((limit Attempts, rest_of_all b r es) ∷ []) t.ended
+
+    sides_follow : (r : Option ℕ) (k : Weight) → AreSides k k.den r → Follows (chosen r k) w t
+    sides_follow r k s = record {
       holds = λ f h. record {
-        next = of_table (class_pairs down up k.den None k.num) (order_class k.den k.num) ts p f h;
-        aside = as_aside _ _ (class_pairs down up k.den None (k.den - k.num) (merged_pairs f.next) ∷ f.aside) aside (of_table (class_pairs down up k.den None (k.den - k.num)) (order_class k.den (k.den - k.num)) second q f h, h.aside);
-        ended = of_ends (λ J. end_go counted_pairs (limit Attempts) (rest_pairs down up k.den None J))
-            (none_ends w.ended t.ended [] (end_go counted_pairs (limit Attempts) (rest_pairs down up k.den None es)) (λ G z. least_rest k.den es G) (λ G z. most_rest k.den es G)
-            (subst (λ E. EndsWith w.ended [] E) (sym r) (unchanged w.ended))) f h;
+        next = of_table (class_pairs down up k.den r k.num) (order_class k.den r k.num) ts s.0 f h;
+        aside = as_aside _ _ (class_pairs down up k.den r (k.den - k.num) (merged_pairs f.next) ∷ f.aside) aside (of_table (class_pairs down up k.den r (k.den - k.num)) (order_class k.den r (k.den - k.num)) second s.1 f h, h.aside);
+        ended = undecided_ends k.den r s.2 f h;
         loose = loose ∙ h.loose;
       };
       vars = vars;
     }
 
+    pub chosen_follows : (r : Option ℕ) (k : Weight) (b : ℕ) (s : Option ℕ) → b ≡ k.den → s ≡ r → ts ≡ merged_pairs (class_pairs down up b s k.num es) → second ≡ merged_pairs (class_pairs down up b s (k.den - k.num) es) →
+        EndsWith w.ended ((limit Attempts, rest_of_all b s es) ∷ []) t.ended → Follows (chosen r k) w t
+    chosen_follows r k b s bound attempts p q e = sides_follow r k (subst (λ b. AreSides k b r) bound (subst (AreSides k b) attempts (p, q, e)))
+
+    none_on_top : (f : Scaled) → second ≡ [] → Holds f w → AreMergedOf (stack_of t.aside) ([] ∷ f.aside)
+    none_on_top f q h = as_aside _ _ ([] ∷ f.aside) aside (as_merged _ _ _ q none_merged, h.aside)
+
     pub none_aside_follows : ts ≡ es → second ≡ [] → t.ended ≡ w.ended → Follows none_aside w t
     none_aside_follows p q r = record {
       holds = λ f h. record {
         next = as_merged _ _ _ (p ∙ own f h) (of_itself f.next h.next.in_order);
-        aside = as_aside _ _ ([] ∷ f.aside) aside (as_merged _ _ _ q none_merged, h.aside);
+        aside = none_on_top f q h;
         ended = subst (λ E. EndAlike (units_of E) [] f.ended []) (sym r) h.ended;
+        loose = loose ∙ h.loose;
+      };
+      vars = vars;
+    }
+
+    pub arms_follow : (b : ℕ) (r : Option ℕ) → ts ≡ es → second ≡ [] → EndsWith w.ended ((limit Attempts, rest_of_all b r es) ∷ []) t.ended → Follows (arms_begun b r) w t
+    arms_follow b r p q e = record {
+      holds = λ f h. record {
+        next = as_merged _ _ _ (p ∙ own f h) (of_itself f.next h.next.in_order);
+        aside = none_on_top f q h;
+        ended = undecided_ends b r e f h;
         loose = loose ∙ h.loose;
       };
       vars = vars;
@@ -265,12 +278,12 @@ module _ (w t : Walk) where
 
     -- ---- from a table in which each state stands once already
 
-    pub part_follows : (b c : ℕ) → ts ≡ merged_pairs (class_pairs down up b None c es) → second ≡ es → t.ended ≡ w.ended → FollowsMerged (with_part b c) w t
-    part_follows b c p q r = record {
+    pub part_follows : (b : ℕ) (r : Option ℕ) (c : ℕ) → ts ≡ merged_pairs (class_pairs down up b r c es) → second ≡ es → t.ended ≡ w.ended → FollowsMerged (with_part b r c) w t
+    part_follows b r c p q e = record {
       holds = λ f m h. record {
-        next = record { is = p ∙ ap (λ J. merged_pairs (class_pairs down up b None c J)) (whole f m h); in_order = order_class b c f.next h.next.in_order };
+        next = record { is = p ∙ ap (λ J. merged_pairs (class_pairs down up b r c J)) (whole f m h); in_order = order_class b r c f.next h.next.in_order };
         aside = as_aside _ _ (f.next ∷ f.aside) aside (as_merged _ _ _ q h.next, h.aside);
-        ended = subst (λ E. EndAlike (units_of E) [] f.ended []) (sym r) h.ended;
+        ended = subst (λ E. EndAlike (units_of E) [] f.ended []) (sym e) h.ended;
         loose = loose ∙ h.loose;
       };
       vars = vars;

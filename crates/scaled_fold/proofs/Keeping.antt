@@ -1,5 +1,5 @@
 -- A table that stands aside, deeper than what a block puts there, has each state once after the block if it had before.
-use Rattle.std.proofs.Common.{◌≡◌, ℕ, zero, suc, ◌*◌, ◌<◌, Bool, true, false, All, List, [], ◌∷◌, map, None, refl, sym, ap, subst, arith}
+use Rattle.std.proofs.Common.{◌≡◌, ℕ, zero, suc, ◌*◌, ◌<◌, Bool, true, false, All, List, [], ◌∷◌, map, Option, refl, sym, ap, subst, arith}
 use Rattle.std.specs.Prelude.{nat_le, if◌then◌else◌}
 use Rattle.std.specs.List.Sorted.{IsStrictlySortedBy}
 use Rattle.std.specs.Map.{keys_of, values_of}
@@ -78,9 +78,9 @@ loop_keeps v body k (suc t) d f h = by (doubling.leaves f.next) (loop_keeps v bo
     by true i = h
     by false i = i
 
-module _ (n : ℕ) where
+module _ (n : ℕ) (r : Option ℕ) where
   mutual
-    pub statement_keeps : (s : Statement) → Keeps (statement_scaled down up doubling n None s)
+    pub statement_keeps : (s : Statement) → Keeps (statement_scaled down up doubling n r s)
     statement_keeps Skip d f h = h
     statement_keeps (Set x e) d f h = h
     statement_keeps (Observe e) d f h = h
@@ -88,17 +88,17 @@ module _ (n : ℕ) where
     statement_keeps (If e a c) d f h = block_keeps c (suc d) _ (block_keeps a (suc d) _ h)
     statement_keeps (Choice p a c) d f h = block_keeps c (suc d) _ (block_keeps a (suc d) _ h)
     statement_keeps (Choose arms) d f h = arms_keeps _ arms d _ h
-    statement_keeps (While e a) d f h = loop_keeps (value_of e) (block_scaled down up doubling n None a) (block_keeps a) n d _ h
+    statement_keeps (While e a) d f h = loop_keeps (value_of e) (block_scaled down up doubling n r a) (block_keeps a) n d _ h
 
-    pub block_keeps : (b : Statements) → Keeps (block_scaled down up doubling n None b)
+    pub block_keeps : (b : Statements) → Keeps (block_scaled down up doubling n r b)
     block_keeps done d f h = h
-    block_keeps (st ▸ b) d f h = block_keeps b d _ (grows_keeps d (statement_scaled down up doubling n None st (tidied f)) (statement_keeps st d (tidied f) h))
+    block_keeps (st ▸ b) d f h = block_keeps b d _ (grows_keeps d (statement_scaled down up doubling n r st (tidied f)) (statement_keeps st d (tidied f) h))
 
-    arms_keeps : (b : ℕ) (arms : ArmList) (d : ℕ) (f : Scaled) → IsOnce (at (suc d) f.aside) → IsOnce (at d (arms_scaled down up doubling n None b arms f).aside)
+    arms_keeps : (b : ℕ) (arms : ArmList) (d : ℕ) (f : Scaled) → IsOnce (at (suc d) f.aside) → IsOnce (at d (arms_scaled down up doubling n r b arms f).aside)
     arms_keeps b no_arm d f h = h
     arms_keeps b (arm p a arms) d f h = arms_keeps b arms d _ (block_keeps a (suc (suc d)) _ h)
 
   -- what a block leaves has each state once
-  pub block_once : (b : Statements) (f : Scaled) → IsOnce (block_scaled down up doubling n None b f).next
+  pub block_once : (b : Statements) (f : Scaled) → IsOnce (block_scaled down up doubling n r b f).next
   block_once done f = once f.next
   block_once (st ▸ b) f = block_once b _

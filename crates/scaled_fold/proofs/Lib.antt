@@ -4,6 +4,7 @@ pub mod Entries
 pub mod Drawing
 pub mod Orders
 pub mod Rounding
+pub mod Products
 pub mod Following
 pub mod Grown
 pub mod Keeping

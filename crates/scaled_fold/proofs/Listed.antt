@@ -74,9 +74,9 @@ module _ (least most rest : ℕ) where
   row_or_none w zero = refl
   row_or_none w (suc k) = ap not (more_than_none k)
 
-module _ (p : SourceProgram) (n : ℕ) (all_turns : Bool) (K : Pairs Outcome) (loose : ℕ) (g : RoundGives p n K loose) (ascending : Ascending K) where
+module _ (p : SourceProgram) (n : ℕ) (r : Option ℕ) (all_turns : Bool) (K : Pairs Outcome) (loose : ℕ) (g : RoundGives p n r K loose) (ascending : Ascending K) where
   abbrev f : Scaled
-  f = doubled_round p n
+  f = doubled_round p n r
 
   abbrev C : Pairs Outcome
   C = counted all_turns K
@@ -233,11 +233,11 @@ module _ (p : SourceProgram) (n : ℕ) (all_turns : Bool) (K : Pairs Outcome) (l
       pub rows_ordered : AreOrdered rows (upper_of_others p all_turns f) → AreOrdered rows (lowest (o, ALL))
       rows_ordered a = still_ordered rows (upper_of_others p all_turns f) o a
 
-      pub rows_enclose : (n' : ℕ) → Enclose p n' None None rows (upper_of_others p all_turns f) → Enclose p n' None None rows (lowest (o, ALL))
+      pub rows_enclose : (n' : ℕ) → Enclose p n' r None rows (upper_of_others p all_turns f) → Enclose p n' r None rows (lowest (o, ALL))
       rows_enclose n' e =
           let k = kept_by bounds C in
-          still_enclose p n' None None rows (div_ceil ((B - k.1 + R) * ALL) (B - k.1 + R + k.0)) o enough_here.unlisted
-          (subst (λ q. Enclose p n' None None rows q) others_are e)
+          still_enclose p n' r None rows (div_ceil ((B - k.1 + R) * ALL) (B - k.1 + R + k.0)) o enough_here.unlisted
+          (subst (λ q. Enclose p n' r None rows q) others_are e)
 
       pub rows_close : 0 < A → AreNear p all_turns f rows → AreClose 1 rows (lowest (o, ALL))
       rows_close some near x low high c =

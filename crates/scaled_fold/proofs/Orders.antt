@@ -1,14 +1,17 @@
 -- No step makes a state have more units at least than at most.
-use Rattle.std.proofs.Common.{ℕ, zero, suc, ◌*◌, ◌/◌, ◌≤◌, ℤ, pos, negsuc, Ok, Err, Bool, true, false, None, cond, [], ◌∷◌, arith, slice_set}
+use Rattle.std.proofs.Common.{ℕ, zero, suc, ◌*◌, ◌/◌, ◌-◌, ◌^◌, ◌≤◌, ℤ, pos, negsuc, Ok, Err, Bool, true, false, Option, Some, None, cond, [], ◌∷◌, arith, slice_set}
 use Rattle.std.specs.Int.{div_ceil}
 use Rattle.std.proofs.lemmas.Nat.{le-div}
 use Rattle.std.proofs.Math.Nat.{div-mul-le_self, mul-le-mul_left}
+use Rattle.numbers.specs.declared.units.TheConstants.{ALL}
+use Rattle.numbers.specs.Units.{shared, shared_up, power_down, power_up}
 use Rattle.gcl_core.specs.meaning.Blocks.{by_value, by_bound}
+use Rattle.gcl_core.specs.meaning.Draw.{bits_for, rejected_numbers}
 use Rattle.gcl_core.specs.meaning.Value.{State, Value}
 use Rattle.table_flow.specs.Tables.{set_go, only_go, below_go, drawn_go}
-use Rattle.units_law.specs.Down.{down}
+use Rattle.units_law.specs.Down.{down, share_of, again_down, again_up}
 use Rattle.scaled_law.specs.Pairs.{Pair, Pairs, InOrder, counted_pairs, class_pairs, pairs_kind}
-use Rattle.scaled_law.specs.Up.{up}
+use Rattle.scaled_law.specs.Up.{up, share_up}
 use Rattle.scaled_fold.proofs.Merged.{order_append}
 
 pub order_set : (x : ℕ) (v : State → Value) (J : Pairs State) → InOrder J → InOrder (set_go counted_pairs x v J)
@@ -33,12 +36,33 @@ over_more : (a c b : ℕ) → a ≤ c → a / b ≤ c / b
 over_more a c zero l = omega arith
 over_more a c (suc b) l = let x = div-mul-le_self a (suc b) in le-div (a / suc b) c (suc b) (omega arith) (omega (arith, l, x))
 
-share_order : (l h c b : ℕ) → l ≤ h → l * c / b ≤ div_ceil (h * c) b
-share_order l h c b p = let y = mul-le-mul_left c p in let x = over_more (l * c) (h * c) b (omega (arith, y)) in omega (arith, x)
+part_order : (l h c b : ℕ) → l ≤ h → l * c / b ≤ div_ceil (h * c) b
+part_order l h c b p = let y = mul-le-mul_left c p in let x = over_more (l * c) (h * c) b (omega (arith, y)) in omega (arith, x)
 
-pub order_class : (b c : ℕ) (J : Pairs State) → InOrder J → InOrder (class_pairs down up b None c J)
-order_class b c [] i = tt
-order_class b c (e ∷ J) i = (share_order e.1.0 e.1.1 c b i.0, order_class b c J i.1)
+product_order : (l h s t : ℕ) → l ≤ h → s ≤ t → shared l s ≤ shared_up h t
+product_order l h s t p q =
+    let x = mul-le-mul_left s p in
+    let y = mul-le-mul_left h q in
+    let z = over_more (l * s) (h * t) ALL (omega (arith, x, y)) in
+    omega (arith, z)
+
+-- that no attempt of a draw decides
+again_order : (b : ℕ) → again_down b ≤ again_up b
+again_order b = let x = over_more (rejected_numbers b * ALL) (rejected_numbers b * ALL) (2 ^ bits_for b) (omega arith) in omega (arith, x)
+
+none_order : (b r : ℕ) → power_down (again_down b) r ≤ power_up (again_up b) r
+none_order b zero = omega arith
+none_order b (suc r) = product_order (again_down b) (again_up b) (power_down (again_down b) r) (power_up (again_up b) r) (again_order b) (none_order b r)
+
+share_order : (b : ℕ) (r : Option ℕ) (c l h : ℕ) → l ≤ h → share_of b r c l ≤ share_up b r c h
+share_order b None c l h p = part_order l h c b p
+share_order b (Some r) c l h p =
+    let some : ALL - power_up (again_up b) r ≤ ALL - power_down (again_down b) r = let x = none_order b r in omega (arith, x) in
+    part_order (shared l (ALL - power_up (again_up b) r)) (shared_up h (ALL - power_down (again_down b) r)) c b (product_order l h _ _ p some)
+
+pub order_class : (b : ℕ) (r : Option ℕ) (c : ℕ) (J : Pairs State) → InOrder J → InOrder (class_pairs down up b r c J)
+order_class b r c [] i = tt
+order_class b r c (e ∷ J) i = (share_order b r c e.1.0 e.1.1 i.0, order_class b r c J i.1)
 
 -- ---- draws
 
@@ -46,19 +70,19 @@ order_below : (x m : ℕ) (e : State × Pair) → e.1.0 ≤ e.1.1 → InOrder (b
 order_below x zero e i = tt
 order_below x (suc m) e i = order_append (below_go counted_pairs x m (e ∷ [])) ((slice_set e.0 x (pos m), e.1) ∷ []) (order_below x m e i) (i, tt)
 
-pub order_drawn : (x : ℕ) (v : State → Value) (J : Pairs State) → InOrder J → InOrder (drawn_go (pairs_kind down up) x v None J)
-order_drawn x v [] i = tt
-order_drawn x v (e ∷ J) i =
-    order_append (by_value (v e.0) (λ f. []) (λ z. by_bound z [] (λ m. below_go counted_pairs x m (class_pairs down up m None 1 (e ∷ []))))) (drawn_go (pairs_kind down up) x v None J) (by (v e.0)) (order_drawn x v J i.1)
+pub order_drawn : (x : ℕ) (v : State → Value) (r : Option ℕ) (J : Pairs State) → InOrder J → InOrder (drawn_go (pairs_kind down up) x v r J)
+order_drawn x v r [] i = tt
+order_drawn x v r (e ∷ J) i =
+    order_append (by_value (v e.0) (λ f. []) (λ z. by_bound z [] (λ m. below_go counted_pairs x m (class_pairs down up m r 1 (e ∷ []))))) (drawn_go (pairs_kind down up) x v r J) (by (v e.0)) (order_drawn x v r J i.1)
   where
-    numbers : (m : ℕ) → InOrder (below_go counted_pairs x m (class_pairs down up m None 1 (e ∷ [])))
-    numbers m = let s = order_class m 1 (e ∷ []) (i.0, tt) in order_below x m _ s.0
+    numbers : (m : ℕ) → InOrder (below_go counted_pairs x m (class_pairs down up m r 1 (e ∷ [])))
+    numbers m = let s = order_class m r 1 (e ∷ []) (i.0, tt) in order_below x m _ s.0
 
-    at : (z : ℤ) → InOrder (by_bound z [] (λ m. below_go counted_pairs x m (class_pairs down up m None 1 (e ∷ []))))
+    at : (z : ℤ) → InOrder (by_bound z [] (λ m. below_go counted_pairs x m (class_pairs down up m r 1 (e ∷ []))))
     at (pos zero) = tt
     at (pos (suc m)) = numbers (suc m)
     at (negsuc m) = tt
 
-    by : (o : Value) → InOrder (by_value o (λ f. []) (λ z. by_bound z [] (λ m. below_go counted_pairs x m (class_pairs down up m None 1 (e ∷ [])))))
+    by : (o : Value) → InOrder (by_value o (λ f. []) (λ z. by_bound z [] (λ m. below_go counted_pairs x m (class_pairs down up m r 1 (e ∷ [])))))
     by (Ok z) = at z
     by (Err f) = tt

@@ -1,6 +1,6 @@
 -- How the fold steers a round over pairs: all units are doubled as often as what has not failed still stays within ALL, and a loop is left
 -- where no state in it has a unit at least. This project's own rule.
-use Rattle.std.specs.Prelude.{ℕ, zero, suc, ◌*◌, ◌==◌, if◌then◌else◌, nat_le, None}
+use Rattle.std.specs.Prelude.{ℕ, zero, suc, ◌*◌, ◌==◌, if◌then◌else◌, nat_le, Option}
 use Rattle.numbers.specs.declared.units.TheConstants.{ALL}
 use Rattle.gcl_core.specs.meaning.Syntax.{SourceProgram}
 use Rattle.units_law.specs.Down.{down}
@@ -23,5 +23,5 @@ abbrev pub doubling : Steering
 doubling = record { factor = λ f. (times_for (left_of f), 1); leaves = λ J. total (at_least J) == 0 }
 
 -- the round of a program, rounded down and up, and steered so
-abbrev pub doubled_round : SourceProgram → ℕ → Scaled
-doubled_round p n = round_scaled down up doubling p n None
+abbrev pub doubled_round : SourceProgram → ℕ → Option ℕ → Scaled
+doubled_round p n r = round_scaled down up doubling p n r

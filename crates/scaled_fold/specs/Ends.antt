@@ -1,6 +1,6 @@
 -- What a round over pairs says of masses by its outcomes, each with its units at least and at most, and what is loose. For every greater
 -- limit of turns too, what ran out of turns counts for no outcome at least, and for all at most. This project's own rule.
-use Rattle.std.specs.Prelude.{ℕ, ◌+◌, Bool, cond, not, None}
+use Rattle.std.specs.Prelude.{ℕ, ◌+◌, Bool, cond, not, Option, None}
 use Rattle.gcl_core.specs.declared.answers.Outcome.{Outcome}
 use Rattle.gcl_core.specs.meaning.Syntax.{SourceProgram}
 use Rattle.gcl_core.specs.weighing.Fractions.{AtMost}
@@ -26,6 +26,6 @@ module _ (all_turns : Bool) (K : Pairs Outcome) (loose : ℕ) where
 
   -- At n' turns the outcomes that are meant have at least what their units at least are beside those that all others have at most, and at
   -- most the reverse.
-  pub record LieBeside (p : SourceProgram) (n' : ℕ) (meant : Outcome → Bool) : Type 0 where
-    pub from_below : AtMost (beside (least_given meant) (most_given (λ x. not (meant x)))) (mass_of_those p n' None None meant)
-    pub from_above : AtMost (mass_of_those p n' None None meant) (beside (most_given meant) (least_given (λ x. not (meant x))))
+  pub record LieBeside (p : SourceProgram) (n' : ℕ) (r : Option ℕ) (meant : Outcome → Bool) : Type 0 where
+    pub from_below : AtMost (beside (least_given meant) (most_given (λ x. not (meant x)))) (mass_of_those p n' r None meant)
+    pub from_above : AtMost (mass_of_those p n' r None meant) (beside (most_given meant) (least_given (λ x. not (meant x))))

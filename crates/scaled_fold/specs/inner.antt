@@ -1,4 +1,5 @@
 pub mod Ended
+pub mod Odds
 pub mod Stack
 pub mod Holding
 pub mod Folding

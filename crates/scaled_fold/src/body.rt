@@ -27,12 +27,22 @@ fn begun(alloc: Global, vars: u32) -> Result<Walk, PairsError>
     })
 }
 
-/// Where the walk through the body of a program leads, under a limit of turns for each entry of a loop.
-pub fn walk_through(alloc: Global, p: &Checked, turns: u64) -> Result<Walk, PairsError>
-    ensures ok { IfOk result (Holds (doubled_round (source_of p.now) turns)) }
+/// Where the walk through the body of a program leads, under a limit of turns for each entry of a loop, and of attempts, where they have one.
+pub fn walk_through(
+    alloc: Global,
+    p: &Checked,
+    turns: u64,
+    attempts: Option<u64>,
+) -> Result<Walk, PairsError>
+    ensures ok { IfOk result (Holds (doubled_round (source_of p.now) turns attempts)) }
     ensures vars { IfOk result (λ w. w.next.vars ≡ length (source_of p.now).names) }
 {
     let program = p.program();
     let walk = begun(alloc, program.names.count())?;
-    Fold { alloc, turns }.block(&program.body, walk)
+    let fold = Fold {
+        alloc,
+        turns,
+        attempts,
+    };
+    fold.block(&program.body, walk)
 }

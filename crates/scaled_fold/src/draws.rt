@@ -1,6 +1,6 @@
 // Uniform draws on a table.
 
-ghost use Rattle.std.specs.Prelude.{◌≡◌, ◌≤◌, ◌<◌, ◌^◌, [], ◌∷◌, length, None, IfOk};
+ghost use Rattle.std.specs.Prelude.{◌≡◌, ◌≤◌, ◌<◌, ◌^◌, [], ◌∷◌, length, IfOk};
 ghost use Rattle.gcl_core.specs.meaning.Views.{expression_of};
 ghost use Rattle.gcl_core.specs.meaning.Value.{value_of};
 ghost use Rattle.gcl_core.specs.meaning.Bounds.{ExpressionBelow};
@@ -12,7 +12,7 @@ ghost use Rattle.scaled_fold.specs.inner.Ended.{EndsWith};
 
 use crate::ended::Ended;
 use crate::error::PairsError;
-use crate::pair::share;
+use crate::odds::Odds;
 use crate::table::Table;
 use gcl_core::{Expr, Fault, eval};
 use mass_fold::State;
@@ -45,6 +45,7 @@ fn spread(
 // The draw of one state of w units, with as many numbers as an expression says.
 fn draw_entry(
     alloc: Global,
+    attempts: Option<u64>,
     x: u32,
     e: &Expr,
     s: &State,
@@ -55,8 +56,8 @@ fn draw_entry(
     requires sized { length s.now ≡ into.vars }
     requires place { x < length s.now }
     requires reads { ExpressionBelow (expression_of e.now) (length s.now) }
-    ensures added { IfOk result (λ t. t.0.states.entries ≡ put_pairs into.states.entries (drawn_go (pairs_kind down up) x (value_of (expression_of e.now)) None ((s.now, w) ∷ []))) }
-    ensures stopped { IfOk result (λ t. EndsWith before (undrawn_go (pairs_kind down up) (value_of (expression_of e.now)) None ((s.now, w) ∷ [])) t.1) }
+    ensures added { IfOk result (λ t. t.0.states.entries ≡ put_pairs into.states.entries (drawn_go (pairs_kind down up) x (value_of (expression_of e.now)) attempts ((s.now, w) ∷ []))) }
+    ensures stopped { IfOk result (λ t. EndsWith before (undrawn_go (pairs_kind down up) (value_of (expression_of e.now)) attempts ((s.now, w) ∷ [])) t.1) }
     ensures vars { IfOk result (λ t. t.0.vars ≡ into.vars) }
 {
     match eval(e, s.values()) {
@@ -66,8 +67,9 @@ fn draw_entry(
                 return Ok((into, before.with_fault(Fault::BadBound, w)?));
             }
             let bound = v as u64;
-            let next = spread(alloc, x, bound, s, share(w, 1, bound), into)?;
-            Ok((next, before))
+            let odds = Odds::of(bound, attempts);
+            let next = spread(alloc, x, bound, s, odds.share(1, w), into)?;
+            Ok((next, before.with_attempts(odds.rest(w))?))
         }
     }
 }
@@ -75,6 +77,7 @@ fn draw_entry(
 /// The table after a uniform draw of a variable, with what has ended.
 pub fn draw(
     alloc: Global,
+    attempts: Option<u64>,
     x: u32,
     e: &Expr,
     table: Table,
@@ -82,14 +85,14 @@ pub fn draw(
 ) -> Result<(Table, Ended), PairsError>
     requires place { x < table.vars }
     requires reads { ExpressionBelow (expression_of e.now) table.vars }
-    ensures next { IfOk result (λ t. t.0.states.entries ≡ merged_pairs (drawn_go (pairs_kind down up) x (value_of (expression_of e.now)) None table.states.entries)) }
-    ensures stopped { IfOk result (λ t. EndsWith before (undrawn_go (pairs_kind down up) (value_of (expression_of e.now)) None table.states.entries) t.1) }
+    ensures next { IfOk result (λ t. t.0.states.entries ≡ merged_pairs (drawn_go (pairs_kind down up) x (value_of (expression_of e.now)) attempts table.states.entries)) }
+    ensures stopped { IfOk result (λ t. EndsWith before (undrawn_go (pairs_kind down up) (value_of (expression_of e.now)) attempts table.states.entries) t.1) }
     ensures vars { IfOk result (λ t. t.0.vars ≡ table.vars) }
 {
     let mut next = Table::new(alloc, table.vars);
     let mut ended = before;
     for (s, w) in table.states {
-        let (more, after) = draw_entry(alloc, x, e, &s, w, next, ended)?;
+        let (more, after) = draw_entry(alloc, attempts, x, e, &s, w, next, ended)?;
         next = more;
         ended = after;
     }

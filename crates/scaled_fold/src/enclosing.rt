@@ -18,9 +18,9 @@ use std::alloc::Global;
 use units_law::products_are_rounded_down;
 
 /// Two bounds of the mass of each outcome, and one for all outcomes without a row together, from one round over pairs of units: what an
-/// outcome has at least beside what all others have at most, and the reverse. Each bound is a multiple of 2^-120. Draws and runs take as many
-/// attempts and rounds as they need, and each entry of a loop at most `turns` turns. With `all_turns` the bounds hold for every greater limit
-/// of turns too.
+/// outcome has at least beside what all others have at most, and the reverse. Each bound is a multiple of 2^-120. Each entry of a loop takes at
+/// most `turns` turns, and each draw at most `attempts` attempts, or as many as it needs; runs take as many rounds as they need. With
+/// `all_turns` the bounds hold for every greater limit of turns too.
 ///
 /// The bound of the others is at least how far apart two bounds may be, and at most 1.
 ///
@@ -29,11 +29,12 @@ pub fn enclose_in_pairs(
     alloc: Global,
     p: &Checked,
     turns: u64,
+    attempts: Option<u64>,
     all_turns: bool,
 ) -> Result<Bounds, PairsError>
     ensures ordered { IfOk result (λ b. AreOrdered b.rows b.other) }
-    ensures passes { IfOk result (λ b. IsBelowOne (failed_mass (source_of p.now) turns None)) }
-    ensures enclose { IfOk result (λ b. (n : ℕ) → IsFor all_turns turns n → Enclose (source_of p.now) n None None b.rows b.other) }
+    ensures passes { IfOk result (λ b. IsBelowOne (failed_mass (source_of p.now) turns attempts)) }
+    ensures enclose { IfOk result (λ b. (n : ℕ) → IsFor all_turns turns n → Enclose (source_of p.now) n attempts None b.rows b.other) }
     ensures close { IfOk result (λ b. AreClose (most_apart None) b.rows b.other) }
     ensures most { IfOk result (λ b. AtMost b.other one) }
 {
@@ -43,7 +44,7 @@ pub fn enclose_in_pairs(
     masses_lie_beside_others();
     bounds_beside_others_hold();
     outcomes_are_ordered();
-    let ends = ends_of(alloc, p, turns)?;
+    let ends = ends_of(alloc, p, turns, attempts)?;
     is_ordered(&ends.outcomes);
     let whole = whole_of(&ends.outcomes, ends.loose, all_turns)?;
     if whole.least == 0 {

@@ -1,7 +1,7 @@
 // What has ended, by the way it ended.
 
 ghost use Rattle.std.specs.Prelude.{◌≡◌, [], ◌∷◌, IfOk};
-ghost use Rattle.gcl_core.specs.declared.answers.Limit.TheVariants.{Turns};
+ghost use Rattle.gcl_core.specs.declared.answers.Limit.TheVariants.{Turns, Attempts};
 ghost use Rattle.gcl_core.specs.meaning.Blocks.{fault, limit};
 ghost use Rattle.units_law.specs.Units.{total};
 ghost use Rattle.scaled_law.specs.Pairs.{at_most};
@@ -19,18 +19,20 @@ pub struct Ended {
     pub divisor: (u128, u128),
     pub bound: (u128, u128),
     pub turns: (u128, u128),
+    pub attempts: (u128, u128),
 }
 
 impl Ended {
     /// Nothing has ended.
     pub fn none() -> Ended
-        ensures { (result.overflow ≡ (0, 0)) × (result.divisor ≡ (0, 0)) × (result.bound ≡ (0, 0)) × (result.turns ≡ (0, 0)) }
+        ensures { (result.overflow ≡ (0, 0)) × (result.divisor ≡ (0, 0)) × (result.bound ≡ (0, 0)) × (result.turns ≡ (0, 0)) × (result.attempts ≡ (0, 0)) }
     {
         Ended {
             overflow: (0, 0),
             divisor: (0, 0),
             bound: (0, 0),
             turns: (0, 0),
+            attempts: (0, 0),
         }
     }
 
@@ -64,6 +66,16 @@ impl Ended {
         })
     }
 
+    /// With more units of a draw that no attempt decided.
+    pub fn with_attempts(self, w: (u128, u128)) -> Result<Ended, PairsError>
+        ensures { IfOk result (EndsWith self ((limit Attempts, w) ∷ [])) }
+    {
+        Ok(Ended {
+            attempts: added(self.attempts, w)?,
+            ..self
+        })
+    }
+
     /// `k` times as many.
     pub fn times(self, k: u128) -> Result<Ended, PairsError>
         ensures { IfOk result (λ e. units_of e ≡ times_pairs (k, 1) (units_of self)) }
@@ -73,6 +85,7 @@ impl Ended {
             divisor: times(self.divisor, k)?,
             bound: times(self.bound, k)?,
             turns: times(self.turns, k)?,
+            attempts: times(self.attempts, k)?,
         })
     }
 
@@ -81,7 +94,7 @@ impl Ended {
         ensures { IfOk result (λ n. n ≡ total (at_most (units_of self))) }
     {
         let faults = added(added(self.overflow, self.divisor)?, self.bound)?;
-        let (_, most) = added(faults, self.turns)?;
+        let (_, most) = added(faults, added(self.turns, self.attempts)?)?;
         Ok(most)
     }
 }

@@ -11,16 +11,19 @@ ghost use Rattle.scaled_fold.specs.inner.Folding.{FollowsBlock, FollowsStatement
 
 use crate::error::PairsError;
 use crate::growing::grown;
+use crate::odds::Odds;
 use crate::tables::all_of;
 use crate::walk::Walk;
 use gcl_core::{Arms, Block, Expr, Stmt};
 use std::alloc::Global;
 
-/// How a walk goes through blocks: where its memory comes from, and the most turns for each entry of a loop.
+/// How a walk goes through blocks: where its memory comes from, the most turns for each entry of a loop, and the most attempts of a draw,
+/// where they have a limit.
 #[derive(Clone, Copy)]
 pub struct Fold {
     pub alloc: Global,
     pub turns: u64,
+    pub attempts: Option<u64>,
 }
 
 impl Fold {
@@ -49,7 +52,7 @@ impl Fold {
         match s {
             Stmt::Skip => Ok(walk),
             Stmt::Set(x, e) => walk.assigned(self.alloc, *x, e),
-            Stmt::Uniform(x, e) => walk.drawn(self.alloc, *x, e),
+            Stmt::Uniform(x, e) => walk.drawn(self.alloc, self.attempts, *x, e),
             Stmt::Observe(e) => walk.observed(self.alloc, e),
             Stmt::If(e, a, c) => {
                 let both = walk.parted(self.alloc, e)?;
@@ -60,16 +63,13 @@ impl Fold {
             }
             Stmt::While(e, body) => self.while_loop(body, e, walk),
             Stmt::Choice(p, a, c) => {
-                let both = walk.chosen(self.alloc, *p)?;
+                let both = walk.chosen(self.alloc, self.attempts, *p)?;
                 let first = self.block(a, both)?;
                 let turned = first.swapped(self.alloc)?;
                 let second = self.block(c, turned)?;
                 second.taken_back(self.alloc)
             }
-            Stmt::Choose(arms) => {
-                let begun = walk.with_none_aside(self.alloc)?;
-                self.arms(arms, begun)
-            }
+            Stmt::Choose(arms) => self.arms(arms, walk),
         }
     }
 
@@ -82,10 +82,10 @@ impl Fold {
         requires most { sum (parts_of (list_of_arms arms.now)) ≤ GREATEST_DENOMINATOR }
         ensures { IfOk result (FollowsArms self (list_of_arms arms.now) walk) }
     {
-        let bound = mass_fold::choosing::total(arms);
-        let mut now = walk;
+        let odds = Odds::of(mass_fold::choosing::total(arms), self.attempts);
+        let mut now = walk.arms_begun(self.alloc, odds)?;
         for (count, block) in &arms.arms {
-            let part = now.with_part(self.alloc, *count, bound)?;
+            let part = now.with_part(self.alloc, odds, *count)?;
             now = self.block(block, part)?.gathered(self.alloc)?;
         }
         Ok(now.left(self.alloc))

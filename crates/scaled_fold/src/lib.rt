@@ -11,7 +11,8 @@
 //! most the bound of the others (`enclose`), which is at most 1 (`most`). Two bounds are no further apart than that and a unit of 2^-120
 //! (`close`). Rows are of possible outcomes, ascending (`ordered`).
 //!
-//! Draws and runs take as many attempts and rounds as they need. No clause says when a call is refused, how narrow bounds are, that
+//! Draws take so many attempts at most, or as many as they need; what no attempt decides has the outcome of that limit, at least and at most.
+//! Runs take as many rounds as they need. No clause says when a call is refused, how narrow bounds are, that
 //! memory or the stack suffices, or how long a call takes, which grows with the states and with the limit of turns.
 #![tactic(auto)]
 
@@ -24,6 +25,7 @@ mod error;
 mod fold;
 mod growing;
 mod listing;
+mod odds;
 mod outcomes;
 mod pair;
 mod parts;

@@ -59,5 +59,6 @@ pub fn outcomes_of(
     let overflows = add(values, Outcome::Fault(Fault::Overflow), ended.overflow)?;
     let divisors = add(overflows, Outcome::Fault(Fault::ZeroDivisor), ended.divisor)?;
     let bounds = add(divisors, Outcome::Fault(Fault::BadBound), ended.bound)?;
-    add(bounds, Outcome::Limit(Limit::Turns), ended.turns)
+    let turns = add(bounds, Outcome::Limit(Limit::Turns), ended.turns)?;
+    add(turns, Outcome::Limit(Limit::Attempts), ended.attempts)
 }

@@ -63,8 +63,8 @@ fn part_up(w: u128, count: u64, bound: u64) -> u128
     }
 }
 
-/// What `count` of `bound` numbers get.
-pub fn share(w: (u128, u128), count: u64, bound: u64) -> (u128, u128)
+/// What `count` of `bound` parts are.
+pub fn part(w: (u128, u128), count: u64, bound: u64) -> (u128, u128)
     requires some { 1 ≤ bound }
     requires part { count ≤ bound }
     ensures { result ≡ (share_of bound None count w.0, share_up bound None count w.1) }

@@ -1,6 +1,6 @@
 // A round of a program over pairs of units.
 
-ghost use Rattle.std.specs.Prelude.{◌<◌, ℕ, Bool, true, None, IfOk};
+ghost use Rattle.std.specs.Prelude.{◌<◌, ℕ, Bool, true, IfOk};
 ghost use Rattle.gcl_core.specs.declared.answers.Outcome.{Outcome};
 ghost use Rattle.gcl_core.specs.meaning.Views.{source_of};
 ghost use Rattle.gcl_core.specs.weighing.Fractions.{IsBelowOne};
@@ -26,11 +26,16 @@ pub struct Ends {
 }
 
 /// What the walk through a program leads to.
-pub fn ends_of(alloc: Global, p: &Checked, turns: u64) -> Result<Ends, PairsError>
-    ensures { IfOk result (λ e. RoundGives (source_of p.now) turns e.outcomes.entries e.loose) }
+pub fn ends_of(
+    alloc: Global,
+    p: &Checked,
+    turns: u64,
+    attempts: Option<u64>,
+) -> Result<Ends, PairsError>
+    ensures { IfOk result (λ e. RoundGives (source_of p.now) turns attempts e.outcomes.entries e.loose) }
 {
     let program = p.program();
-    let walk = walk_through(alloc, p, turns)?;
+    let walk = walk_through(alloc, p, turns, attempts)?;
     Ok(Ends {
         outcomes: outcomes_of(alloc, &program.result, &walk.next, walk.ended)?,
         loose: walk.loose.1,
@@ -38,8 +43,8 @@ pub fn ends_of(alloc: Global, p: &Checked, turns: u64) -> Result<Ends, PairsErro
 }
 
 /// The outcomes of one round of a program, each with the units that it has at least, with products rounded down, and those that it
-/// has at most, with products rounded up. Draws and runs take as many attempts and rounds as they need, and each entry of a loop at most
-/// `turns` turns.
+/// has at most, with products rounded up. Each entry of a loop takes at most `turns` turns, and each draw at most `attempts` attempts, or as
+/// many as it needs; runs take as many rounds as they need.
 ///
 /// How much a unit is changes on the way: after each statement all units are doubled as often as what has not failed still stays
 /// within 2^120, so they stay small beside it however unlikely the evidence is. What fails is counted nowhere.
@@ -49,16 +54,21 @@ pub fn ends_of(alloc: Global, p: &Checked, turns: u64) -> Result<Ends, PairsErro
 ///
 /// `TooManyStates` comes where a point is reached with more than 65,536 states, `TooWide` where a number of units has more than 128 bits,
 /// and `OutOfMemory` where memory runs out.
-pub fn round_in_pairs(alloc: Global, p: &Checked, turns: u64) -> Result<Ends, PairsError>
-    ensures between { IfOk result (λ e. (all_turns : Bool) (n : ℕ) → IsFor all_turns turns n → IsBelowOne (failed_mass (source_of p.now) n None) →
-        (meant : Outcome → Bool) → LieBeside all_turns e.outcomes.entries e.loose (source_of p.now) n meant) }
+pub fn round_in_pairs(
+    alloc: Global,
+    p: &Checked,
+    turns: u64,
+    attempts: Option<u64>,
+) -> Result<Ends, PairsError>
+    ensures between { IfOk result (λ e. (all_turns : Bool) (n : ℕ) → IsFor all_turns turns n → IsBelowOne (failed_mass (source_of p.now) n attempts) →
+        (meant : Outcome → Bool) → LieBeside all_turns e.outcomes.entries e.loose (source_of p.now) n attempts meant) }
     ensures passes { IfOk result (λ e. (all_turns : Bool) (n : ℕ) → IsFor all_turns turns n →
-        0 < least_given all_turns e.outcomes.entries e.loose (λ x. true) → IsBelowOne (failed_mass (source_of p.now) n None)) }
-    ensures round { IfOk result (λ e. RoundGives (source_of p.now) turns e.outcomes.entries e.loose) }
+        0 < least_given all_turns e.outcomes.entries e.loose (λ x. true) → IsBelowOne (failed_mass (source_of p.now) n attempts)) }
+    ensures round { IfOk result (λ e. RoundGives (source_of p.now) turns attempts e.outcomes.entries e.loose) }
 {
     products_are_rounded_down();
     products_are_rounded_up();
     masses_lie_beside_others();
     p.is_kept();
-    ends_of(alloc, p, turns)
+    ends_of(alloc, p, turns, attempts)
 }

@@ -1,20 +1,21 @@
 // What one statement makes of a walk.
 
-ghost use Rattle.std.specs.Prelude.{◌≡◌, ◌≤◌, ◌<◌, IfOk};
+ghost use Rattle.std.specs.Prelude.{◌≤◌, ◌<◌, None, IfOk};
 ghost use Rattle.gcl_core.specs.meaning.Bounds.{ExpressionBelow, IsWeight};
 ghost use Rattle.gcl_core.specs.meaning.Syntax.{Set, Uniform, Observe};
 ghost use Rattle.gcl_core.specs.meaning.Value.{value_of};
 ghost use Rattle.gcl_core.specs.meaning.Views.{expression_of};
 ghost use Rattle.scaled_law.specs.Scaled.{enters, left_loop};
-ghost use Rattle.scaled_fold.specs.inner.Folding.{statement_after, parted, chosen, none_aside, turns_end, with_part, gathered};
+ghost use Rattle.scaled_fold.specs.inner.Folding.{statement_after, parted, chosen, none_aside, arms_begun, turns_end, with_part, gathered};
 ghost use Rattle.scaled_fold.specs.inner.Holding.{Follows, FollowsMerged};
 
 use crate::draws::draw;
 use crate::error::PairsError;
+use crate::odds::Odds;
 use crate::pair::added;
 use crate::steps::{assign, split};
 use crate::table::Table;
-use crate::tables::{all_of, merge, side};
+use crate::tables::{all_of, merge, side, undecided};
 use crate::walk::Walk;
 use gcl_core::{Expr, Weight};
 use std::alloc::Global;
@@ -24,7 +25,7 @@ impl Walk {
     pub fn assigned(self, alloc: Global, x: u32, e: &Expr) -> Result<Walk, PairsError>
         requires place { x < self.next.vars }
         requires reads { ExpressionBelow (expression_of e.now) self.next.vars }
-        ensures { IfOk result (Follows (statement_after 0 (Set x (expression_of e.now))) self) }
+        ensures { IfOk result (Follows (statement_after 0 None (Set x (expression_of e.now))) self) }
     {
         let (next, ended) = assign(alloc, x, e, self.next, self.ended)?;
         Ok(Walk {
@@ -36,12 +37,18 @@ impl Walk {
     }
 
     /// After a uniform draw.
-    pub fn drawn(self, alloc: Global, x: u32, e: &Expr) -> Result<Walk, PairsError>
+    pub fn drawn(
+        self,
+        alloc: Global,
+        attempts: Option<u64>,
+        x: u32,
+        e: &Expr,
+    ) -> Result<Walk, PairsError>
         requires place { x < self.next.vars }
         requires reads { ExpressionBelow (expression_of e.now) self.next.vars }
-        ensures { IfOk result (Follows (statement_after 0 (Uniform x (expression_of e.now))) self) }
+        ensures { IfOk result (Follows (statement_after 0 attempts (Uniform x (expression_of e.now))) self) }
     {
-        let (next, ended) = draw(alloc, x, e, self.next, self.ended)?;
+        let (next, ended) = draw(alloc, attempts, x, e, self.next, self.ended)?;
         Ok(Walk {
             next,
             aside: self.aside,
@@ -53,7 +60,7 @@ impl Walk {
     /// After an observation. What fails counts nowhere.
     pub fn observed(self, alloc: Global, e: &Expr) -> Result<Walk, PairsError>
         requires { ExpressionBelow (expression_of e.now) self.next.vars }
-        ensures { IfOk result (Follows (statement_after 0 (Observe (expression_of e.now))) self) }
+        ensures { IfOk result (Follows (statement_after 0 None (Observe (expression_of e.now))) self) }
     {
         let (next, _, ended) = split(alloc, e, self.next, self.ended)?;
         Ok(Walk {
@@ -78,16 +85,18 @@ impl Walk {
         })
     }
 
-    /// The first side of a choice goes on, and the second stands aside.
-    pub fn chosen(self, alloc: Global, p: Weight) -> Result<Walk, PairsError>
+    /// The first side of a choice goes on, and the second stands aside; what no attempt decides has ended.
+    pub fn chosen(self, alloc: Global, attempts: Option<u64>, p: Weight) -> Result<Walk, PairsError>
         requires { IsWeight p }
-        ensures { IfOk result (Follows (chosen p) self) }
+        ensures { IfOk result (Follows (chosen attempts p) self) }
     {
-        let second = side(alloc, p.den - p.num, p.den, &self.next)?;
+        let odds = Odds::of(p.den, attempts);
+        let ended = self.ended.with_attempts(undecided(odds, &self.next)?)?;
+        let second = side(alloc, odds, p.den - p.num, &self.next)?;
         Ok(Walk {
-            next: side(alloc, p.num, p.den, &self.next)?,
+            next: side(alloc, odds, p.num, &self.next)?,
             aside: self.aside.topped(second)?,
-            ended: self.ended,
+            ended,
             loose: self.loose,
         })
     }
@@ -105,14 +114,27 @@ impl Walk {
         })
     }
 
+    /// No arm of a choice among several has come yet; what no attempt decides has ended.
+    pub fn arms_begun(self, alloc: Global, odds: Odds) -> Result<Walk, PairsError>
+        ensures { IfOk result (Follows (arms_begun odds.bound odds.attempts) self) }
+    {
+        let ended = self.ended.with_attempts(undecided(odds, &self.next)?)?;
+        let none = Table::new(alloc, self.next.vars);
+        Ok(Walk {
+            next: self.next,
+            aside: self.aside.topped(none)?,
+            ended,
+            loose: self.loose,
+        })
+    }
+
     /// What an arm of a choice among several gets goes on, and the whole stands aside.
-    pub fn with_part(self, alloc: Global, count: u64, bound: u64) -> Result<Walk, PairsError>
-        requires some { 1 ≤ bound }
-        requires part { count ≤ bound }
-        ensures { IfOk result (FollowsMerged (with_part bound count) self) }
+    pub fn with_part(self, alloc: Global, odds: Odds, count: u64) -> Result<Walk, PairsError>
+        requires { count ≤ odds.bound }
+        ensures { IfOk result (FollowsMerged (with_part odds.bound odds.attempts count) self) }
     {
         Ok(Walk {
-            next: side(alloc, count, bound, &self.next)?,
+            next: side(alloc, odds, count, &self.next)?,
             aside: self.aside.topped(self.next)?,
             ended: self.ended,
             loose: self.loose,

@@ -20,10 +20,10 @@ pub record AreAnswers (p : SourceProgram) (n : ℕ) (r R : Option ℕ) (all_turn
   pub few : HaveLittle p n r R all_turns other
 
 -- bounds by pairs
-pub record ArePaired (p : SourceProgram) (n : ℕ) (all_turns : Bool) (rows : Rows) (other : Fraction) : Type 0 where
+pub record ArePaired (p : SourceProgram) (n : ℕ) (r : Option ℕ) (all_turns : Bool) (rows : Rows) (other : Fraction) : Type 0 where
   pub ordered : AreOrdered rows other
-  pub passes : IsBelowOne (failed_mass p n None)
-  pub enclose : (n' : ℕ) → IsFor all_turns n n' → Enclose p n' None None rows other
+  pub passes : IsBelowOne (failed_mass p n r)
+  pub enclose : (n' : ℕ) → IsFor all_turns n n' → Enclose p n' r None rows other
   pub close : AreClose (most_apart None) rows other
   pub most : AtMost other one
 

@@ -1,5 +1,5 @@
 -- What the clauses of a fold say of a block, a statement, a loop and the arms of a choice among several.
-use Rattle.std.specs.Prelude.{ℕ, ◌-◌, [], ◌∷◌, ◌++◌, None}
+use Rattle.std.specs.Prelude.{ℕ, ◌-◌, [], ◌∷◌, ◌++◌, Option}
 use Rattle.std.specs.List.{sum}
 use Rattle.gcl_core.specs.declared.answers.Limit.TheVariants.{Turns, Attempts}
 use Rattle.gcl_core.specs.declared.syntax.Weight.{Weight}
@@ -15,7 +15,7 @@ use Rattle.scaled_law.specs.Up.{up}
 use Rattle.scaled_fold.specs.Doubling.{doubling}
 use Rattle.scaled_fold.specs.declared.fold.Fold.{Fold}
 use Rattle.scaled_fold.specs.declared.walk.Walk.{Walk}
-use Rattle.scaled_fold.specs.inner.Holding.{Follows, FollowsMerged}
+use Rattle.scaled_fold.specs.inner.Holding.{Follows}
 
 -- ---- what one statement does to what stands where
 
@@ -27,19 +27,23 @@ parted e f =
     (ends_more (faults_go counted_pairs (value_of e) g.next) g)
 
 -- the first side of a choice goes on, and the second stands aside
-abbrev pub chosen : Weight → Scaled → Scaled
-chosen p f =
+abbrev pub chosen : Option ℕ → Weight → Scaled → Scaled
+chosen r p f =
     let g = tidied f in
-    with_tables (class_pairs down up p.den None p.num g.next) (class_pairs down up p.den None (p.den - p.num) g.next ∷ g.aside)
-    (ends_more (end_go counted_pairs (limit Attempts) (rest_pairs down up p.den None g.next)) g)
+    with_tables (class_pairs down up p.den r p.num g.next) (class_pairs down up p.den r (p.den - p.num) g.next ∷ g.aside)
+    (ends_more (end_go counted_pairs (limit Attempts) (rest_pairs down up p.den r g.next)) g)
 
 -- no table yet stands aside of a merged one
 abbrev pub none_aside : Scaled → Scaled
 none_aside f = let g = tidied f in with_tables g.next ([] ∷ g.aside) g
 
+-- no arm of a draw with b parts has come yet, and what no attempt of it decides has ended
+abbrev pub arms_begun : ℕ → Option ℕ → Scaled → Scaled
+arms_begun b r f = let g = tidied f in with_tables g.next ([] ∷ g.aside) (ends_more (end_go counted_pairs (limit Attempts) (rest_pairs down up b r g.next)) g)
+
 -- what an arm gets goes on, and the whole stands aside; and back
-abbrev pub with_part : ℕ → ℕ → Scaled → Scaled
-with_part b c f = with_tables (class_pairs down up b None c f.next) (f.next ∷ f.aside) f
+abbrev pub with_part : ℕ → Option ℕ → ℕ → Scaled → Scaled
+with_part b r c f = with_tables (class_pairs down up b r c f.next) (f.next ∷ f.aside) f
 
 abbrev pub gathered : Scaled → Scaled
 gathered f = let g = swapped f in with_tables g.next ((top (below g.aside) ++ top g.aside) ∷ below (below g.aside)) g
@@ -50,31 +54,31 @@ turns_end e f =
     taken_back (with_tables (only_go counted_pairs (fails (value_of e)) f.next) f.aside
     (ends_more (faults_go counted_pairs (value_of e) f.next ++ end_go counted_pairs (limit Turns) (only_go counted_pairs (holds (value_of e)) f.next)) f))
 
--- ---- blocks, under a limit of turns
-module _ (n : ℕ) where
+-- ---- blocks, under limits of turns and of attempts
+module _ (n : ℕ) (r : Option ℕ) where
   abbrev pub block_after : Statements → Scaled → Scaled
-  block_after = block_scaled down up doubling n None
+  block_after = block_scaled down up doubling n r
 
   abbrev pub statement_after : Statement → Scaled → Scaled
-  statement_after s f = statement_scaled down up doubling n None s (tidied f)
+  statement_after s f = statement_scaled down up doubling n r s (tidied f)
 
   abbrev pub both_after : Statements → Statements → Scaled → Scaled
   both_after a c f = taken_back (block_after c (swapped (block_after a f)))
 
   abbrev pub arms_after : ℕ → ArmList → Scaled → Scaled
-  arms_after = arms_scaled down up doubling n None
+  arms_after = arms_scaled down up doubling n r
 
   abbrev pub loop_after : Expression → Statements → ℕ → Scaled → Scaled
   loop_after e b = loop_scaled doubling (value_of e) (block_after b)
 
 abbrev pub FollowsBlock : Fold → Statements → Walk → Walk → Type 0
-FollowsBlock fold b = Follows (block_after fold.turns b)
+FollowsBlock fold b = Follows (block_after fold.turns fold.attempts b)
 
 abbrev pub FollowsStatement : Fold → Statement → Walk → Walk → Type 0
-FollowsStatement fold s = Follows (statement_after fold.turns s)
+FollowsStatement fold s = Follows (statement_after fold.turns fold.attempts s)
 
 abbrev pub FollowsArms : Fold → ArmList → Walk → Walk → Type 0
-FollowsArms fold arms = FollowsMerged (arms_after fold.turns (sum (parts_of arms)) arms)
+FollowsArms fold arms = let b = sum (parts_of arms) in Follows (λ f. arms_after fold.turns fold.attempts b arms (arms_begun b fold.attempts f))
 
 abbrev pub FollowsLoop : Fold → Expression → Statements → Walk → Walk → Type 0
-FollowsLoop fold e b = Follows (λ f. loop_after fold.turns e b fold.turns (none_aside f))
+FollowsLoop fold e b = Follows (λ f. loop_after fold.turns fold.attempts e b fold.turns (none_aside f))

@@ -1,5 +1,5 @@
 -- The outcomes of a round, each once with its units.
-use Rattle.std.specs.Prelude.{◌≡◌, ℕ, ◌+◌, ◌*◌, [], Bool}
+use Rattle.std.specs.Prelude.{◌≡◌, ℕ, ◌+◌, ◌*◌, [], Bool, Option}
 use Rattle.gcl_core.specs.declared.answers.Outcome.{Outcome}
 use Rattle.gcl_core.specs.meaning.Outcomes.{outcome_of}
 use Rattle.gcl_core.specs.meaning.Syntax.{Expression, SourceProgram}
@@ -35,7 +35,7 @@ pub record AreOutcomes (e : Expression) (I : Pairs State) (E : Ended) (K : Pairs
   pub most : (meant : Outcome → Bool) → most_in meant K ≡ end_units_of (ends_in e meant) (most_flow (after I E))
 
 -- outcomes have what the round gives them, and so much is loose
-pub record RoundGives (p : SourceProgram) (n : ℕ) (K : Pairs Outcome) (loose : ℕ) : Type 0 where
-  pub least : (meant : Outcome → Bool) → least_in meant K ≡ meant_units p meant (least_flow (doubled_round p n))
-  pub most : (meant : Outcome → Bool) → most_in meant K ≡ meant_units p meant (most_flow (doubled_round p n))
-  pub rest : loose ≡ (doubled_round p n).loose.1
+pub record RoundGives (p : SourceProgram) (n : ℕ) (r : Option ℕ) (K : Pairs Outcome) (loose : ℕ) : Type 0 where
+  pub least : (meant : Outcome → Bool) → least_in meant K ≡ meant_units p meant (least_flow (doubled_round p n r))
+  pub most : (meant : Outcome → Bool) → most_in meant K ≡ meant_units p meant (most_flow (doubled_round p n r))
+  pub rest : loose ≡ (doubled_round p n r).loose.1

@@ -12,4 +12,4 @@ pub returns-clause-ok : goal.returns-clause-ok
 returns-clause-ok c =
     let p = source_of c.program-program.result.now in
     let b = subst (λ n. Begins n c.in_ok-walk.walk) c.count.ensures c.in_ok-walk.ensures.ok in
-    IfOk-weaker c.block.result _ _ (λ t s. subst (λ (q : Program). Holds (doubled_round (source_of q) c.args.turns) t) c.program-program.ensures.same (s.holds (begun p) (begins p c.in_ok-walk.walk b))) c.block.ensures
+    IfOk-weaker c.block.result _ _ (λ t s. subst (λ (q : Program). Holds (doubled_round (source_of q) c.args.turns c.args.attempts) t) c.program-program.ensures.same (s.holds (begun p) (begins p c.in_ok-walk.walk b))) c.block.ensures

@@ -1,4 +1,4 @@
-use Rattle.std.proofs.Common.{◌≡◌, ◌∙◌, length, None, [], ◌∷◌, sym, arith}
+use Rattle.std.proofs.Common.{◌≡◌, ◌∙◌, length, [], ◌∷◌, sym, arith}
 use Rattle.gcl_core.specs.meaning.Views.{expression_of}
 use Rattle.gcl_core.specs.meaning.Value.{State, value_of}
 use Rattle.table_flow.specs.Tables.{drawn_go, undrawn_go}
@@ -27,14 +27,15 @@ draw_entry-requires-clause-reads c =
 pub loop-s-preserved : goal.loop-s-preserved
 loop-s-preserved c =
     let v = value_of (expression_of c.args.e.now) in
+    let r = c.args.attempts in
     let es = c.args.table.states.entries in
     let entry : State × Pair = (c.in-Some.s, c.in-Some.w) in
     record {
       next = tt;
       finite = tt;
       vars = c.in_ok-more.ensures.vars ∙ c.loop-s.invariant.vars;
-      so_far = puts_list (drawn_go (pairs_kind down up) c.args.x v None) [] es c.loop-s.next.states.entries _ c.loop-s.invariant.so_far c.in-Some.s c.in-Some.w c.next.new.self c.in-Some.ensures.steps
-          (drawn_go (pairs_kind down up) c.args.x v None (entry ∷ [])) _ (drawn_first c.args.x v c.in-Some.s c.in-Some.w c.next.new.self) c.in_ok-more.ensures.added;
-      stopped = stops_list (undrawn_go (pairs_kind down up) v None) c.args.before es c.loop-s.ended _ c.loop-s.invariant.stopped c.in-Some.s c.in-Some.w c.next.new.self c.in-Some.ensures.steps
-          (undrawn_go (pairs_kind down up) v None (entry ∷ [])) _ (undrawn_first v c.in-Some.s c.in-Some.w c.next.new.self) c.in_ok-more.ensures.stopped;
+      so_far = puts_list (drawn_go (pairs_kind down up) c.args.x v r) [] es c.loop-s.next.states.entries _ c.loop-s.invariant.so_far c.in-Some.s c.in-Some.w c.next.new.self c.in-Some.ensures.steps
+          (drawn_go (pairs_kind down up) c.args.x v r (entry ∷ [])) _ (drawn_first c.args.x v r c.in-Some.s c.in-Some.w c.next.new.self) c.in_ok-more.ensures.added;
+      stopped = stops_list (undrawn_go (pairs_kind down up) v r) c.args.before es c.loop-s.ended _ c.loop-s.invariant.stopped c.in-Some.s c.in-Some.w c.next.new.self c.in-Some.ensures.steps
+          (undrawn_go (pairs_kind down up) v r (entry ∷ [])) _ (undrawn_first v r c.in-Some.s c.in-Some.w c.next.new.self) c.in_ok-more.ensures.stopped;
     }

@@ -10,4 +10,4 @@ returns c =
     let w = c.in_ok-walk.walk in
     let K = c.in_ok-outcomes_of.field-0.entries in
     let o = subst (λ (q : Program). AreOutcomes (source_of q).result w.next.states.entries w.ended K) c.program-program.ensures.same c.in_ok-outcomes_of.ensures in
-    round_gives (source_of c.args.p.now) c.args.turns w K w.loose.1 c.in_ok-walk.ensures.ok o refl
+    round_gives (source_of c.args.p.now) c.args.turns c.args.attempts w K w.loose.1 c.in_ok-walk.ensures.ok o refl

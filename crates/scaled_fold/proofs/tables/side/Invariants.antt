@@ -1,4 +1,4 @@
-use Rattle.std.proofs.Common.{◌≡◌, [], None}
+use Rattle.std.proofs.Common.{◌≡◌, []}
 use Rattle.units_law.specs.Down.{down}
 use Rattle.scaled_law.specs.Pairs.{class_pairs}
 use Rattle.scaled_law.specs.Up.{up}
@@ -10,5 +10,5 @@ invariant-loop-s l = record {
   next : (goal.iterator-loop-s).can_next l.s-iterator;
   finite : (goal.iterator-loop-s).is_finite l.s-iterator;
   vars : l.next.vars ≡ l.table.vars;
-  so_far : Puts (class_pairs down up l.bound None l.count) [] l.table.states.entries l.next.states.entries l.s-iterator;
+  so_far : Puts (class_pairs down up l.odds.bound l.odds.attempts l.count) [] l.table.states.entries l.next.states.entries l.s-iterator;
 }

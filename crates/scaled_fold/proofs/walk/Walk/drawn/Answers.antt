@@ -4,4 +4,4 @@ use Rattle.scaled_fold.proofs.Following.{drawn_follows}
 use Rattle.scaled_fold.proofs.walk.Walk.drawn.Goals as goal
 
 pub returns : goal.returns
-returns c = drawn_follows c.args.self _ refl refl c.in_ok-next.ensures.vars c.args.x (expression_of c.args.e.now) c.in_ok-next.ensures.next c.in_ok-next.ensures.stopped
+returns c = drawn_follows c.args.self _ refl refl c.in_ok-next.ensures.vars c.args.x (expression_of c.args.e.now) c.args.attempts c.in_ok-next.ensures.next c.in_ok-next.ensures.stopped
