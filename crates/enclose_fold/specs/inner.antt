@@ -1,6 +1,5 @@
 pub mod Refusals
 pub mod Ended
-pub mod Odds
 pub mod Folding
 pub mod Body
 pub mod Outcomes

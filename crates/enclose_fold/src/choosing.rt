@@ -13,8 +13,8 @@ ghost use Rattle.enclose_fold.specs.inner.Ended.{units_of, EndsWith};
 
 use crate::ended::Ended;
 use crate::error::EncloseError;
-use crate::odds::Odds;
 use crate::table::Table;
+use scaled_fold::Odds;
 use std::alloc::Global;
 
 /// What no attempt of a draw decides has ended.
@@ -23,7 +23,7 @@ pub fn undecided(odds: Odds, table: &Table, ended: &mut Ended)
     ensures { EndsWith ended.old (end_units (limit Attempts) (rest_units down odds.bound odds.attempts table.now.states.entries)) ended.new }
 {
     for (_, w) in &table.states {
-        ended.add_attempts(odds.rest(*w));
+        ended.add_attempts(odds.least_rest(*w));
     }
 }
 
@@ -38,7 +38,7 @@ pub fn side(alloc: Global, odds: Odds, count: u64, table: &Table) -> Result<Tabl
 {
     let mut next = Table::new(alloc, table.vars);
     for (s, w) in &table.states {
-        next.put(s.copy(alloc)?, odds.share(count, *w))?;
+        next.put(s.copy(alloc)?, odds.least_share(count, *w))?;
     }
     Ok(next)
 }

@@ -17,10 +17,10 @@ ghost use Rattle.enclose_fold.specs.inner.Refusals.{RefusedAt};
 use crate::ended::Ended;
 use crate::error::EncloseError;
 use crate::fold::Fold;
-use crate::odds::Odds;
 use crate::table::Table;
 use gcl_core::{Expr, Fault, eval};
 use mass_fold::State;
+use scaled_fold::Odds;
 use std::alloc::Global;
 
 // The state with x set to each number below a bound, each with h units. Where h is 0 nothing is added.
@@ -75,8 +75,8 @@ impl Fold {
             (RefusedAt (next.old.states.entries ++ below_units x bound s.now (share_of bound self.attempts 1 w))) }
     {
         let odds = Odds::of(bound, self.attempts);
-        spread(self.alloc, x, bound, s, odds.share(1, w), next)?;
-        ended.add_attempts(odds.rest(w));
+        spread(self.alloc, x, bound, s, odds.least_share(1, w), next)?;
+        ended.add_attempts(odds.least_rest(w));
         Ok(())
     }
 

@@ -15,10 +15,10 @@ ghost use Rattle.enclose_fold.specs.inner.Folding.{LoopGives, LoopRefused, ArmsG
 use crate::choosing::{side, undecided};
 use crate::ended::Ended;
 use crate::error::EncloseError;
-use crate::odds::Odds;
 use crate::steps::{all_of, assign, merge, split};
 use crate::table::Table;
 use gcl_core::{Arms, Block, Expr, Stmt};
+use scaled_fold::Odds;
 use std::alloc::Global;
 
 /// How tables go through blocks: where their memory comes from, the most turns for each entry of a loop, and the most attempts

@@ -26,7 +26,6 @@ mod enclosing;
 mod ended;
 mod error;
 mod fold;
-mod odds;
 mod outcomes;
 mod rounds;
 mod rows;

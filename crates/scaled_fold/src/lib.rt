@@ -42,4 +42,5 @@ mod walking;
 
 pub use enclosing::enclose_in_pairs;
 pub use error::PairsError;
+pub use odds::Odds;
 pub use rounds::{Ends, round_in_pairs};

@@ -1,11 +1,9 @@
 // Two numbers of units: those that something has at least, and those that it has at most.
 
-ghost use Rattle.std.specs.Prelude.{◌≡◌, ◌≤◌, ◌+◌, ◌*◌, None, IfOk};
+ghost use Rattle.std.specs.Prelude.{◌≡◌, ◌≤◌, ◌+◌, ◌*◌, IfOk};
 ghost use Rattle.std.specs.Int.{div_ceil};
-ghost use Rattle.units_law.specs.Down.{share_of};
 ghost use Rattle.scaled_law.specs.Pairs.{added};
 ghost use Rattle.scaled_law.specs.Scaled.{times_pair};
-ghost use Rattle.scaled_law.specs.Up.{share_up};
 
 use crate::error::PairsError;
 use numbers::part_down;
@@ -48,8 +46,8 @@ pub fn times(w: (u128, u128), k: u128) -> Result<(u128, u128), PairsError>
     Ok((least, most))
 }
 
-// `w` units times `count` over `bound`, rounded up.
-fn part_up(w: u128, count: u64, bound: u64) -> u128
+/// `w` units times `count` over `bound`, rounded up.
+pub fn part_up(w: u128, count: u64, bound: u64) -> u128
     requires some { 1 ≤ bound }
     requires part { count ≤ bound }
     ensures { result ≡ div_ceil (w * count) bound }
@@ -61,13 +59,4 @@ fn part_up(w: u128, count: u64, bound: u64) -> u128
     } else {
         whole + 1
     }
-}
-
-/// What `count` of `bound` parts are.
-pub fn part(w: (u128, u128), count: u64, bound: u64) -> (u128, u128)
-    requires some { 1 ≤ bound }
-    requires part { count ≤ bound }
-    ensures { result ≡ (share_of bound None count w.0, share_up bound None count w.1) }
-{
-    (part_down(w.0, count, bound), part_up(w.1, count, bound))
 }

@@ -22,12 +22,6 @@ loop-s-init c =
       so_far = pass_start (class_units down o.bound o.attempts c.args.count) (each_class o.bound o.attempts c.args.count) [] c.args.table.now.states.entries _ _ c.new-next.ensures.empty p;
     }
 
-pub share-requires-clause-most : goal.share-requires-clause-most
-share-requires-clause-most c =
-    let e = ap total c.in-Some.ensures.steps in
-    let l = c.loop-s.invariant.left in
-    omega (arith, c.requires.within)
-
 pub put-requires-clause-sized : goal.put-requires-clause-sized
 put-requires-clause-sized c = ap length c.in_ok-copy.ensures ∙ sized_at _ _ c.args.table.now.sized deref_pair _ _ _ _ _ _ c.into_iter-s-iterator.ensures.into_iter_gives.0 c.loop-s.yielded_by c.in-Some.is c.next.ensures.steps ∙ sym c.loop-s.invariant.vars
 
@@ -39,7 +33,7 @@ put-requires-clause-within c =
     let a = pass_room step (each_class o.bound o.attempts c.args.count) [] es _ c.next.new.self c.in-Some.s.now c.in-Some.w.now
     (pass_along step (each_class o.bound o.attempts c.args.count) [] es _ _ _ c.in-Some.ensures.steps c.loop-s.invariant.so_far) in
     let b = class_within o.attempts es c.requires.within o.bound (omega (arith, o.least)) c.args.count c.requires.part in
-    let r = c.share.ensures in
+    let r = c.least_share.ensures in
     omega (arith, c.requires.within, a, b, r)
 
 pub loop-s-preserved : goal.loop-s-preserved
@@ -54,9 +48,9 @@ loop-s-preserved c =
       left = let e = ap total c.in-Some.ensures.steps in let l = c.loop-s.invariant.left in omega arith;
       so_far = pass_go step (each_class o.bound o.attempts c.args.count) [] es _ c.next.new.self c.in-Some.s.now c.in-Some.w.now
           (pass_along step (each_class o.bound o.attempts c.args.count) [] es _ _ _ c.in-Some.ensures.steps c.loop-s.invariant.so_far) _
-          (λ G. put_holds c.loop-s.next.states.entries _ _ c.share.result c.in_ok-put.ensures.ok c.loop-s.next.once G _
-          (class_one o.bound o.attempts c.args.count c.in-Some.s.now _ c.in-Some.w.now _ c.in_ok-copy.ensures c.share.ensures G))
-          (put_short c.loop-s.next.states.entries _ _ c.share.result c.in_ok-put.ensures.ok);
+          (λ G. put_holds c.loop-s.next.states.entries _ _ c.least_share.result c.in_ok-put.ensures.ok c.loop-s.next.once G _
+          (class_one o.bound o.attempts c.args.count c.in-Some.s.now _ c.in-Some.w.now _ c.in_ok-copy.ensures c.least_share.ensures G))
+          (put_short c.loop-s.next.states.entries _ _ c.least_share.result c.in_ok-put.ensures.ok);
     }
 
 pub returns-clause-next : goal.returns-clause-next
@@ -74,4 +68,4 @@ returns-in_err-put-clause-cause c =
     let step = class_units down o.bound o.attempts c.args.count in
     let out : c.from_residual-in_err-put.result ≡ Err c.in_err-put.field-0.0 = grind arith in
     let h = pass_along step (each_class o.bound o.attempts c.args.count) [] es _ _ _ c.in-Some.ensures.steps c.loop-s.invariant.so_far in
-    rw out (put_fits _ _ _ c.share.result (let f = h.few in omega (arith, c.args.table.now.few, f)) c.in_err-put.ensures.cause)
+    rw out (put_fits _ _ _ c.least_share.result (let f = h.few in omega (arith, c.args.table.now.few, f)) c.in_err-put.ensures.cause)

@@ -18,12 +18,6 @@ loop-w-init c =
       stopped = stop_start (undecided o.bound o.attempts) (each_rest o.bound o.attempts) c.args.table.now.states.entries c.args.ended.now _ p;
     }
 
-pub rest-requires : goal.rest-requires
-rest-requires c =
-    let e = ap total c.in-Some.ensures.steps in
-    let l = c.loop-w.invariant.left in
-    omega (arith, c.requires)
-
 pub add_attempts-requires : goal.add_attempts-requires
 add_attempts-requires c =
     let o = c.args.odds in
@@ -32,7 +26,7 @@ add_attempts-requires c =
     let a = stop_room stop (each_rest o.bound o.attempts) es c.args.ended.now _ c.in-Some.field-0-0.now c.in-Some.w.now c.next.new.self
     (stop_along stop (each_rest o.bound o.attempts) es c.args.ended.now _ _ _ c.in-Some.ensures.steps c.loop-w.invariant.stopped) in
     let b = rest_within o.attempts es (omega (arith, c.requires)) o.bound (omega (arith, o.least)) in
-    let r = c.rest.ensures in
+    let r = c.least_rest.ensures in
     omega (arith, c.requires, a, b, r)
 
 pub loop-w-preserved : goal.loop-w-preserved
@@ -46,7 +40,7 @@ loop-w-preserved c =
       left = let e = ap total c.in-Some.ensures.steps in let l = c.loop-w.invariant.left in omega arith;
       stopped = stop_go stop (each_rest o.bound o.attempts) es c.args.ended.now _ c.in-Some.field-0-0.now c.in-Some.w.now c.next.new.self
           (stop_along stop (each_rest o.bound o.attempts) es c.args.ended.now _ _ _ c.in-Some.ensures.steps c.loop-w.invariant.stopped) _
-          (λ G. one_ended c.loop-w.ended _ _ c.rest.result c.add_attempts.ensures G _ (let r = ap (λ t. t * G (limit Attempts)) c.rest.ensures in omega arith));
+          (λ G. one_ended c.loop-w.ended _ _ c.least_rest.result c.add_attempts.ensures G _ (let r = ap (λ t. t * G (limit Attempts)) c.least_rest.ensures in omega arith));
     }
 
 pub returns : goal.returns
