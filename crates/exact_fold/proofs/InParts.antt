@@ -1,5 +1,5 @@
 -- A table is walked in parts, and what it comes to is put together. A list of statements is walked in parts, one after the other.
-use Rattle.std.proofs.Common.{◌≡◌, ℕ, zero, suc, ◌+◌, ◌*◌, ◌-◌, ◌≤◌, ◌<◌, List, [], ◌∷◌, ◌++◌, take, drop, get_or, drop-cons, length, refl, sym, ap, ◌∙◌, subst, append_assoc, append-nil, arith}
+use Rattle.std.proofs.Common.{◌≡◌, ℕ, zero, suc, ◌+◌, ◌-◌, ◌≤◌, ◌<◌, List, [], ◌∷◌, ◌++◌, take, drop, get_or, drop-cons, length, refl, sym, ap, ◌∙◌, subst, append_assoc, append-nil, arith}
 use Rattle.std.proofs.lemmas.List.{take-append-drop, drop-drop}
 use Rattle.numbers.specs.Fraction.{IsEqual}
 use Rattle.gcl_core.specs.declared.syntax.Stmt.{Stmt}
@@ -19,21 +19,21 @@ use Rattle.mass_fold.specs.declared.ended.Ended.{Ended}
 use Rattle.mass_fold.specs.inner.Amounts.{Entries, PutGives}
 use Rattle.mass_fold.specs.inner.Ended.{rows_of}
 use Rattle.mass_fold.specs.inner.Steps.{StepsTo}
-use Rattle.linear_settling.specs.Mixed.{mixed, no_outflow}
+use Rattle.linear_settling.specs.Mixed.{mixed}
 use Rattle.linear_settling.proofs.Mixtures.{Mixes}
 use Rattle.linear_settling.proofs.MixedBlocks.{block_mixes}
 use Rattle.linear_settling.proofs.NoTable.{settles_together}
 use Rattle.unlimited_law.specs.Alike.{AreFractions, Alike}
-use Rattle.unlimited_law.specs.Settling.{Outflow, IsOutflow, BlockSettles}
-use Rattle.unlimited_law.proofs.Numbers.{Rational, ◌⊕◌, ◌⊗◌, ◌≃◌, same_refl, same_sym, same_trans, add_same, factor_same, unit_times}
+use Rattle.unlimited_law.specs.Settling.{Outflow, BlockSettles}
+use Rattle.unlimited_law.proofs.Numbers.{Rational, ◌⊗◌, ◌≃◌, same_refl, same_sym, same_trans, add_same, factor_same, unit_times}
 use Rattle.unlimited_law.proofs.FractionNumbers.{of, of_one}
 use Rattle.unlimited_law.proofs.Integrals.{integral, integral_append, integral_scaled}
-use Rattle.unlimited_law.proofs.Likeness.{alike_trans, Like, settles_like}
+use Rattle.unlimited_law.proofs.Likeness.{settles_like}
 use Rattle.unlimited_law.proofs.BlockLimits.{behind_fractions}
 use Rattle.unlimited_law.proofs.ByState.{append_fractions}
 use Rattle.exact_fold.specs.inner.Between.{part, between}
 use Rattle.exact_fold.specs.inner.Settled.{as_table, AreAbove, AreUnlimited, SettlesFrom}
-use Rattle.exact_fold.proofs.SameLists.{alike_of, alike_refl, alike_sym, alike_append, alike_chain, product_some, fractions_scaled}
+use Rattle.exact_fold.proofs.SameLists.{alike_of, alike_refl, alike_append, alike_chain, product_some, fractions_scaled}
 use Rattle.exact_fold.proofs.SameInputs.{block_from}
 use Rattle.exact_fold.proofs.FreeFlows.{unlimited_append}
 use Rattle.exact_fold.proofs.Steps.{SettlesRest, done_settles, above_fractions, at_scale, held_above, stands_alike, merged_alike}

@@ -1,4 +1,4 @@
-use Rattle.std.proofs.Common.{length, subst, arith}
+use Rattle.std.proofs.Common.{length, arith}
 use Rattle.gcl_core.specs.meaning.Outcomes.{zeros}
 use Rattle.gcl_core.specs.meaning.Views.{source_of}
 use Rattle.gcl_core.specs.weighing.WeightedEnds.{sure}
