@@ -10,6 +10,7 @@ pub mod Programs
 pub mod Rows
 pub mod Sums
 pub mod Arms
+pub mod InParts
 pub mod MassLimits
 pub mod InTheLimit
 pub mod StringLimits

@@ -285,7 +285,7 @@ sequence_settles st b es gs hs E G H x y h u =
       unlimited = unlimited_append p.ended q.ended p.unlimited q.unlimited;
     }
 
-done_settles : (es : Entries) (E : Ended) → SettlesFrom (BlockSettles Alike Alike done) es E es E
+pub done_settles : (es : Entries) (E : Ended) → SettlesFrom (BlockSettles Alike Alike done) es E es E
 done_settles es E h u = record {
   above = h;
   ended = [];

@@ -8,6 +8,9 @@
 //! (`exact_masses_are_limits`); each row lies within the bounds of every limit of turns (`exact_masses_lie_within_bounds`); and the
 //! strings of bits on which runs end come to weigh what the rows say, as limits grow (`strings_tend_to_exact_masses`).
 //!
+//! A draw among many numbers is walked state by state, with the statements behind it as far as what it drew is set anew: so there
+//! are fewer states at a point. Settling is linear, so the answer is the same; no clause says where it is done.
+//!
 //! But for want of memory a program is refused only for a cause that holds (`refused`): every round fails in the limit; without a
 //! loop, one turn is too wide or of too many states; with a loop, at 256 turns masses are refused so, or some run has not ended. So no
 //! clause says that loops which go on longer have an answer: a call that refused these as too wide would keep the contract, and tests
@@ -16,6 +19,7 @@
 //! for the crate above.
 #![tactic(auto)]
 
+mod early;
 mod error;
 pub mod finding;
 mod laws;

@@ -33,7 +33,7 @@ fn arms_loop(arms: &Arms) -> bool
 
 #[cycle(loops)]
 #[tactic(auto, using(gcl_core::proofs::ViewLemmas::views))]
-fn statement_loops(statement: &Stmt) -> bool
+pub fn statement_loops(statement: &Stmt) -> bool
     ensures { result ≡ one_loops (statement_of statement.now) }
 {
     match statement {

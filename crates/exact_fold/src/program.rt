@@ -9,7 +9,7 @@ ghost use Rattle.gcl_core.specs.meaning.Views.{source_of};
 ghost use Rattle.exact_fold.specs.Exact.{IsExact, FailsWith};
 ghost use Rattle.exact_fold.specs.InTheLimit.{IsExactInTheLimit, FailsInTheLimit};
 ghost use Rattle.exact_fold.specs.Refused.{HasNoLoop, HasLoops, GoesBeyond};
-ghost use Rattle.exact_fold.specs.declared.error.ExactError.TheVariants.{AllFailed};
+ghost use Rattle.exact_fold.specs.declared.error.ExactError.TheVariants.{AllFailed, TooManyStates};
 ghost use Rattle.exact_fold.specs.inner.AsWritten.{RefusedAsWritten};
 ghost use Rattle.exact_fold.specs.inner.Settled.{ProgramSettlesTo};
 ghost use Rattle.exact_fold.specs.inner.Rounds.{SumsTo, RoundOf, DividesTo};
@@ -206,6 +206,21 @@ fn in_loops(alloc: Global, program: &Checked) -> Result<ExactMasses, ExactError>
     }
 }
 
+// A program without a loop that has too many states at one turn: draws may be walked state by state.
+fn state_by_state(alloc: Global, program: &Checked) -> Result<ExactMasses, ExactError>
+    requires { RefusedAsWritten (source_of program.now) TooManyStates }
+    ensures masses { IfOk result (λ e. IsExact (source_of program.now) e.rows e.endless) }
+    ensures limits { IfOk result (λ e. IsExactInTheLimit (source_of program.now) e.rows e.endless) }
+    ensures refused { IfErr result (RefusedAsWritten (source_of program.now)) }
+{
+    match settled(alloc, program) {
+        Ok(masses) => Ok(masses),
+        Err(ExactError::AllFailed) => Err(ExactError::AllFailed),
+        Err(ExactError::OutOfMemory) => Err(ExactError::OutOfMemory),
+        Err(ExactError::TooWide | ExactError::TooManyStates) => Err(ExactError::TooManyStates),
+    }
+}
+
 // A program without a loop: its masses at one turn, and nothing runs for ever.
 fn at_once(alloc: Global, program: &Checked) -> Result<ExactMasses, ExactError>
     requires { HasNoLoop (source_of program.now) }
@@ -214,11 +229,14 @@ fn at_once(alloc: Global, program: &Checked) -> Result<ExactMasses, ExactError>
     ensures refused { IfErr result (RefusedAsWritten (source_of program.now)) }
 {
     program.is_kept();
-    let rows = mass(alloc, program, 1, None, None)?;
-    Ok(ExactMasses {
-        rows,
-        endless: Frac::of(0, 1),
-    })
+    match mass(alloc, program, 1, None, None) {
+        Ok(rows) => Ok(ExactMasses {
+            rows,
+            endless: Frac::of(0, 1),
+        }),
+        Err(MassError::TooManyStates) => state_by_state(alloc, program),
+        Err(refusal) => Err(ExactError::from(refusal)),
+    }
 }
 
 /// The masses of a program itself, before anything is forgotten.

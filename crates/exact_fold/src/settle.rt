@@ -1,6 +1,6 @@
 // A table through a block, in the limit of turns.
 
-ghost use Rattle.std.specs.Prelude.{◌≡◌, ◌≤◌, length, None, IfOk, OnOk};
+ghost use Rattle.std.specs.Prelude.{◌≡◌, ◌<◌, ◌≤◌, [], length, None, IfOk, OnOk};
 ghost use Rattle.std.specs.List.{sum};
 ghost use Rattle.numbers.specs.Fraction.{IsEqual};
 ghost use Rattle.gcl_core.specs.meaning.Arms.{parts_of};
@@ -9,9 +9,12 @@ ghost use Rattle.gcl_core.specs.meaning.Views.{expression_of, statement_of, stat
 ghost use Rattle.gcl_core.specs.meaning.Value.{value_of};
 ghost use Rattle.unlimited_law.specs.Alike.{Alike};
 ghost use Rattle.unlimited_law.specs.Settling.{LoopSettles, StatementSettles, BlockSettles, ArmsSettle};
+ghost use Rattle.mass_fold.specs.inner.Amounts.{PutGives};
+ghost use Rattle.exact_fold.specs.inner.Between.{between};
 ghost use Rattle.exact_fold.specs.inner.Settled.{SettlesFrom};
 ghost use Rattle.exact_fold.specs.inner.Turning.{TurnsTo, IsClosed, StaysIn, keys_in};
 
+use crate::early::walked_to;
 use crate::error::SettleError;
 use crate::finding::{Found, Seen, copied, put};
 use crate::parts::{Parts, drawn};
@@ -40,10 +43,69 @@ pub fn settle_block(
     ensures vars { IfOk result (λ t. t.vars ≡ table.vars) }
 {
     let mut now = table;
-    for statement in &block.stmts {
-        now = settle_stmt(alloc, statement, now, ended, made)?;
+    let mut from = 0;
+    while from < block.stmts.len() {
+        let to = walked_to(block, from, &now);
+        now = settle_from(alloc, block, from, to, now, ended, made)?;
+        from = to;
     }
     Ok(now)
+}
+
+// The table after the statements of a block from one place to another.
+#[cycle(settle)]
+fn settle_between(
+    alloc: Global,
+    block: &Block,
+    from: usize,
+    to: usize,
+    table: Table,
+    ended: &mut Ended,
+    made: &mut Parts,
+) -> Result<Table, SettleError>
+    requires below { BlockBelow table.vars (statements_of block.now) }
+    requires weights { BlockIsWeighed (statements_of block.now) }
+    requires inside { to ≤ length block.now.stmts.items }
+    ensures ok { IfOk result (λ t. SettlesFrom (BlockSettles Alike Alike (between from to block.now.stmts.items))
+        table.states.entries ended.old t.states.entries ended.new) }
+    ensures vars { IfOk result (λ t. t.vars ≡ table.vars) }
+{
+    let mut now = table;
+    for at in from..to {
+        now = settle_stmt(alloc, &block.stmts[at], now, ended, made)?;
+    }
+    Ok(now)
+}
+
+// The same, state by state where these are several statements.
+#[cycle(settle)]
+fn settle_from(
+    alloc: Global,
+    block: &Block,
+    from: usize,
+    to: usize,
+    table: Table,
+    ended: &mut Ended,
+    made: &mut Parts,
+) -> Result<Table, SettleError>
+    requires below { BlockBelow table.vars (statements_of block.now) }
+    requires weights { BlockIsWeighed (statements_of block.now) }
+    requires above { from < to }
+    requires inside { to ≤ length block.now.stmts.items }
+    ensures ok { IfOk result (λ t. SettlesFrom (BlockSettles Alike Alike (between from to block.now.stmts.items))
+        table.states.entries ended.old t.states.entries ended.new) }
+    ensures vars { IfOk result (λ t. t.vars ≡ table.vars) }
+{
+    if to - from == 1 {
+        return settle_between(alloc, block, from, to, table, ended, made);
+    }
+    let mut out = Table::new(alloc, table.vars);
+    for (state, weight) in table.states {
+        let one = one_state(alloc, out.vars, state, weight)?;
+        let left = settle_between(alloc, block, from, to, one, ended, made)?;
+        merge(&mut out, left)?;
+    }
+    Ok(out)
 }
 
 #[cycle(settle)]
@@ -94,6 +156,17 @@ fn settle_stmt(
             settle_arms(alloc, arms, &part, &table, ended, made)
         }
     }
+}
+
+// One state by itself.
+fn one_state(alloc: Global, vars: u32, state: State, weight: Frac) -> Result<Table, SettleError>
+    requires { length state ≡ vars }
+    ensures one { IfOk result (λ t. PutGives [] t.states.entries state weight) }
+    ensures vars { IfOk result (λ t. t.vars ≡ vars) }
+{
+    let mut one = Table::new(alloc, vars);
+    one.put(state, weight)?;
+    Ok(one)
 }
 
 // A fold in which draws take as many attempts as it takes.

@@ -1,15 +1,15 @@
-use Rattle.std.proofs.Common.{rules, ◌+◌, None, drop, arith, sym, ap, ◌∙◌, subst}
+use Rattle.std.proofs.Common.{rules, ◌+◌, ◌<◌, None, length, drop, arith, refl, sym, ap, ◌∙◌, subst}
 use Rattle.std.specs.Map.Iter.{deref_pair}
 use Rattle.std.proofs.lemmas.Result.{IfOk-weaker}
 use Rattle.gcl_core.specs.declared.syntax.Stmt.{the_lemmas}
-use Rattle.gcl_core.specs.meaning.Bounds.{StatementBelow, BlockBelow, ArmsBelow, ArmsAreWeighed}
+use Rattle.gcl_core.specs.meaning.Bounds.{StatementIsWeighed, StatementBelow, BlockBelow, ArmsBelow, ArmsAreWeighed}
 use Rattle.gcl_core.specs.meaning.Syntax.{Skip, Set, Uniform, Observe}
 use Rattle.gcl_core.specs.meaning.Views.{expression_of, statement_of, statements_of, list_of, arm_list_of, list_of_arms}
 use Rattle.gcl_core.specs.meaning.Value.{value_of}
 use Rattle.gcl_core.proofs.ViewLemmas.{skip_view, set_view, observe_view, if_view, while_view, choice_view, choose_view, uniform_view}
 use Rattle.unlimited_law.specs.Alike.{Alike}
 use Rattle.unlimited_law.specs.Settling.{EachState, BlockSettles}
-use Rattle.mass_fold.proofs.Fitting.{below_as, weights_as, list_step, below_next, weights_next, along_list, below_list}
+use Rattle.mass_fold.proofs.Fitting.{below_as, weights_as}
 use Rattle.mass_fold.proofs.Folds.{fold_skip, fold_assign, fold_observe, fold_draw}
 use Rattle.mass_fold.specs.inner.Steps.{UniformTo}
 use Rattle.mass_fold.proofs.Sizes.{sized_at}
@@ -21,34 +21,101 @@ use Rattle.exact_fold.proofs.Arms.{arms_start, arms_as, arm_turn, arms_end}
 use Rattle.exact_fold.specs.inner.Settled.{as_table}
 use Rattle.exact_fold.specs.inner.Turning.{StaysIn, keys_in}
 use Rattle.exact_fold.proofs.Steps.{alone_settles, skip_back, set_back, uniform_back, observe_back, branch_settles, statement_as, rest_next, rest_none}
+use Rattle.forgetting.proofs.Marking.{below_at}
+use Rattle.exact_fold.specs.inner.Between.{between}
+use Rattle.exact_fold.proofs.InParts.{part_step, weighed_between, weighed_at, rest_behind, none_between, states_start, states_as, state_turn, states_end}
 use Rattle.exact_fold.proofs.FreeFlows.{one_unlimited}
 use Rattle.exact_fold.proofs.Turns.{turn_settles, state_stays, stays_next, choice_settles}
 use Rattle.exact_fold.proofs.settle.+settle.Goals as goal
 
-pub settle_block-settle_stmt-requires : goal.settle_block-settle_stmt-requires
-settle_block-settle_stmt-requires t c =
-    let p = list_step c.deref-statement-items.result.now c.loop-statement.statement-index c.statement-item.result c.loop-statement-test.true c.statement-item.is in
-    let m = c.args.table.vars in (
-      search (rules, the_lemmas),
-      (
-        subst (λ m. StatementBelow m (statement_of c.statement-item.result)) (sym c.loop-statement.invariant.vars) (below_next m _ _ _ p (c.loop-statement.invariant.below m (below_list m _ _ c.deref-statement-items.ensures.value c.requires.below))).0,
-        (weights_next _ _ _ p (c.loop-statement.invariant.weights (along_list _ _ c.deref-statement-items.ensures.value c.requires.weights))).0,
-      ),
-    )
+pub settle_block-walked_to-to-requires : goal.settle_block-walked_to-to-requires
+settle_block-walked_to-to-requires t c = record {
+  below = subst (λ m. BlockBelow m (statements_of c.args.block.now)) (sym c.loop-from.invariant.vars) c.requires.below;
+  inside = omega (arith, c.loop-from-test.true);
+}
 
-pub settle_block-loop-statement-preserved : goal.settle_block-loop-statement-preserved
-settle_block-loop-statement-preserved t c =
-    let p = list_step c.deref-statement-items.result.now c.loop-statement.statement-index c.statement-item.result c.loop-statement-test.true c.statement-item.is in
-    record {
-      below = λ m h. (below_next m _ _ _ p (c.loop-statement.invariant.below m h)).1;
-      weights = λ h. (weights_next _ _ _ p (c.loop-statement.invariant.weights h)).1;
-      vars = c.in_ok-now.ensures.vars ∙ c.loop-statement.invariant.vars;
-      so_far = rest_next (BlockSettles Alike Alike (list_of c.deref-statement-items.result.now)) _ _ _ _ _ _ _ _ _ p c.loop-statement.invariant.so_far c.in_ok-now.ensures.ok;
-    }
+pub settle_block-settle_from-requires : goal.settle_block-settle_from-requires
+settle_block-settle_from-requires t c = (
+  search (rules, the_lemmas),
+  (
+    subst (λ m. BlockBelow m (statements_of c.args.block.now)) (sym c.loop-from.invariant.vars) c.requires.below,
+    (c.requires.weights, (c.walked_to-to.ensures.above, c.walked_to-to.ensures.inside)),
+  ),
+)
+
+pub settle_block-loop-from-preserved : goal.settle_block-loop-from-preserved
+settle_block-loop-from-preserved t c = record {
+  place = c.walked_to-to.ensures.inside;
+  vars = c.in_ok-now.ensures.vars ∙ c.loop-from.invariant.vars;
+  so_far = rest_behind (BlockSettles Alike Alike (list_of c.args.block.now.stmts.items)) c.args.block.now.stmts.items c.loop-from.from c.walked_to-to.result c.args.table.states.entries _ _ c.args.ended.now _ _
+      (omega (arith, c.walked_to-to.ensures.above)) c.requires.weights c.loop-from.invariant.so_far c.in_ok-now.ensures.ok;
+}
 
 pub settle_block-returns-clause-ok : goal.settle_block-returns-clause-ok
 settle_block-returns-clause-ok t c =
-    rest_none c.deref-statement-items.result.now c.args.block.now.stmts.items c.loop-statement.statement-index _ _ _ _ c.loop-statement-test.false c.deref-statement-items.ensures.value c.loop-statement.invariant.so_far
+    rest_none c.args.block.now.stmts.items c.args.block.now.stmts.items c.loop-from.from _ _ _ _ (omega (arith, c.loop-from-test.false)) refl c.loop-from.invariant.so_far
+
+pub settle_between-settle_stmt-requires : goal.settle_between-settle_stmt-requires
+settle_between-settle_stmt-requires t c =
+    let xs = c.args.block.now.stmts.items in
+    let d = c.index.result.now in
+    let lt : c.loop-at.at < length xs = omega (arith, c.loop-at-test.true, c.requires.inside) in (
+      search (rules, the_lemmas),
+      (
+        subst (λ m. StatementBelow m (statement_of d)) (sym c.loop-at.invariant.vars) (subst (λ s. StatementBelow c.args.table.vars (statement_of s)) (sym c.index.ensures) (below_at c.args.table.vars xs c.loop-at.at d lt c.requires.below)),
+        subst (λ s. StatementIsWeighed (statement_of s)) (sym c.index.ensures) (weighed_at xs c.loop-at.at d lt c.requires.weights),
+      ),
+    )
+
+pub settle_between-loop-at-preserved : goal.settle_between-loop-at-preserved
+settle_between-loop-at-preserved t c =
+    let xs = c.args.block.now.stmts.items in
+    let lt : c.loop-at.at < length xs = omega (arith, c.loop-at-test.true, c.requires.inside) in
+    record {
+      vars = c.in_ok-now.ensures.vars ∙ c.loop-at.invariant.vars;
+      so_far = rest_next (BlockSettles Alike Alike (between c.args.from c.args.to xs)) _ _ _ _ _ _ _ _ _ (part_step xs c.loop-at.at c.args.to c.index.result.now lt c.loop-at-test.true c.index.ensures) c.loop-at.invariant.so_far c.in_ok-now.ensures.ok;
+    }
+
+pub settle_between-returns-clause-ok : goal.settle_between-returns-clause-ok
+settle_between-returns-clause-ok t c = none_between c.args.from c.loop-at.at c.args.to c.args.block.now.stmts.items _ _ _ _ (omega (arith, c.loop-at-test.false)) c.loop-at.invariant.so_far
+
+pub settle_from-loop-state-init : goal.settle_from-loop-state-init
+settle_from-loop-state-init t c = record {
+  next = tt;
+  finite = tt;
+  vars = c.new-out.ensures.vars;
+  so_far = states_start (between c.args.from c.args.to c.args.block.now.stmts.items) c.args.table.states.entries _ c.args.ended.now c.new-out.result.states.entries
+      (weighed_between c.args.from c.args.to c.args.block.now.stmts.items c.requires.weights) c.new-out.ensures.empty c.into_iter-state-iterator.ensures.into_iter_gives.0;
+}
+
+pub settle_from-one_state-requires : goal.settle_from-one_state-requires
+settle_from-one_state-requires t c =
+    sized_at _ _ c.args.table.sized (λ e. e) _ _ _ _ _ _ c.into_iter-state-iterator.ensures.into_iter_gives.0 c.loop-state.yielded_by c.in-Some.is c.next.ensures.steps ∙ sym c.loop-state.invariant.vars
+
+pub settle_from-settle_between-requires-in-loop-state : goal.settle_from-settle_between-requires-in-loop-state
+settle_from-settle_between-requires-in-loop-state t c = (
+  search (rules, the_lemmas),
+  (
+    subst (λ m. BlockBelow m (statements_of c.args.block.now)) (sym (c.in_ok-one.ensures.vars ∙ c.loop-state.invariant.vars)) c.requires.below,
+    (c.requires.weights, c.requires.inside),
+  ),
+)
+
+pub settle_from-loop-state-preserved : goal.settle_from-loop-state-preserved
+settle_from-loop-state-preserved t c =
+    let b = between c.args.from c.args.to c.args.block.now.stmts.items in
+    record {
+      next = tt;
+      finite = tt;
+      vars = c.merge.ensures.vars ∙ c.loop-state.invariant.vars;
+      so_far = state_turn b c.args.table.states.entries _ c.in-Some.state c.in-Some.weight _ _ _ _ c.args.ended.now _ _ (weighed_between c.args.from c.args.to c.args.block.now.stmts.items c.requires.weights)
+          (states_as b c.args.table.states.entries _ _ c.args.ended.now c.loop-state.out.states.entries c.loop-state.ended c.in-Some.ensures.steps c.loop-state.invariant.so_far)
+          c.in_ok-one.ensures.one c.in_ok-left.ensures.ok c.in_ok-merge.ensures.ok;
+    }
+
+pub settle_from-returns-clause-ok : goal.settle_from-returns-clause-ok
+settle_from-returns-clause-ok t c =
+    states_end (between c.args.from c.args.to c.args.block.now.stmts.items) c.args.table.states.entries _ c.args.ended.now c.loop-state.out.states.entries c.loop-state.ended c.in-None.ensures.steps.0 c.loop-state.invariant.so_far
 
 pub settle_stmt-returns-in-Skip-clause-ok : goal.settle_stmt-returns-in-Skip-clause-ok
 settle_stmt-returns-in-Skip-clause-ok t c =

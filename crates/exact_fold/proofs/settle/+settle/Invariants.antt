@@ -1,5 +1,5 @@
-use Rattle.std.proofs.Common.{◌≡◌, ℕ, drop}
-use Rattle.gcl_core.specs.meaning.Bounds.{BlockIsWeighed, BlockBelow, ArmsAreWeighed, ArmsBelow}
+use Rattle.std.proofs.Common.{◌≡◌, ◌≤◌, ◌-◌, length, drop}
+use Rattle.gcl_core.specs.meaning.Bounds.{ArmsAreWeighed, ArmsBelow}
 use Rattle.std.specs.List.{sum}
 use Rattle.gcl_core.specs.meaning.Arms.{parts_of}
 use Rattle.exact_fold.proofs.Arms.{ArmsFrom}
@@ -7,16 +7,34 @@ use Rattle.gcl_core.specs.meaning.Views.{list_of, arm_list_of, list_of_arms, exp
 use Rattle.gcl_core.specs.meaning.Value.{value_of}
 use Rattle.unlimited_law.specs.Alike.{Alike}
 use Rattle.unlimited_law.specs.Settling.{EachState, BlockSettles}
+use Rattle.exact_fold.specs.inner.Between.{between}
 use Rattle.exact_fold.specs.inner.Turning.{StaysIn, keys_in}
 use Rattle.exact_fold.proofs.Steps.{SettlesRest}
+use Rattle.exact_fold.proofs.InParts.{StatesFrom}
 use Rattle.exact_fold.proofs.settle.+settle.Given as goal
 
-abbrev pub invariant-settle_block-loop-statement : goal.invariant-settle_block-loop-statement
-invariant-settle_block-loop-statement l = record {
-  below : (m : ℕ) → BlockBelow m (list_of l.statement-items) → BlockBelow m (list_of (drop l.statement-index l.statement-items));
-  weights : BlockIsWeighed (list_of l.statement-items) → BlockIsWeighed (list_of (drop l.statement-index l.statement-items));
+abbrev pub decreases-settle_block-loop-from : goal.decreases-settle_block-loop-from
+decreases-settle_block-loop-from l = length l.block.stmts.items - l.from
+
+abbrev pub invariant-settle_block-loop-from : goal.invariant-settle_block-loop-from
+invariant-settle_block-loop-from l = record {
+  place : l.from ≤ length l.block.stmts.items;
   vars : l.now.vars ≡ l.fn.table.vars;
-  so_far : SettlesRest (BlockSettles Alike Alike (list_of l.statement-items)) (list_of (drop l.statement-index l.statement-items)) l.fn.table.states.entries l.fn.ended l.now.states.entries l.ended;
+  so_far : SettlesRest (BlockSettles Alike Alike (list_of l.block.stmts.items)) (list_of (drop l.from l.block.stmts.items)) l.fn.table.states.entries l.fn.ended l.now.states.entries l.ended;
+}
+
+abbrev pub invariant-settle_between-loop-at : goal.invariant-settle_between-loop-at
+invariant-settle_between-loop-at l = record {
+  vars : l.now.vars ≡ l.fn.table.vars;
+  so_far : SettlesRest (BlockSettles Alike Alike (between l.from l.to l.block.stmts.items)) (between l.at l.to l.block.stmts.items) l.fn.table.states.entries l.fn.ended l.now.states.entries l.ended;
+}
+
+abbrev pub invariant-settle_from-loop-state : goal.invariant-settle_from-loop-state
+invariant-settle_from-loop-state l = record {
+  next : (goal.iterator-settle_from-loop-state).can_next l.state-iterator;
+  finite : (goal.iterator-settle_from-loop-state).is_finite l.state-iterator;
+  vars : l.out.vars ≡ l.fn.table.vars;
+  so_far : StatesFrom (between l.from l.to l.block.stmts.items) l.fn.table.states.entries l.state-iterator l.fn.ended l.out.states.entries l.ended;
 }
 
 abbrev pub invariant-check_closed-loop-state : goal.invariant-check_closed-loop-state
