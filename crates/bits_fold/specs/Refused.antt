@@ -29,12 +29,12 @@ bit_parts p n = round_width p n None * common_denominator (number_weights (draws
 abbrev pub bits_width : SourceProgram → ℕ → ℕ
 bits_width p n = bit_parts p n + whole (bit_parts p n) (bits_of_draws (draws_of p n None))
 
--- At 256 turns the width of the bits is 2^128 or more, or masses are refused, or some run has not ended.
+-- At 128 turns the width of the bits is 2^128 or more, or masses are refused, or some run has not ended.
 abbrev pub ReadsBeyond : SourceProgram → Type 0
 ReadsBeyond p = Overfills (bits_width p TURNS_TRIED) ⊎ GoesBeyond p
 
 -- Without a loop, at a limit of one turn: the width of the bits of the forgetful program is 2^128 or more, or some point of it is reached
--- with too many states; what is not found is a loop's. With a loop, at 256 turns: the forgetful program goes beyond.
+-- with too many states; what is not found is a loop's. With a loop, at 128 turns: the forgetful program goes beyond.
 abbrev pub BitsRefused : SourceProgram → BitsError → Type 0
 BitsRefused p TooWide = (HasNoLoop p → Overfills (bits_width (forgetful_of p) 1)) × (HasLoops p → ReadsBeyond (forgetful_of p))
 BitsRefused p TooManyStates = (HasNoLoop p → MOST_STATES < peak_of (forgetful_of p) 1 None) × (HasLoops p → ReadsBeyond (forgetful_of p))

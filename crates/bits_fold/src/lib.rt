@@ -3,7 +3,7 @@
 //!
 //! Proved: `cost_in_the_limit` answers what the expected bits under limits come to as all limits grow, or that they have no bound
 //! (`answer`). But for want of memory a program is refused only for a cause that holds of its forgetful program (`refused`): without a
-//! loop the width of its bits is 2^128 or more, or a point has more than 65,536 states; with a loop that is so at 256 turns, or some
+//! loop the width of its bits is 2^128 or more, or a point has more than 65,536 states; with a loop that is so at 128 turns, or some
 //! run has not ended there.
 //!
 //! So no clause says that loops which go on longer have an answer: a call that refused each of these as too wide would keep the

@@ -21,7 +21,7 @@ HasNoLoop p = any_loops p.body ≡ false
 abbrev pub HasLoops : SourceProgram → Type 0
 HasLoops p = any_loops p.body ≡ true
 
--- At 256 turns, without limits of attempts and of rounds, masses are too wide, or of too many states, or some run has not ended: the
+-- At 128 turns, without limits of attempts and of rounds, masses are too wide, or of too many states, or some run has not ended: the
 -- limit of turns has a mass.
 pub data GoesBeyond (p : SourceProgram) : Type 0 where
   too_wide : Overfills (round_width p TURNS_TRIED None) → GoesBeyond p
@@ -29,7 +29,7 @@ pub data GoesBeyond (p : SourceProgram) : Type 0 where
   runs_on : 0 < (mass_of p TURNS_TRIED None None (outcome.Limit Turns)).0 → GoesBeyond p
 
 -- Without a loop, at a limit of one turn: the common denominator of a round of the forgetful program is 2^128 or more, or some point of
--- it is reached with too many states. With a loop, at 256 turns: one of these holds of the forgetful program, or some run of it goes on.
+-- it is reached with too many states. With a loop, at 128 turns: one of these holds of the forgetful program, or some run of it goes on.
 abbrev pub WhyRefused : SourceProgram → ExactError → Type 0
 WhyRefused p AllFailed = FailsInTheLimit p
 WhyRefused p TooWide = (HasNoLoop p → Overfills (round_width (forgetful_of p) 1 None)) × (HasLoops p → GoesBeyond (forgetful_of p))

@@ -9,7 +9,7 @@
 //! strings of bits on which runs end come to weigh what the rows say, as limits grow (`strings_tend_to_exact_masses`).
 //!
 //! But for want of memory a program is refused only for a cause that holds (`refused`): every round fails in the limit; without a
-//! loop, one turn is too wide or of too many states; with a loop, at 256 turns masses are refused so, or some run has not ended. So no
+//! loop, one turn is too wide or of too many states; with a loop, at 128 turns masses are refused so, or some run has not ended. So no
 //! clause says that loops which go on longer have an answer: a call that refused these as too wide would keep the contract, and tests
 //! alone show that it does not. Nothing is promised of the visits that are looked for, only of what passed the check.
 //! No clause says that memory or the stack suffices, or how long a call takes. The calls of `finding` and `turning` are single steps,

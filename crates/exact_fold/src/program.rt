@@ -26,7 +26,7 @@ use std::collections::BTreeMap;
 
 /// The limit of turns at which the masses of a program are tried whose loops are not settled. Where every run has ended by then, they
 /// are the exact masses.
-pub const TURNS_TRIED: u64 = 256;
+pub const TURNS_TRIED: u64 = 128;
 
 /// The exact masses of a program, and what runs for ever.
 #[derive(Drop)]
