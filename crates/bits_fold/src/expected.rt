@@ -17,7 +17,7 @@ use bits_law::{
     bits_tend_to_their_limit, bits_that_are_read_for_ever_have_no_bound,
     rounds_that_all_fail_read_nothing_or_have_no_bound,
 };
-use exact_fold::{block_loops, failed_in_the_limit};
+use exact_fold::{SettleError, block_loops, failed_in_the_limit};
 use forgetting::{forgetful, forgetting_costs_nothing};
 use gcl_core::Checked;
 use numbers::Frac;
@@ -59,18 +59,23 @@ pub fn over_rounds(p: &Checked, read: &Frac, failed: &Frac) -> Option<Bits>
     }
 }
 
-// A program with a loop: what its body reads is looked for.
+// A program with a loop: what its body reads is looked for, but where the turns of its loops have too many parts or states, which is
+// seen sooner where masses are settled.
 fn bits_of_loops(alloc: Global, p: &Checked) -> Result<Bits, BitsError>
     ensures { IfOk result (IsAnswer (source_of p.now)) }
 {
     p.is_kept();
     bits_that_are_read_for_ever_have_no_bound();
+    let failed = match failed_in_the_limit(alloc, p) {
+        Err(SettleError::TooManyStates) => return Err(BitsError::TooManyStates),
+        failed => failed,
+    };
     let read = match read_program(alloc, p) {
         Err(Stop::ReadsForever) => return Ok(Bits::Unbounded),
         Err(Stop::Refused(error)) => return Err(error),
         Ok(read) => read,
     };
-    let failed = failed_in_the_limit(alloc, p)?;
+    let failed = failed?;
     match over_rounds(p, &read, &failed) {
         None => Err(BitsError::TooWide),
         Some(bits) => Ok(bits),

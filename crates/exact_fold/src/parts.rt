@@ -10,7 +10,7 @@ use gcl_core::{Expr, eval};
 use mass_fold::Table;
 
 /// The most parts of all turns that are made of one program.
-pub const MOST_PARTS: u64 = 1 << 22;
+pub const MOST_PARTS: u64 = 1 << 21;
 
 /// The parts of the turns that were made so far: each number that a draw was made among, and each state that a turn led back to.
 #[derive(Drop)]
