@@ -11,9 +11,9 @@ ghost use Rattle.enclose_fold.specs.inner.AsWritten.{AreAnswers, ArePaired, Refu
 
 use crate::enclosing::enclose_in_units;
 use crate::error::EncloseError;
+use bounds_law::Bounds;
 use gcl_core::Checked;
 use numbers::Frac;
-use bounds_law::Bounds;
 use scaled_fold::{PairsError, enclose_in_pairs};
 use std::alloc::Global;
 use std::cmp::Ordering;

@@ -13,9 +13,9 @@ ghost use Rattle.enclose_fold.specs.Refused.{EncloseRefused};
 
 use crate::answering::enclose_as_written;
 use crate::error::EncloseError;
+use bounds_law::Bounds;
 use forgetting::{forgetful, forgetting_changes_no_meaning};
 use gcl_core::Checked;
-use bounds_law::Bounds;
 use std::alloc::Global;
 
 /// Two bounds of the mass of each outcome, and one for all outcomes without a row together, from one round whose products are

@@ -22,10 +22,10 @@ use crate::bounding::Round;
 use crate::error::EncloseError;
 use crate::outcomes::{all_units, outcome_units, passing};
 use crate::rows::bound_rows;
+use bounds_law::Bounds;
 use gcl_core::{Checked, Outcome, outcomes_are_ordered};
 use mass_fold::is_ordered;
 use numbers::ALL;
-use bounds_law::Bounds;
 use std::alloc::Global;
 use std::collections::BTreeMap;
 use units_law::{

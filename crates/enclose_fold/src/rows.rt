@@ -7,9 +7,9 @@ ghost use Rattle.enclose_fold.specs.inner.Rows.{with_row, rows_of};
 
 use crate::bounding::Round;
 use crate::error::EncloseError;
+use bounds_law::BoundRows;
 use gcl_core::Outcome;
 use numbers::Frac;
-use bounds_law::BoundRows;
 use std::alloc::Global;
 use std::collections::BTreeMap;
 

@@ -8,11 +8,11 @@ ghost use Rattle.mass_lines.specs.ExactLines.{exact_lines};
 ghost use Rattle.mass_lines.specs.MassLines.{mass_rows_text};
 
 use crate::narrow::is_narrow;
+use bounds_law::{BoundRows, Bounds};
 use exact_fold::ExactMasses;
 use gcl_print::Text;
 use mass_fold::FracRows;
 use numbers::Frac;
-use bounds_law::{BoundRows, Bounds};
 use report_text::{
     Decimals, bound_line, cost_line, endless_line, mass_line, other_line, unbounded_line,
 };

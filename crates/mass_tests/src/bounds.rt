@@ -2,9 +2,9 @@
 
 use crate::programs::{GEOMETRIC, IMPOSSIBLE, TWO_COINS, program};
 use crate::rows::{Pair, is};
+use bounds_law::BoundRows;
 use gcl_core::{Fault, Outcome};
 use mass_fold::MassError;
-use bounds_law::BoundRows;
 use posterior_bounds::bounds;
 use std::alloc::Global;
 use std::test::Fail;

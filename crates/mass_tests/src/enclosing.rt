@@ -3,11 +3,11 @@
 ghost use Rattle.std.specs.Prelude.{◌≡◌, true, IfSome};
 ghost use Rattle.mass_fold.specs.Refused.{IsLimit};
 
+use bounds_law::BoundRows;
 use enclose_fold::{EncloseError, enclose};
 use gcl_core::{Limit, Outcome};
 use gcl_text::check_text;
 use numbers::Frac;
-use bounds_law::BoundRows;
 use std::alloc::Global;
 
 const TWO_THIRDS: &str = "choice 2/3 { x := 1; } or { x := 2; } return x;";

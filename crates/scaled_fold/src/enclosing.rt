@@ -9,10 +9,10 @@ ghost use Rattle.units_law.specs.Holding.{IsFor, AreOrdered, Enclose, AreClose, 
 use crate::error::PairsError;
 use crate::listing::{listed, whole_of};
 use crate::rounds::ends_of;
+use bounds_law::{BoundRows, Bounds};
 use gcl_core::{Checked, outcomes_are_ordered};
 use mass_fold::is_ordered;
 use numbers::{ALL, Frac};
-use bounds_law::{BoundRows, Bounds};
 use scaled_law::{bounds_beside_others_hold, masses_lie_beside_others, products_are_rounded_up};
 use std::alloc::Global;
 use units_law::products_are_rounded_down;
