@@ -46,9 +46,10 @@ pub fn settle_block(
     Ok(now)
 }
 
+/// The table after a statement.
 #[cycle(settle)]
 #[tactic(auto, using(gcl_core::proofs::ViewLemmas::views))]
-fn settle_stmt(
+pub fn settle_stmt(
     alloc: Global,
     statement: &Stmt,
     table: Table,
@@ -295,9 +296,9 @@ fn check_state(
     Ok(())
 }
 
-// No state of these is ever left.
+/// No state of these is ever left.
 #[cycle(settle)]
-fn check_closed(
+pub fn check_closed(
     alloc: Global,
     body: &Block,
     guard: &Expr,
