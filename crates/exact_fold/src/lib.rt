@@ -15,8 +15,8 @@
 //! loop, one turn is too wide or of too many states; with a loop, at 256 turns masses are refused so, or some run has not ended. So no
 //! clause says that loops which go on longer have an answer: a call that refused these as too wide would keep the contract, and tests
 //! alone show that it does not. Nothing is promised of the visits that are looked for, only of what passed the check.
-//! No clause says that memory or the stack suffices, or how long a call takes. The calls of `finding` and `turning` are single steps,
-//! for the crate above.
+//! No clause says that memory or the stack suffices, or how long a call takes. The calls of `finding`, `parts`, `settle` and `turning` are
+//! single steps, for the crates above.
 #![tactic(auto)]
 
 mod early;
@@ -25,9 +25,9 @@ pub mod finding;
 mod laws;
 mod loops;
 mod masses;
-mod parts;
+pub mod parts;
 mod program;
-mod settle;
+pub mod settle;
 pub mod turning;
 
 pub use error::{ExactError, SettleError};

@@ -108,9 +108,10 @@ fn settle_from(
     Ok(out)
 }
 
+/// The table after a statement.
 #[cycle(settle)]
 #[tactic(auto, using(gcl_core::proofs::ViewLemmas::views))]
-fn settle_stmt(
+pub fn settle_stmt(
     alloc: Global,
     statement: &Stmt,
     table: Table,
@@ -368,9 +369,9 @@ fn check_state(
     Ok(())
 }
 
-// No state of these is ever left.
+/// No state of these is ever left.
 #[cycle(settle)]
-fn check_closed(
+pub fn check_closed(
     alloc: Global,
     body: &Block,
     guard: &Expr,

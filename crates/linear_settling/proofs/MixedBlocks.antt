@@ -133,7 +133,7 @@ module _ (w : Fraction) (some : 1 ≤ w.1) where
 
   -- ---- statements
   mutual
-    statement_mixes : (st : Statement) → StatementIsWeighed st → Joins (StatementSettles Alike Alike st)
+    pub statement_mixes : (st : Statement) → StatementIsWeighed st → Joins (StatementSettles Alike Alike st)
     statement_mixes Skip x I J K f g h o q = alone_mixes Skip x skip_counted I J K f g h o q
     statement_mixes (Set y e) x I J K f g h o q = alone_mixes (Set y e) x (λ H M. set_counted H y (value_of e) M) I J K f g h o q
     statement_mixes (Observe e) x I J K f g h o q = alone_mixes (Observe e) x (λ H M. seen_counted H (value_of e) M) I J K f g h o q

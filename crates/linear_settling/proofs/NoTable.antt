@@ -32,7 +32,7 @@ by_part : (b : Statements) (w : Fraction) → BlockSettles Alike Alike b [] no_o
 by_part b w o = subst (λ I. BlockSettles Alike Alike b I no_outflow) (sym (nothing_scaled w)) o
 
 mutual
-  statement_of_none : (st : Statement) → StatementSettles Alike Alike st [] no_outflow
+  pub statement_of_none : (st : Statement) → StatementSettles Alike Alike st [] no_outflow
   statement_of_none Skip = nothing_flows
   statement_of_none (Set x e) = nothing_flows
   statement_of_none (Observe e) = nothing_flows
@@ -51,7 +51,7 @@ mutual
   arms_of_none b (arm p a arms) = (no_outflow, no_outflow, by_part a (class_weight b None p) (block_of_none a), arms_of_none b arms, nothing_flows)
 
 -- a state with its weight before others
-head_mixes : (w : Fraction) (s : State) (I : Table) → 1 ≤ w.1 → AreFractions I → Mixes w (sure s) I ((w, s) ∷ I)
+pub head_mixes : (w : Fraction) (s : State) (I : Table) → 1 ≤ w.1 → AreFractions I → Mixes w (sure s) I ((w, s) ∷ I)
 head_mixes w s I some h = record {
   first = (omega arith, tt);
   second = h;
