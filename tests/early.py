@@ -1,6 +1,7 @@
 """Programs that draw among many numbers and forget what was drawn behind a test, so that `exact` walks them state by state. As a whole the
 tables of each have more than 65,536 states. What the draws lead to is counted here one by one."""
 import fractions
+import itertools
 
 from tables import BOUND, DIVISOR, FAILED
 
@@ -37,14 +38,46 @@ TABLE = {
 }
 
 
+# Bundles of unreliable gates (see nand.gcl of the examples), of which two lines are drawn before either is looked at: 74,840 states with both drawn.
+BUNDLE = "a bundle of gates"
+LINES, HOLDING = 15, 12
+GATES = (
+    f"a := {HOLDING}; b := {HOLDING}; left := {LINES}; while left > 0 {{ x ~ uniform(left); y ~ uniform(left); both := 0; if x < a and y < b {{ both := 1; }}"
+    " if x < a { a := a - 1; } if y < b { b := b - 1; } choice 3/4 { out := out + 1 - both; } or { out := out + both; } left := left - 1; } return out;"
+)
+NAMES = [*TABLE, BUNDLE]
+
+
+def gates():
+    """How many lines come out, by the lines of both bundles that are left and what came out so far."""
+    now = {(HOLDING, HOLDING, 0): fractions.Fraction(1)}
+    for left in range(LINES, 0, -1):
+        after = {}
+        for (a, b, out), weight in now.items():
+            for first, second, right in itertools.product((0, 1), repeat=3):
+                share = fractions.Fraction(a if first else left - a, left) * fractions.Fraction(b if second else left - b, left) * (3 if right else 1) / 4
+                both = first * second
+                key = (a - first, b - second, out + (1 - both if right else both))
+                if share:
+                    after[key] = after.get(key, 0) + weight * share
+        now = after
+    return now
+
+
 def text(name):
+    if name == BUNDLE:
+        return GATES
     return f"place ~ uniform({FIRST}); {TABLE[name][0]} return place % 10;"
 
 
 def masses(name):
     """What each value and fault weighs, over what does not fail."""
-    _, bound, after = TABLE[name]
     found = {}
+    if name == BUNDLE:
+        for (_, _, out), weight in gates().items():
+            found[f"value {out}"] = found.get(f"value {out}", 0) + weight
+        return found
+    _, bound, after = TABLE[name]
     for place in range(FIRST):
         numbers = range(bound(place)) or [None]
         for x in numbers:
