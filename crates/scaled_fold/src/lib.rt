@@ -12,8 +12,10 @@
 //! (`close`). Rows are of possible outcomes, ascending (`ordered`).
 //!
 //! Draws take so many attempts at most, or as many as they need; what no attempt decides has the outcome of that limit, at least and at most.
-//! Runs take as many rounds as they need. No clause says when a call is refused, how narrow bounds are, that
-//! memory or the stack suffices, or how long a call takes, which grows with the states and with the limit of turns.
+//! How units go at a draw is told by `Odds`, by which `enclose_fold` draws, too. Runs take as many rounds as they need.
+//!
+//! No clause says when a call is refused, how narrow bounds are, that memory or the stack suffices, or how long a call takes, which grows with
+//! the states and with the limit of turns.
 #![tactic(auto)]
 
 mod body;
