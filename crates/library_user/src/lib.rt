@@ -6,7 +6,7 @@
 //! its limit where nothing is limited (`limit`).
 //!
 //! No clause says that memory or the stack suffices, that the bits handed in are fair, or that `limit_chance` answers at all for
-//! a program with a loop in which runs go on for more than 128 turns. `NoProgram` does not say why. Nothing stands on this crate:
+//! a program with a loop in which runs go on for more than 256 turns. `NoProgram` does not say why. Nothing stands on this crate:
 //! `docs/embedding.md` tells how it is made, and how to make one like it.
 #![tactic(auto)]
 
