@@ -6,5 +6,6 @@ pub mod Arms
 pub mod Turns
 pub mod Forever
 pub mod Programs
+pub mod RoundsBegun
 pub mod AtOnce
 pub mod NoLoops
