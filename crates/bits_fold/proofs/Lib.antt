@@ -7,4 +7,5 @@ pub mod Turns
 pub mod Forever
 pub mod Programs
 pub mod EndedRounds
+pub mod RoundsBegun
 pub mod NoLoops

@@ -28,7 +28,7 @@ use Rattle.unlimited_law.proofs.BlockLimits.{event_test, settled_some, settled_i
 use Rattle.unlimited_law.proofs.OneLimit.{parts_vanish}
 use Rattle.exact_fold.specs.Exact.{FailsWith}
 use Rattle.exact_fold.specs.inner.Settled.{as_table}
-use Rattle.bits_law.specs.InTheLimit.{AreExpected, RoundReads, bits_in_the_limit}
+use Rattle.bits_law.specs.InTheLimit.{ComesTo, HasNoBound, AreExpected, RoundReads, bits_in_the_limit}
 use Rattle.bits_law.specs.Forever.{BlockForever}
 use Rattle.bits_law.specs.Reading.{BlockReads}
 use Rattle.bits_law.proofs.BlockTends.{block_some}
@@ -52,15 +52,27 @@ program_stops p es s e x = by (subst (λ z. StopsFrom (BlockForever p.body) z s)
     by : StopsFrom (BlockForever p.body) ((zeros (length p.names), (1, 1)) ∷ []) s → RoundStops p s
     by x = record { forever = λ h. x.forever h (omega arith, omega arith, tt) }
 
--- ---- what is expected, said of an equal fraction
-pub expected_as : (p : SourceProgram) (bits other : Fraction) → IsEqual other bits → 1 ≤ other.1 → AreExpected p bits → AreExpected p other
-expected_as p bits other e some h =
-    let pos : 0 < bits.1 = let z = h.fraction in omega arith in
+-- ---- what is come to, said of an equal fraction
+pub comes_as : (under : Limits → Fraction) (number other : Fraction) → IsEqual other number → 1 ≤ other.1 → ComesTo under number → ComesTo under other
+comes_as under number other e some h =
+    let pos : 0 < number.1 = let z = h.fraction in omega arith in
     record {
-      within = λ l. at_most_then (expected_bits p l) bits other pos (h.within l) (omega arith);
-      near = λ k any. let x = h.near k any in (x.0, λ l g. at_most_then other bits (plus (expected_bits p l) (1, k)) pos (omega arith) (x.1 l g));
+      within = λ l. at_most_then (under l) number other pos (h.within l) (omega arith);
+      near = λ k any. let x = h.near k any in (x.0, λ l g. at_most_then other number (plus (under l) (1, k)) pos (omega arith) (x.1 l g));
       fraction = some;
     }
+
+-- ---- and of what is the same under all limits
+module _ (under other : Limits → Fraction) (same : (l : Limits) → other l ≡ under l) where
+  pub comes_alike : (number : Fraction) → ComesTo other number → ComesTo under number
+  comes_alike number h = record {
+    within = λ l. subst (λ z. AtMost z number) (same l) (h.within l);
+    near = λ k some. let x = h.near k some in (x.0, λ l g. subst (λ z. AtMost number (plus z (1, k))) (same l) (x.1 l g));
+    fraction = h.fraction;
+  }
+
+  pub grows_alike : HasNoBound other → HasNoBound under
+  grows_alike h = λ k. let x = h k in (x.0, λ l g. subst (λ z. AtMost (k, 1) z) (same l) (x.1 l g))
 
 -- ---- what fails
 module _ (p : SourceProgram) (ok : IsChecked p) (f : Outflow) (s : ProgramSettles p f) where
@@ -96,7 +108,7 @@ module _ (p : SourceProgram) (ok : IsChecked p) (f : Outflow) (s : ProgramSettle
 
 -- ---- answers
 -- what a round reads, over what does not fail, where what fails is a fraction of equal value
-over_passes : (read rounds bits failed lost : Fraction) → 0 < read.1 → 0 < rounds.1 → failed.0 < failed.1 → lost.0 < lost.1 → IsEqual failed lost → IsEqual rounds (failed.1, failed.1 - failed.0) → IsEqual bits (times read rounds) → IsEqual bits (read.0 * lost.1, read.1 * (lost.1 - lost.0))
+pub over_passes : (read rounds bits failed lost : Fraction) → 0 < read.1 → 0 < rounds.1 → failed.0 < failed.1 → lost.0 < lost.1 → IsEqual failed lost → IsEqual rounds (failed.1, failed.1 - failed.0) → IsEqual bits (times read rounds) → IsEqual bits (read.0 * lost.1, read.1 * (lost.1 - lost.0))
 over_passes read rounds bits failed lost rs ns f l e n b = by read.0 read.1 rounds.0 rounds.1 bits.0 bits.1 failed.0 failed.1 (failed.1 - failed.0) lost.0 lost.1 (lost.1 - lost.0) ns (omega arith) (omega arith) (omega arith) e n b
   where
     by : (x y r0 r1 b0 b1 f0 f1 u l0 l1 w : ℕ) → 0 < r1 → 0 < u → f1 ≡ f0 + u → l1 ≡ l0 + w → f0 * l1 ≡ l0 * f1 → r0 * u ≡ f1 * r1 → b0 * (y * r1) ≡ x * r0 * b1 → b0 * (y * w) ≡ x * l1 * b1
@@ -126,10 +138,10 @@ module _ (p : SourceProgram) (ok : IsChecked p) (read : Fraction) (r : ReadsInRo
       ⊎_elim
       (λ (less : failed.0 < failed.1).
       let o = tends p r.0 read f.settled ok r.1 f.settles (some_pass p ok f.settled f.settles failed some lost_some f.fails less) in
-      expected_as p (bits_in_the_limit p f.settled read) none (zero none.0 none.1 read.0 L.1 (read.1 * (L.1 - L.0)) e z) ns o)
+      comes_as (expected_bits p) (bits_in_the_limit p f.settled read) none (zero none.0 none.1 read.0 L.1 (read.1 * (L.1 - L.0)) e z) ns o)
       (λ (le : failed.1 ≤ failed.0).
       let o = nothing p r.0 read f.settled ok r.1 f.settles (all_fail p ok f.settled f.settles failed some lost_some f.fails le) z in
-      expected_as p zero_share none e ns o)
+      comes_as (expected_bits p) zero_share none e ns o)
       (cases_lt failed.0 failed.1)
     where
       zero : (a b x l m : ℕ) → a * 1 ≡ 0 * b → x ≡ 0 → a * m ≡ x * l * b
@@ -141,17 +153,9 @@ module _ (p : SourceProgram) (ok : IsChecked p) (read : Fraction) (r : ReadsInRo
       let L = settled_failed p f.settled in
       let below = some_pass p ok f.settled f.settles failed some lost_some f.fails less in
       let g = product_is read rounds bits read_some (omega arith) e in
-      expected_as p (bits_in_the_limit p f.settled read) bits (over_passes read rounds bits failed L read_some (omega arith) less below f.fails n g.equal) bs (tends p r.0 read f.settled ok r.1 f.settles below)
+      comes_as (expected_bits p) (bits_in_the_limit p f.settled read) bits (over_passes read rounds bits failed L read_some (omega arith) less below f.fails n g.equal) bs (tends p r.0 read f.settled ok r.1 f.settles below)
 
 -- ---- a program of the same expected bits
 pub same_answer : (p q : SourceProgram) → ((l : Limits) → expected_bits q l ≡ expected_bits p l) → (a : Bits) → IsAnswer q a → IsAnswer p a
-same_answer p q e (bits.Expected f) h =
-    let o = h.0 in (
-      record {
-        within = λ l. subst (λ z. AtMost z f) (e l) (o.within l);
-        near = λ k some. let x = o.near k some in (x.0, λ l g. subst (λ z. AtMost f (plus z (1, k))) (e l) (x.1 l g));
-        fraction = o.fraction;
-      },
-      h.1,
-    )
-same_answer p q e bits.Unbounded h = λ k. let x = h k in (x.0, λ l g. subst (λ z. AtMost (k, 1) z) (e l) (x.1 l g))
+same_answer p q e (bits.Expected f) h = (comes_alike (expected_bits p) (expected_bits q) e f h.0, h.1)
+same_answer p q e bits.Unbounded h = grows_alike (expected_bits p) (expected_bits q) e h

@@ -1,6 +1,6 @@
 // The expected bits of a program whose runs have all ended by a number of turns.
 
-ghost use Rattle.std.specs.Prelude.{◌≡◌, ◌<◌, ◌≤◌, true, false, None, IfOk, IfErr};
+ghost use Rattle.std.specs.Prelude.{◌≡◌, ◌<◌, ◌≤◌, true, false, None, IfOk, IfErr, OnOk};
 ghost use Rattle.gcl_core.specs.declared.answers.Limit.TheVariants.{Turns};
 ghost use Rattle.gcl_core.specs.declared.answers.Outcome.TheVariants as outcome;
 ghost use Rattle.gcl_core.specs.declared.rules.TheConstants.{MOST_LIMIT};
@@ -53,24 +53,34 @@ fn runs_on(alloc: Global, p: &Checked) -> Result<bool, MassError>
     }
 }
 
+/// Whether every run has ended at the limit of turns that is tried; where not, a program with a loop is refused for `refusal`.
+pub fn all_end(alloc: Global, p: &Checked, refusal: BitsError) -> Result<(), BitsError>
+    requires { ReadsBeyond (source_of p.now) → RefusedAsWritten (source_of p.now) refusal }
+    ensures ended { OnOk result (TurnsSuffice (tables_of (source_of p.now) TURNS_TRIED None).ended) }
+    ensures refused { IfErr result (RefusedAsWritten (source_of p.now)) }
+{
+    match runs_on(alloc, p) {
+        Ok(false) => Ok(()),
+        Ok(true) => Err(refusal),
+        Err(MassError::OutOfMemory) => Err(BitsError::OutOfMemory),
+        Err(MassError::TooWide) => Err(refusal),
+        Err(MassError::TooManyStates) => Err(refusal),
+        Err(MassError::AllFailed) => Err(refusal),
+    }
+}
+
 /// A program whose loops are not read: its bits at a limit of turns, where every run has ended by then.
 pub fn tried(alloc: Global, p: &Checked, refusal: BitsError) -> Result<Bits, BitsError>
     requires { ReadsBeyond (source_of p.now) → RefusedAsWritten (source_of p.now) refusal }
     ensures answer { IfOk result (IsAnswer (source_of p.now)) }
     ensures refused { IfErr result (RefusedAsWritten (source_of p.now)) }
 {
-    match runs_on(alloc, p) {
-        Ok(true) => Err(refusal),
-        Ok(false) => match bits_at(alloc, p, TURNS_TRIED) {
-            Ok(bits) => Ok(bits),
-            Err(BitsError::OutOfMemory) => Err(BitsError::OutOfMemory),
-            Err(BitsError::TooWide) => Err(refusal),
-            Err(BitsError::TooManyStates) => Err(refusal),
-            Err(BitsError::NotFound) => Err(refusal),
-        },
-        Err(MassError::OutOfMemory) => Err(BitsError::OutOfMemory),
-        Err(MassError::TooWide) => Err(refusal),
-        Err(MassError::TooManyStates) => Err(refusal),
-        Err(MassError::AllFailed) => Err(refusal),
+    all_end(alloc, p, refusal)?;
+    match bits_at(alloc, p, TURNS_TRIED) {
+        Ok(bits) => Ok(bits),
+        Err(BitsError::OutOfMemory) => Err(BitsError::OutOfMemory),
+        Err(BitsError::TooWide) => Err(refusal),
+        Err(BitsError::TooManyStates) => Err(refusal),
+        Err(BitsError::NotFound) => Err(refusal),
     }
 }

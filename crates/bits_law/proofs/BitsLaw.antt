@@ -1,102 +1,78 @@
--- The law: the expected bits under limits rise with the limits, to what a round reads in the limit over what it does not fail with.
-use Rattle.std.proofs.Common.{ℕ, ◌-◌, ◌≤◌, ◌<◌, max, Some, arith}
+-- The law of bits: the expected bits under limits rise with the limits, to what a round reads in the limit over what it does not fail with.
+-- They have no bound where a round reads for ever with some weight, or it reads some and fails with all weight in the limit.
+use Rattle.std.proofs.Common.{◌≡◌, ℕ, ◌+◌, ◌≤◌, ◌<◌, max, None, length, subst, arith}
 use Rattle.gcl_core.specs.declared.answers.Limits.{Limits}
 use Rattle.gcl_core.specs.meaning.Checked.{IsChecked}
+use Rattle.gcl_core.specs.meaning.Outcomes.{zeros}
 use Rattle.gcl_core.specs.meaning.Syntax.{SourceProgram}
-use Rattle.gcl_core.specs.weighing.Fractions.{Fraction, plus, power_sum, AtMost, IsBelowOne}
-use Rattle.gcl_core.specs.weighing.Mass.{failed_mass}
+use Rattle.gcl_core.specs.meaning.Value.{State}
+use Rattle.gcl_core.specs.weighing.Fractions.{Fraction, zero_share, AtMost, IsBelowOne, IsOne}
+use Rattle.gcl_core.specs.weighing.WeightedEnds.{sure}
+use Rattle.gcl_core.proofs.Accepted.{checked_weights}
 use Rattle.cost_law.specs.ExpectedBits.{expected_bits}
 use Rattle.table_flow.specs.Tables.{Table}
-use Rattle.weighing_law.proofs.Shares.{product_pos, power_sum_pos}
+use Rattle.table_flow.proofs.Positive.{p_sure}
 use Rattle.unlimited_law.specs.Settling.{Outflow}
 use Rattle.unlimited_law.specs.SettledMasses.{ProgramSettles, settled_failed}
-use Rattle.unlimited_law.proofs.Numbers.{◌⊑◌, ◌≃◌, unit, below_refl, below_trans, add_below}
-use Rattle.unlimited_law.proofs.FractionNumbers.{of, of_plus, of_pos, below_of}
-use Rattle.bits_law.specs.InTheLimit.{AtLeast, NoLess, AreExpected, RoundReads, bits_in_the_limit}
-use Rattle.bits_law.proofs.Rounds.{series, series_is, series_rises, series_most, all_rounds, all_rounds_near, IsClose}
-use Rattle.bits_law.proofs.LimitedReads.{Approached, round_reads, bits_at, fails_at, bits_rise, fails_rise, round_some, round_is, round_approached, failed_some, failed_is, failed_approached, limit_some}
+use Rattle.unlimited_law.proofs.Numbers.{◌⊕◌, ◌⊑◌, nought, below_refl, below_trans, add_below, nought_add}
+use Rattle.unlimited_law.proofs.FractionNumbers.{of}
+use Rattle.unlimited_law.proofs.Integrals.{integral_sure}
+use Rattle.bits_law.specs.InTheLimit.{NoLess, AreExpected, AreUnbounded, RoundReads, bits_in_the_limit}
+use Rattle.bits_law.specs.Forever.{ReadsForever}
+use Rattle.bits_law.proofs.Readers.{quiet, cost_in_bits, block_reads, block_counts}
+use Rattle.bits_law.proofs.Shares.{bits_share}
+use Rattle.bits_law.proofs.Attempts.{play_block, enough_attempts}
+use Rattle.bits_law.proofs.LimitedReads.{Approached, play, sound, round_reads, round_some, round_is, bits_at, bits_rise, round_approached}
+use Rattle.bits_law.proofs.Unbounded.{whole, less_one, block_grows}
 use Rattle.bits_law.proofs.BlockTends.{block_some}
+use Rattle.bits_law.proofs.RunCosts.{cost_some, cost_rises, grows_with_round, comes_to, costs_nothing, grows_with_rounds}
 
 module _ (p : SourceProgram) (ok : IsChecked p) where
   pub expected_some : (l : Limits) → 0 < (expected_bits p l).1
-  expected_some l =
-      product_pos (round_reads p ok l.turns l.attempts).1 (power_sum (failed_mass p l.turns (Some l.attempts)) l.rounds).1 (round_some p ok l.turns l.attempts)
-      (power_sum_pos (failed_mass p l.turns (Some l.attempts)) (failed_some p ok l.turns l.attempts) l.rounds)
+  expected_some = cost_some p ok (round_reads p ok) (round_some p ok)
 
-  pub expected_is : (l : Limits) → of (expected_bits p l) ≃ series l.rounds (of (round_reads p ok l.turns l.attempts)) (of (failed_mass p l.turns (Some l.attempts)))
-  expected_is l = series_is (round_reads p ok l.turns l.attempts) (failed_mass p l.turns (Some l.attempts)) (failed_some p ok l.turns l.attempts) l.rounds
+  reads_rise : (n m r t : ℕ) → n ≤ m → r ≤ t → of (round_reads p ok n r) ⊑ of (round_reads p ok m t)
+  reads_rise n m r t a b = below_trans (round_is p ok n r).below (below_trans (bits_rise p ok n m r t a b) (round_is p ok m t).above)
 
-  -- they rise
   pub expected_rise : (l m : Limits) → NoLess l m → AtMost (expected_bits p l) (expected_bits p m)
-  expected_rise l m h =
-      let a = h.turns in
-      let b = h.attempts in
-      below_of (expected_bits p l) (expected_bits p m) (expected_some l) (expected_some m)
-      (below_trans (expected_is l).below
-      (below_trans
-      (series_rises l.rounds m.rounds h.rounds (of (round_reads p ok l.turns l.attempts)) (of (round_reads p ok m.turns m.attempts)) (of (failed_mass p l.turns (Some l.attempts))) (of (failed_mass p m.turns (Some m.attempts)))
-      (below_trans (round_is p ok l.turns l.attempts).below (below_trans (bits_rise p ok l.turns m.turns l.attempts m.attempts a b) (round_is p ok m.turns m.attempts).above))
-      (below_trans (failed_is p ok l.turns l.attempts).below (below_trans (fails_rise p ok l.turns m.turns l.attempts m.attempts a b) (failed_is p ok m.turns m.attempts).above)))
-      (expected_is m).above))
+  expected_rise = cost_rises p ok (round_reads p ok) (round_some p ok) reads_rise
+
+  -- ---- a round that reads for ever
+  forever_grows : ReadsForever p → (k : ℕ) → (least : ℕ) × ((n r : ℕ) → least ≤ n → least ≤ r → whole k ⊑ of (round_reads p ok n r))
+  forever_grows o k =
+      let start = zeros (length p.names) in
+      let none_after = λ (s : State). nought in
+      let x = block_grows p.body (checked_weights p ok) (sure start) (p_sure start) o (k + 1) in
+      let pos : 0 < 1 = omega arith in
+      let y = enough_attempts quiet cost_in_bits (λ cs ok r. bits_share cs ok r) none_after 1 pos _ (play p ok x.0) (play p ok x.0) (sound p ok x.0) in
+      let same = play_block quiet cost_in_bits None x.0 p.body start in
+      let alone = integral_sure (λ s. block_counts quiet (cost_in_bits None) None x.0 p.body s none_after) start in
+      let enough : whole k ⊑ bits_at p ok x.0 y.0 =
+      less_one k (block_reads None x.0 p.body start none_after) (bits_at p ok x.0 y.0) nought (below_trans x.1 alone.below)
+      (below_trans (nought_add _).below (subst (λ z. z none_after ⊑ bits_at p ok x.0 y.0 ⊕ of (1, 1)) same y.1)) in
+      (max x.0 y.0, λ n r a b. below_trans enough (below_trans (bits_rise p ok x.0 n y.0 r (omega arith) (omega arith)) (round_is p ok n r).above))
+
+  pub forever_unbounded : ReadsForever p → AreUnbounded p
+  forever_unbounded o = grows_with_round p ok (round_reads p ok) (round_some p ok) (forever_grows o)
 
   module _ (J : Table) (read : Fraction) (o : RoundReads p J read) (f : Outflow) (s : ProgramSettles p f) where
-    abbrev bits : Approached (bits_at p ok) (of read)
-    bits = round_approached p ok J read o
-
-    abbrev fails : Approached (fails_at p ok) (of (settled_failed p f))
-    fails = failed_approached p ok f s
-
     read_some : 0 < read.1
     read_some = block_some p.body _ J read o
 
-    -- what stands under the limits
-    pub reads_below : (n r : ℕ) → of (round_reads p ok n r) ⊑ of read
-    reads_below n r = below_trans (round_is p ok n r).below (bits.most n r)
+    reads : Approached (λ n r. of (round_reads p ok n r)) (of read)
+    reads =
+        let h = round_approached p ok J read o in
+        record {
+          rises = reads_rise;
+          most = λ n r. below_trans (round_is p ok n r).below (h.most n r);
+          near = λ j pos. let x = h.near j pos in (x.0, λ n r a b. below_trans (x.1 n r a b) (add_below (round_is p ok n r).above (below_refl (of (1, j)))));
+        }
 
-    pub fails_below : (n r : ℕ) → of (failed_mass p n (Some r)) ⊑ of (settled_failed p f)
-    fails_below n r = below_trans (failed_is p ok n r).below (fails.most n r)
+    pub are_expected : IsBelowOne (settled_failed p f) → AreExpected p (bits_in_the_limit p f read)
+    are_expected = comes_to p ok (round_reads p ok) (round_some p ok) read read_some reads f s
 
-    module _ (passes : IsBelowOne (settled_failed p f)) where
-      abbrev all : Fraction
-      all = bits_in_the_limit p f read
+    pub nothing_expected : IsOne (settled_failed p f) → read.0 ≡ 0 → AreExpected p zero_share
+    nothing_expected = costs_nothing p ok (round_reads p ok) (round_some p ok) read read_some reads f s
 
-      all_some : 0 < all.1
-      all_some = product_pos read.1 ((settled_failed p f).1 - (settled_failed p f).0) read_some (omega arith)
-
-      fails_less : of (settled_failed p f) ⊑ unit
-      unfolding unit
-      fails_less = below_trans (of_pos (settled_failed p f) (limit_some p ok f s)).below (record { le = let h = passes in omega arith })
-
-      within : (l : Limits) → AtMost (expected_bits p l) all
-      within l =
-          below_of (expected_bits p l) all (expected_some l) all_some
-          (below_trans (expected_is l).below
-          (series_most (of (round_reads p ok l.turns l.attempts)) (of read) (of (failed_mass p l.turns (Some l.attempts))) (of (settled_failed p f)) (of all) (reads_below l.turns l.attempts)
-          (fails_below l.turns l.attempts) (all_rounds read (settled_failed p f) read_some passes).below l.rounds))
-
-      near : (k : ℕ) → 1 ≤ k → (least : ℕ) × ((l : Limits) → AtLeast least l → AtMost all (plus (expected_bits p l) (1, k)))
-      near k h =
-          let pos : 0 < k = omega arith in
-          let x = all_rounds_near read (settled_failed p f) read_some passes k pos in
-          let y = bits.near x.1 x.2 in
-          let z = fails.near x.1 x.2 in
-          let least = max x.0 (max y.0 z.0) in (
-            least,
-            λ l a.
-                let n = l.turns in
-                let r = l.attempts in
-                let an = a.turns in
-                let ar = a.attempts in
-                let aR = a.rounds in
-                let close : IsClose x.1 (of read) (of (settled_failed p f)) (of (round_reads p ok n r)) (of (failed_mass p n (Some r))) = record {
-                  reads = below_trans (y.1 n r (omega arith) (omega arith)) (add_below (round_is p ok n r).above (below_refl (of (1, x.1))));
-                  fails = below_trans (z.1 n r (omega arith) (omega arith)) (add_below (failed_is p ok n r).above (below_refl (of (1, x.1))));
-                  less = below_trans (fails_below n r) fails_less;
-                } in
-                below_of all (plus (expected_bits p l) (1, k)) all_some (product_pos (expected_bits p l).1 k (expected_some l) pos)
-                (below_trans (x.3 l.rounds (omega arith) (of (round_reads p ok n r)) (of (failed_mass p n (Some r))) close)
-                (below_trans (add_below (expected_is l).above (below_refl (of (1, k)))) (of_plus (expected_bits p l) (1, k) (expected_some l) pos).above)),
-          )
-
-      pub are_expected : AreExpected p all
-      are_expected = record { within = within; near = near; fraction = let h = all_some in omega arith }
+    pub some_unbounded : IsOne (settled_failed p f) → 0 < read.0 → AreUnbounded p
+    some_unbounded = grows_with_rounds p ok (round_reads p ok) (round_some p ok) read read_some reads f s

@@ -7,9 +7,10 @@ pub mod Shares
 pub mod Attempts
 pub mod Rounds
 pub mod LimitedReads
-pub mod BitsLaw
 pub mod Unbounded
-pub mod NoBound
+pub mod RunCosts
+pub mod BitsLaw
+pub mod RoundsLaw
 pub mod OneFraction
 pub mod WorkedBits
 pub mod FreeReads

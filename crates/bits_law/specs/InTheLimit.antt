@@ -1,10 +1,10 @@
--- The expected number of bits where nothing is limited: what the expected numbers under limits come to as all limits grow. This project's
--- own rule.
+-- What is expected where nothing is limited, of bits and of whatever else a run costs: what the expected numbers under limits come to as all
+-- limits grow. This project's own rule.
 use Rattle.std.specs.Prelude.{ℕ, ◌≤◌, length, None}
 use Rattle.gcl_core.specs.declared.answers.Limits.{Limits}
 use Rattle.gcl_core.specs.meaning.Outcomes.{zeros}
 use Rattle.gcl_core.specs.meaning.Syntax.{SourceProgram}
-use Rattle.gcl_core.specs.weighing.Fractions.{Fraction, plus, divided_by_rest, AtMost}
+use Rattle.gcl_core.specs.weighing.Fractions.{Fraction, one, plus, divided_by_rest, AtMost}
 use Rattle.gcl_core.specs.weighing.WeightedEnds.{sure}
 use Rattle.cost_law.specs.ExpectedBits.{expected_bits}
 use Rattle.table_flow.specs.Tables.{Table, tables_of}
@@ -25,15 +25,22 @@ pub record NoLess (l m : Limits) : Type 0 where
   pub attempts : l.attempts ≤ m.attempts
   pub rounds : l.rounds ≤ m.rounds
 
--- Under no limits more bits are expected, and where all limits are great enough no fewer but for 1 / k, whatever k.
-pub record AreExpected (p : SourceProgram) (bits : Fraction) : Type 0 where
-  pub within : (l : Limits) → AtMost (expected_bits p l) bits
-  pub near : (k : ℕ) → 1 ≤ k → (least : ℕ) × ((l : Limits) → AtLeast least l → AtMost bits (plus (expected_bits p l) (1, k)))
-  pub fraction : 1 ≤ bits.1
+-- Under no limits it is more than this number, and where all limits are great enough no less but for 1 / k, whatever k.
+pub record ComesTo (under : Limits → Fraction) (number : Fraction) : Type 0 where
+  pub within : (l : Limits) → AtMost (under l) number
+  pub near : (k : ℕ) → 1 ≤ k → (least : ℕ) × ((l : Limits) → AtLeast least l → AtMost number (plus (under l) (1, k)))
+  pub fraction : 1 ≤ number.1
 
--- where all limits are great enough more bits are expected than k, whatever k
+-- where all limits are great enough it is more than k, whatever k
+abbrev pub HasNoBound : (Limits → Fraction) → Type 0
+HasNoBound under = (k : ℕ) → (least : ℕ) × ((l : Limits) → AtLeast least l → AtMost (k, 1) (under l))
+
+-- ---- bits
+abbrev pub AreExpected : SourceProgram → Fraction → Type 0
+AreExpected p bits = ComesTo (expected_bits p) bits
+
 abbrev pub AreUnbounded : SourceProgram → Type 0
-AreUnbounded p = (k : ℕ) → (least : ℕ) × ((l : Limits) → AtLeast least l → AtMost (k, 1) (expected_bits p l))
+AreUnbounded p = HasNoBound (expected_bits p)
 
 -- the body of a program reads so many bits in a round
 abbrev pub RoundReads : SourceProgram → Table → Fraction → Type 0
@@ -42,6 +49,11 @@ RoundReads p J bits = BlockReads p.body (sure (zeros (length p.names))) J bits
 -- what a round reads, over the probability that it does not fail
 abbrev pub bits_in_the_limit : SourceProgram → Outflow → Fraction → Fraction
 bits_in_the_limit p f read = divided_by_rest read (settled_failed p f)
+
+-- ---- rounds
+-- one, over the probability that it does not fail
+abbrev pub rounds_in_the_limit : SourceProgram → Outflow → Fraction
+rounds_in_the_limit p f = divided_by_rest one (settled_failed p f)
 
 -- what a program without a loop settles to, with one turn as with any other number
 abbrev pub free_outflow : SourceProgram → Outflow

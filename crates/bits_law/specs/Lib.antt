@@ -1,4 +1,5 @@
 pub mod Draws
 pub mod Reading
+pub mod Rounds
 pub mod InTheLimit
 pub mod Forever

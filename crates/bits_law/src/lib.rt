@@ -1,5 +1,5 @@
-//! Laws of how many bits a program's runs read on average where nothing is limited: neither the turns of loops, nor the attempts of
-//! draws, nor the rounds. The functions do nothing: their clauses are theorems about definitions.
+//! Laws of how many bits a program's runs read on average, and how many rounds they begin, where nothing is limited: neither the turns
+//! of loops, nor the attempts of draws, nor the rounds. The functions do nothing: their clauses are theorems about definitions.
 //!
 //! Proved, for every checked program: the expected bits rise with the limits (`expected_bits_rise_with_limits`), and what they come
 //! to is one fraction (`expected_bits_are_one_fraction`). Where the body settles and reads a number of bits, it is that number over
@@ -8,24 +8,31 @@
 //! (`bits_that_are_read_for_ever_have_no_bound`), nor where in the limit every round fails and reads some bits
 //! (`rounds_that_all_fail_read_nothing_or_have_no_bound`).
 //!
+//! The expected number of rounds is the same with a price of 1 for each: what a run costs by what a round costs is said once
+//! (`expected_cost`), and its law is proved once. It rises with the limits (`expected_rounds_rise_with_limits`), to one over what does
+//! not fail, or without bound where in the limit every round fails (`rounds_tend_to_their_limit`), which is one fraction
+//! (`expected_rounds_are_one_fraction`). What the price of a round is for its bits, is a clause (`bits_are_the_cost_of_rounds`).
+//!
 //! No clause says that the visits of a loop are found, nor how fast the expected bits come to their limit.
 #![tactic(auto)]
 
-ghost use Rattle.std.specs.Prelude.{◌≡◌, ◌<◌, None};
+ghost use Rattle.std.specs.Prelude.{◌≡◌, ◌<◌, None, length};
 ghost use Rattle.numbers.specs.Fraction.{IsEqual};
 ghost use Rattle.gcl_core.specs.declared.answers.Limits.{Limits};
 ghost use Rattle.gcl_core.specs.meaning.Checked.{IsChecked};
+ghost use Rattle.gcl_core.specs.meaning.Outcomes.{zeros};
 ghost use Rattle.gcl_core.specs.meaning.Syntax.{SourceProgram};
 ghost use Rattle.gcl_core.specs.weighing.Fractions.{Fraction, zero_share, AtMost, IsBelowOne, IsOne};
-ghost use Rattle.cost_law.specs.ExpectedBits.{expected_bits};
+ghost use Rattle.cost_law.specs.ExpectedBits.{block_bits, expected_bits};
 ghost use Rattle.table_flow.specs.Tables.{Table};
 ghost use Rattle.table_flow.specs.Reached.{draws_of};
 ghost use Rattle.unlimited_law.specs.LoopFree.{BlockFree};
 ghost use Rattle.unlimited_law.specs.Settling.{Outflow};
 ghost use Rattle.unlimited_law.specs.SettledMasses.{ProgramSettles, settled_failed};
 ghost use Rattle.bits_law.specs.Draws.{bits_of_draws};
-ghost use Rattle.bits_law.specs.InTheLimit.{NoLess, AreExpected, AreUnbounded, RoundReads, bits_in_the_limit, free_outflow};
+ghost use Rattle.bits_law.specs.InTheLimit.{NoLess, ComesTo, HasNoBound, AreExpected, AreUnbounded, RoundReads, bits_in_the_limit, rounds_in_the_limit, free_outflow};
 ghost use Rattle.bits_law.specs.Forever.{ReadsForever};
+ghost use Rattle.bits_law.specs.Rounds.{expected_cost, expected_rounds};
 
 /// It does nothing: its clause says that the expected bits of a checked program rise with its limits, with each of the three.
 pub fn expected_bits_rise_with_limits()
@@ -68,4 +75,32 @@ pub fn expected_bits_are_one_fraction()
 pub fn programs_without_loops_read_their_draws()
     ensures { (p : SourceProgram) → IsChecked p → BlockFree p.body → IsBelowOne (settled_failed p (free_outflow p)) →
         AreExpected p (bits_in_the_limit p (free_outflow p) (bits_of_draws (draws_of p 1 None))) }
+{}
+
+/// It does nothing: its clause says that the expected bits are what a run costs where a round costs the bits that it reads.
+pub fn bits_are_the_cost_of_rounds()
+    ensures { (p : SourceProgram) (l : Limits) →
+        expected_cost p (λ n r. block_bits n r p.body (zeros (length p.names)) (λ s. zero_share)) l ≡ expected_bits p l }
+{}
+
+/// It does nothing: its clause says that the expected number of rounds of a checked program rises with its limits, with each of the
+/// three.
+pub fn expected_rounds_rise_with_limits()
+    ensures { (p : SourceProgram) (l m : Limits) → IsChecked p → NoLess l m → AtMost (expected_rounds p l) (expected_rounds p m) }
+{}
+
+/// It does nothing: its clauses are the law of the expected number of rounds without limits, for a checked program whose body settles.
+/// Where in the limit a round fails with less than all weight it is one over what does not fail; where every round fails there is no
+/// bound.
+pub fn rounds_tend_to_their_limit()
+    ensures passes { (p : SourceProgram) (f : Outflow) → IsChecked p → ProgramSettles p f → IsBelowOne (settled_failed p f) →
+        ComesTo (expected_rounds p) (rounds_in_the_limit p f) }
+    ensures unbounded { (p : SourceProgram) (f : Outflow) → IsChecked p → ProgramSettles p f → IsOne (settled_failed p f) →
+        HasNoBound (expected_rounds p) }
+{}
+
+/// It does nothing: its clause says that what the expected number of rounds comes to is one fraction.
+pub fn expected_rounds_are_one_fraction()
+    ensures { (p : SourceProgram) (rounds other : Fraction) → IsChecked p → ComesTo (expected_rounds p) rounds →
+        ComesTo (expected_rounds p) other → IsEqual rounds other }
 {}

@@ -5,4 +5,5 @@ pub mod EnclosedLines
 pub mod ExactLines
 pub mod BitLines
 pub mod ExpectedLines
+pub mod HowLongLines
 pub mod Reasons

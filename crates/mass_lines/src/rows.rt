@@ -5,6 +5,7 @@ ghost use Rattle.report_text.specs.Lines.{cost_text, unbounded_text};
 ghost use Rattle.mass_lines.specs.Narrow.{IsNarrow};
 ghost use Rattle.mass_lines.specs.BoundLines.{bound_rows_text, bound_lines};
 ghost use Rattle.mass_lines.specs.ExactLines.{exact_lines};
+ghost use Rattle.mass_lines.specs.HowLongLines.{rounds_text, unbounded_rounds_text};
 ghost use Rattle.mass_lines.specs.MassLines.{mass_rows_text};
 
 use crate::narrow::is_narrow;
@@ -17,6 +18,9 @@ use report_text::{
     Decimals, bound_line, cost_line, endless_line, mass_line, other_line, unbounded_line,
 };
 use std::alloc::{AllocError, Global};
+
+// The word in front of an expected number of bits.
+const BITS: &[u8] = b"bits ";
 
 // The lines of masses. An error comes only where memory runs out.
 #[tactic(auto, using(report_text::proofs::RowByRow::rows_end, crate::proofs::NarrowRows::all_narrow))]
@@ -108,5 +112,32 @@ pub(crate) fn unbounded_bit_line(alloc: Global) -> Result<Text, AllocError>
 {
     let mut text = Text::new(alloc);
     text.push(unbounded_line().bytes())?;
+    Ok(text)
+}
+
+// The line of an expected number of rounds: that of as many bits, with another word in front. An error comes only where memory runs
+// out.
+pub(crate) fn round_line(
+    alloc: Global,
+    rounds: &Frac,
+    decimals: Decimals,
+) -> Result<Text, AllocError>
+    ensures line { IfOk result (λ text. text ≡ rounds_text decimals rounds.now) }
+    ensures narrow { IsNarrow rounds.now }
+{
+    is_narrow(rounds);
+    let line = cost_line(rounds, decimals);
+    let mut text = Text::new(alloc);
+    text.push(b"rounds ")?;
+    text.push(&line.bytes()[BITS.len()..])?;
+    Ok(text)
+}
+
+// The line of an expected number of rounds that has no bound. An error comes only where memory runs out.
+pub(crate) fn unbounded_round_line(alloc: Global) -> Result<Text, AllocError>
+    ensures { IfOk result (λ text. text ≡ unbounded_rounds_text) }
+{
+    let mut text = Text::new(alloc);
+    text.push(b"rounds unbounded\n")?;
     Ok(text)
 }

@@ -10,12 +10,16 @@ ghost use Rattle.mass_lines.specs.BoundLines.{AreBoundLines};
 ghost use Rattle.mass_lines.specs.EnclosedLines.{AreEnclosedLines};
 ghost use Rattle.mass_lines.specs.ExactLines.{AreExactLines};
 ghost use Rattle.mass_lines.specs.ExpectedLines.{IsExpectedLine};
+ghost use Rattle.mass_lines.specs.HowLongLines.{IsRoundsLine, AreHowLongLines};
 ghost use Rattle.mass_lines.specs.MassLines.{AreMassLines};
 ghost use Rattle.mass_lines.specs.Reasons.{IsReason, WhyNoBits, WhyNoBounds, WhyNoMasses, WhyNotEnclosed, WhyNotExact, WhyNotExpected};
 
 use crate::reasons::Reason;
-use crate::rows::{bit_line, bound_lines, exact_lines, mass_rows_text, unbounded_bit_line};
-use bits_fold::{Bits, cost_in_the_limit};
+use crate::rows::{
+    bit_line, bound_lines, exact_lines, mass_rows_text, round_line, unbounded_bit_line,
+    unbounded_round_line,
+};
+use bits_fold::{Bits, Rounds, cost_in_the_limit, rounds_in_the_limit};
 use cost_fold::cost;
 use enclose_fold::enclose;
 use exact_fold::exact;
@@ -114,4 +118,26 @@ pub fn expected_text(alloc: Global, program: &Checked, decimals: Decimals) -> Re
         Bits::Expected(bits) => Ok(bit_line(alloc, &bits, decimals)?),
         Bits::Unbounded => Ok(unbounded_bit_line(alloc)?),
     }
+}
+
+/// The line of the rounds that a run of a program begins on average where nothing is limited, or of there being no bound.
+pub fn rounds_text(alloc: Global, program: &Checked, decimals: Decimals) -> Result<Text, Reason>
+    ensures line { IfOk result (IsRoundsLine (source_of program.now) decimals) }
+    ensures refused { IfErr result (IsReason (WhyNotExpected (source_of program.now))) }
+{
+    match rounds_in_the_limit(alloc, program)? {
+        Rounds::Expected(rounds) => Ok(round_line(alloc, &rounds, decimals)?),
+        Rounds::Unbounded => Ok(unbounded_round_line(alloc)?),
+    }
+}
+
+/// The lines of how long a run of a program takes where nothing is limited: of the bits that it reads, and of the rounds that it begins.
+pub fn how_long_text(alloc: Global, program: &Checked, decimals: Decimals) -> Result<Text, Reason>
+    ensures lines { IfOk result (AreHowLongLines (source_of program.now) decimals) }
+    ensures refused { IfErr result (IsReason (WhyNotExpected (source_of program.now))) }
+{
+    let mut text = expected_text(alloc, program, decimals)?;
+    let rounds = rounds_text(alloc, program, decimals)?;
+    text.push(rounds.bytes())?;
+    Ok(text)
 }

@@ -1,4 +1,4 @@
-use Rattle.bits_law.proofs.NoBound.{nothing_expected, some_unbounded}
+use Rattle.bits_law.proofs.BitsLaw.{nothing_expected, some_unbounded}
 use Rattle.bits_law.proofs.rounds_that_all_fail_read_nothing_or_have_no_bound.Goals as goal
 
 pub returns-clause-nothing : goal.returns-clause-nothing
