@@ -4,21 +4,16 @@ use Rattle.std.specs.Prelude.{◌==◌, if◌then◌else◌}
 use Rattle.std.specs.List.{sum}
 use Rattle.std.proofs.lemmas.Bool.{ne_eqb}
 use Rattle.std.proofs.Math.ListN.{drop_of_length-le}
-use Rattle.gcl_core.specs.declared.answers.Limit.TheVariants.{Attempts}
 use Rattle.gcl_core.specs.declared.syntax.Stmt.{Stmt}
 use Rattle.gcl_core.specs.declared.syntax.Weight.{Weight}
 use Rattle.gcl_core.specs.meaning.Arms.{parts_of}
-use Rattle.gcl_core.specs.meaning.Blocks.{limit}
 use Rattle.gcl_core.specs.meaning.Syntax.{Expression, Statement, If, While, Choice, Choose, Statements, done, ◌▸◌, ArmList, no_arm, arm}
 use Rattle.gcl_core.specs.meaning.Value.{value_of}
 use Rattle.gcl_core.specs.meaning.Views.{list_of}
-use Rattle.table_flow.specs.Tables.{end_go}
-use Rattle.units_law.specs.Down.{down}
 use Rattle.units_law.specs.Merged.{IsMerged}
 use Rattle.units_law.specs.Units.{total}
-use Rattle.scaled_law.specs.Pairs.{at_least, at_most, counted_pairs, rest_pairs}
-use Rattle.scaled_law.specs.Scaled.{Scaled, top, below, with_tables, ends_more, tidied, swapped, taken_back, times_all, enters, left_loop}
-use Rattle.scaled_law.specs.Up.{up}
+use Rattle.scaled_law.specs.Pairs.{at_least, at_most}
+use Rattle.scaled_law.specs.Scaled.{Scaled, top, below, with_tables, tidied, swapped, taken_back, times_all, enters, left_loop}
 use Rattle.scaled_fold.specs.Doubling.{doubling}
 use Rattle.scaled_fold.specs.declared.walk.Walk.{Walk}
 use Rattle.scaled_fold.specs.inner.Folding.{statement_after, block_after, both_after, arms_after, loop_after, parted, chosen, none_aside, arms_begun, with_part, gathered, turns_end}

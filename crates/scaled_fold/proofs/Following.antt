@@ -1,5 +1,5 @@
 -- A walk follows each step of a round.
-use Rattle.std.proofs.Common.{◌≡◌, ℕ, ◌-◌, ◌*◌, Bool, Option, None, List, [], ◌∷◌, ◌++◌, refl, sym, ap, ◌∙◌, subst, arith}
+use Rattle.std.proofs.Common.{◌≡◌, ℕ, ◌-◌, ◌*◌, Bool, Option, None, List, [], ◌∷◌, ◌++◌, sym, ap, ◌∙◌, subst, arith}
 use Rattle.gcl_core.specs.declared.answers.Limit.TheVariants.{Turns, Attempts}
 use Rattle.gcl_core.specs.declared.syntax.Weight.{Weight}
 use Rattle.gcl_core.specs.meaning.Blocks.{End, failed, limit}
@@ -10,7 +10,7 @@ use Rattle.units_law.specs.Down.{down}
 use Rattle.units_law.specs.Merged.{IsMerged}
 use Rattle.units_law.specs.Units.{held, total}
 use Rattle.scaled_law.specs.Pairs.{Pair, Pairs, InOrder, added, at_least, at_most, counted_pairs, class_pairs, rest_pairs, pairs_kind, put_pairs, merged_pairs}
-use Rattle.scaled_law.specs.Scaled.{Scaled, top, below, with_tables, ends_more, swapped, taken_back, enters, left_loop}
+use Rattle.scaled_law.specs.Scaled.{Scaled, top, below, with_tables, swapped, taken_back, enters, left_loop}
 use Rattle.scaled_law.specs.Up.{up}
 use Rattle.scaled_law.proofs.Merging.{merged_in_order, pairs_merged_again}
 use Rattle.scaled_fold.specs.declared.ended.Ended.{Ended}

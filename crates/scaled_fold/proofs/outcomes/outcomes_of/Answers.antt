@@ -1,5 +1,5 @@
 use Rattle.std.proofs.lemmas.Result.{IfOk-weaker}
-use Rattle.std.proofs.Common.{[], subst}
+use Rattle.std.proofs.Common.{subst}
 use Rattle.gcl_core.specs.meaning.Views.{expression_of}
 use Rattle.scaled_law.specs.Pairs.{Pairs}
 use Rattle.gcl_core.specs.declared.answers.Outcome.{Outcome}
