@@ -25,7 +25,7 @@ pub record NoLess (l m : Limits) : Type 0 where
   pub attempts : l.attempts ≤ m.attempts
   pub rounds : l.rounds ≤ m.rounds
 
--- Under no limits it is more than this number, and where all limits are great enough no less but for 1 / k, whatever k.
+-- Under whatever limits it is at most this number, and where all limits are great enough no less but for 1 / k, whatever k.
 pub record ComesTo (under : Limits → Fraction) (number : Fraction) : Type 0 where
   pub within : (l : Limits) → AtMost (under l) number
   pub near : (k : ℕ) → 1 ≤ k → (least : ℕ) × ((l : Limits) → AtLeast least l → AtMost number (plus (under l) (1, k)))
