@@ -1,5 +1,5 @@
 -- A statement that is settled from each state of a table alone.
-use Rattle.std.proofs.Common.{◌≡◌, ℕ, zero, suc, ◌*◌, ◌≤◌, ◌<◌, [], ◌∷◌, ◌++◌, refl, sym, subst, append-nil, arith}
+use Rattle.std.proofs.Common.{◌≡◌, zero, suc, ◌≤◌, [], ◌∷◌, ◌++◌, refl, sym, subst, append-nil, arith}
 use Rattle.gcl_core.specs.meaning.Bounds.{StatementIsWeighed}
 use Rattle.gcl_core.specs.meaning.Blocks.{End}
 use Rattle.gcl_core.specs.meaning.Syntax.{Statement, Skip, Set, If, While, Choice, Choose, Uniform, Observe, no_arm, arm}
@@ -13,14 +13,14 @@ use Rattle.mass_fold.specs.inner.Amounts.{Entries}
 use Rattle.mass_fold.specs.inner.Ended.{rows_of, IsNone}
 use Rattle.unlimited_law.specs.Alike.{AreFractions, Alike}
 use Rattle.unlimited_law.specs.Settling.{Outflow, IsOutflow, StatementSettles}
-use Rattle.unlimited_law.proofs.Numbers.{Rational, ◌⊕◌, ◌⊗◌, ◌≃◌, same_refl, same_sym, same_trans, add_same, times_same, add_assoc, add_turned, nought_add}
+use Rattle.unlimited_law.proofs.Numbers.{◌⊗◌, same_refl, same_sym, same_trans, add_same, times_same, add_assoc, add_turned, nought_add}
 use Rattle.unlimited_law.proofs.FractionNumbers.{of}
 use Rattle.unlimited_law.proofs.Integrals.{integral, integral_append, integral_scaled, behind}
 use Rattle.unlimited_law.proofs.SameWeights.{alike_integral}
 use Rattle.unlimited_law.proofs.Likeness.{alike_trans, Like}
 use Rattle.unlimited_law.proofs.BlockLimits.{behind_fractions}
 use Rattle.unlimited_law.proofs.ByState.{append_fractions}
-use Rattle.exact_fold.specs.inner.Settled.{as_table, AreAbove, IsUnlimited, AreUnlimited, SettlesFrom}
+use Rattle.exact_fold.specs.inner.Settled.{as_table, AreAbove, AreUnlimited, SettlesFrom}
 use Rattle.exact_fold.specs.inner.Turning.{NothingIn, Alone}
 use Rattle.exact_fold.proofs.SameLists.{alike_of, alike_refl, fractions_scaled, product_some}
 use Rattle.exact_fold.proofs.SameInputs.{statement_from}

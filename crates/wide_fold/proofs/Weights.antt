@@ -1,5 +1,5 @@
 -- Weights in lowest terms, as rational numbers.
-use Rattle.std.proofs.Common.{◌≡◌, ℕ, zero, suc, ◌+◌, ◌*◌, ◌/◌, ◌≤◌, ◌<◌, Bool, true, false, cond, Ordering, [], ◌∷◌, ◌++◌, refl, sym, ap, ◌∙◌, subst, arith}
+use Rattle.std.proofs.Common.{◌≡◌, ℕ, zero, suc, ◌*◌, ◌≤◌, ◌<◌, Bool, true, false, cond, Ordering, [], ◌∷◌, ◌++◌, refl, sym, ap, ◌∙◌, subst, arith}
 use Rattle.std.specs.Prelude.{◌==◌, nat_lt}
 use Rattle.std.specs.Ordering.{nat_cmp}
 use Rattle.std.specs.declared.cmp.Ordering.TheVariants.{Less, Equal, Greater}
@@ -8,7 +8,6 @@ use Rattle.gcl_core.specs.meaning.Blocks.{End}
 use Rattle.gcl_core.specs.meaning.Value.{State}
 use Rattle.gcl_core.specs.weighing.Fractions.{Fraction, plus, times}
 use Rattle.gcl_core.specs.weighing.WeightedEnds.{Weighted, scaled}
-use Rattle.numbers.specs.Divisor.{gcd}
 use Rattle.numbers.specs.Fraction.{lowest}
 use Rattle.numbers.proofs.Divisors.{product_pos, lowest_in_lowest, lowest_equal}
 use Rattle.table_flow.proofs.Denominators.{weights_whole}

@@ -1,4 +1,4 @@
-use Rattle.std.proofs.Common.{◌≡◌, ◌∙◌, [], length, pos, of_z, w64, sym, ap, arith, Err}
+use Rattle.std.proofs.Common.{◌≡◌, ◌∙◌, [], length, pos, of_z, w64, sym, ap, arith}
 use Rattle.std.proofs.lemmas.Int.{to_z-of_z}
 use Rattle.gcl_core.specs.meaning.Views.{expression_of}
 use Rattle.gcl_core.specs.meaning.Value.{value_of}
