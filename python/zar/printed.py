@@ -51,6 +51,7 @@ KINDS = {
 }
 BOUNDS = re.compile(rf"(.*) from ({FRACTION}) to ({FRACTION})\n")
 BITS = re.compile(rf"bits (?:({FRACTION})|unbounded)\n")
+ROUNDS = re.compile(rf"rounds (?:({FRACTION})|unbounded)\n")
 
 
 # The most characters of a text that a message quotes.
@@ -127,4 +128,10 @@ def bounds(text: str) -> dict[Outcome, Bounds]:
 def bits(text: str) -> Fraction | float:
     """The number of bits in the line of an expected cost, which is math.inf where it has no bound."""
     number = told(BITS, text)[1]
+    return Fraction(number) if number else math.inf
+
+
+def rounds(text: str) -> Fraction | float:
+    """The number of rounds in such a line, likewise."""
+    number = told(ROUNDS, text)[1]
     return Fraction(number) if number else math.inf

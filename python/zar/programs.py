@@ -126,6 +126,13 @@ class Program:
         turns = WEIGHED_TURNS if turns is None else turns
         return printed.bits(library.lines("zar_cost", self._text, turns=turns, attempts=attempts, rounds=rounds))
 
+    def rounds(self) -> Fraction | float:
+        """How many rounds a run begins on average where nothing is limited: a Fraction, or math.inf where there is no bound.
+
+        The first, and one more after each that fails. Refused as `cost` without limits.
+        """
+        return printed.rounds(library.lines("zar_rounds_in_the_limit", self._text))
+
     def sample(
         self, bits: Bits | None = None, *, budget: int = BUDGET, turns: int = TURNS, attempts: int = ATTEMPTS, rounds: int = ROUNDS
     ) -> Sample:

@@ -140,6 +140,15 @@ def rolls_of(zar, weights, seed, streams, budget, flips):
     return [re.match(r"more bits|.*(?= bits)", line)[0] for line in said]
 
 
+def rounds_are_told_alike(zar, library, folder, text):
+    """What differs between the rounds of a text and the last line of `cost --how-long`, unless its bits are refused."""
+    status, code, place, out = commanded(zar, folder, ["cost", "p.gcl", "--how-long"])
+    line = b"".join(out.splitlines(keepends=True)[1:])
+    said = lined(library.zar_rounds_in_the_limit, text, len(text))
+    if status != 6 and said != (status, code, place, line):
+        yield f"zar_rounds_in_the_limit: {said}, not {status, code, place, line}"
+
+
 def hunts_are_told_alike(zar, library, folder, text, rng, checked):
     """What differs between a hunt for a way to end and what `hunt` says of it."""
     seed, first, budget = rng.randrange(2**64), rng.choice([0, 17, 2**64 - 71]), rng.choice([0, 5, 65536])
@@ -259,6 +268,7 @@ def text_is_told_alike(zar, library, text, rng):
         if not said.status and draws.outcomes() != outcomes_of(zar, folder, seed, first, count, limits):
             wrong.append(f"zar_draws from {first} of {seed}: {draws.outcomes()}")
         wrong += bits_are_told_alike(zar, library, folder, text, rng, checked)
+        wrong += rounds_are_told_alike(zar, library, folder, text)
         wrong += hunts_are_told_alike(zar, library, folder, text, rng, checked)
     return [f"{it}, of {text[:400]!r}" for it in wrong]
 

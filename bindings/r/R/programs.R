@@ -36,6 +36,11 @@ zar_cost <- function(text, turns = NULL, attempts = NULL, rounds = NULL) {
     data.frame(exact = exact, bits = if (exact == "unbounded") Inf else rounded(exact))
 }
 
+zar_rounds <- function(text) {
+    exact <- sub("rounds ([^\n]*)\n", "\\1", lines_of(11L, text))
+    data.frame(exact = exact, rounds = if (exact == "unbounded") Inf else rounded(exact))
+}
+
 zar_audit <- function(text, depth, turns = 1000, attempts = 1000, rounds = 1000) {
     if (whole("depth", depth) > 20)
         stop("a number is out of its range", call. = FALSE)

@@ -2,6 +2,7 @@
 \alias{zar_audit}
 \alias{zar_check}
 \alias{zar_cost}
+\alias{zar_rounds}
 \alias{zar_draws}
 \alias{zar_enclose}
 \alias{zar_exact}
@@ -39,6 +40,7 @@ zar_enclose(text, turns = 30, attempts = NULL, rounds = NULL,
             all_turns = FALSE)
 zar_audit(text, depth, turns = 1000, attempts = 1000, rounds = 1000)
 zar_cost(text, turns = NULL, attempts = NULL, rounds = NULL)
+zar_rounds(text)
 zar_roll(weights, n, seed, first = 0, budget = 65536, flips = 1000)
 zar_check(text)
 zar_show(text)
@@ -77,7 +79,8 @@ in the outcome, or \code{NA}.
 these rounded; the one for each greater limit of turns, the other however wide the mass is. \code{zar_audit}: masses of all strings of so many
 bits, with \code{undecided}, on which a run needs more. \code{zar_cost}: how many bits a run reads on average, \code{exact} as a text, and
 rounded; \code{unbounded} and \code{Inf} where there is no bound. Nothing is limited where no limit is given; else \code{attempts} and
-\code{rounds} are both to be given, and \code{turns} are 30 where they are not.
+\code{rounds} are both to be given, and \code{turns} are 30 where they are not. \code{zar_rounds}: how many rounds a run begins on average where
+nothing is limited, likewise.
 
 \code{zar_roll}: places of the weights, from 1 on, by the fewest coin flips.
 

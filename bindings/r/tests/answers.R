@@ -34,6 +34,7 @@ stopifnot(refused(zar_audit(two_thirds, 21)) == "a number is out of its range")
 stopifnot(identical(zar_cost(die, attempts = 1, rounds = 1), data.frame(exact = "11/4", bits = 2.75)))
 stopifnot(identical(zar_cost(die)$exact, "22/3"), refused(zar_cost(die, rounds = 1)) == "attempts and rounds are both to be given, or no limit at all")
 stopifnot(identical(zar_cost("x ~ uniform(2); observe false; return x;")$bits, Inf))
+stopifnot(identical(zar_rounds(die)$exact, "2/1"), identical(zar_rounds("observe false; return 0;")$rounds, Inf))
 
 # The runs on streams, counted and sought.
 ones <- which(whole == 1) - 1

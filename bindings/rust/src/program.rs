@@ -76,7 +76,14 @@ impl Program {
         Ok((bits != "unbounded").then(|| fraction(bits)))
     }
 
-    /// How many it reads under these limits. `zar` takes 30 turns. Refused as `mass`.
+    /// How many rounds a run begins on average where nothing is limited, or `None` where there is no bound. Refused as `exact`.
+    pub fn rounds_in_the_limit(&self) -> Result<Option<Fraction>, Error> {
+        let line = lines(&self.text, &Ask::RoundsInTheLimit)?;
+        let rounds = line.trim_start_matches("rounds ").trim_end();
+        Ok((rounds != "unbounded").then(|| fraction(rounds)))
+    }
+
+    /// How many bits it reads under these limits. `zar` takes 30 turns. Refused as `mass`.
     pub fn cost(&self, turns: u64, attempts: u64, rounds: u64) -> Result<Fraction, Error> {
         let line = lines(&self.text, &Ask::Cost(turns, attempts, rounds))?;
         Ok(fraction(line.trim_start_matches("bits ").trim_end()))

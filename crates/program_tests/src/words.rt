@@ -53,6 +53,10 @@ const WRONG: [(&'static [&'static str], u32); 76] = [
     (&["cost", "p", "--attempts", "1"], 4),
     (&["cost", "p", "--turns", "1", "--rounds", "1"], 6),
     (&["cost", "p", "--rounds", "1", "--turns", "-2"], 5),
+    (&["cost", "p", "--how-long", "1"], 3),
+    (&["cost", "p", "--how-long", "--turns", "1"], 3),
+    (&["cost", "p", "--attempts", "1", "--how-long"], 4),
+    (&["mass", "p", "--how-long"], 2),
     (&["sample", "p", "--stream", "1"], 4),
     (&["sample", "p", "--seed", "1", "--depth", "2"], 4),
     (&["mass", "p", "--turns", "-1"], 3),
@@ -301,6 +305,10 @@ fn reads_the_numbers_of_counts(rt: HostRuntime) -> Result<(), Fail> {
     match read(rt.alloc(), &["cost", "p"])? {
         Ok(Command::Checked(_, Work::Cost(None, _))) => (),
         _ => panic!(rt; "no cost without limits"),
+    }
+    match read(rt.alloc(), &["cost", "p", "--how-long"])? {
+        Ok(Command::Checked(_, Work::HowLong(_))) => (),
+        _ => panic!(rt; "not how long"),
     }
     match &read(rt.alloc(), &["posterior", "p"])? {
         Ok(Command::Checked(program, Work::Posterior(turns, _))) => {

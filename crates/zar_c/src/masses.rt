@@ -10,6 +10,7 @@ ghost use Rattle.mass_lines.specs.BoundLines.{AreBoundLines};
 ghost use Rattle.mass_lines.specs.EnclosedLines.{AreEnclosedLines};
 ghost use Rattle.mass_lines.specs.ExactLines.{AreExactLines};
 ghost use Rattle.mass_lines.specs.ExpectedLines.{IsExpectedLine};
+ghost use Rattle.mass_lines.specs.HowLongLines.{IsRoundsLine};
 ghost use Rattle.mass_lines.specs.MassLines.{AreMassLines};
 ghost use Rattle.mass_lines.specs.Reasons.{WhyNoBits, WhyNoBounds, WhyNoMasses, WhyNotEnclosed, WhyNotExact, WhyNotExpected};
 ghost use Rattle.zar_c.specs.Answered.{IsReply, NoNumbers};
@@ -19,7 +20,7 @@ use crate::asking::is_in_range;
 use crate::said::{ZarSaid, said, written};
 use crate::statuses::NUMBERS_REFUSED;
 use crate::weighing::{
-    bits_of, bounds_of, can_weigh, enclosed_of, exact_of, expected_of, limit, masses_of,
+    bits_of, bounds_of, can_weigh, enclosed_of, exact_of, expected_of, limit, masses_of, rounds_of,
 };
 use gcl_core::Limits;
 use gcl_core::rules::MOST_LIMIT;
@@ -143,6 +144,18 @@ pub extern "C" fn zar_cost_in_the_limit(alloc: Global, text: &[u8], lines: &mut 
         (λ p. IsExpectedLine p 0) WhyNotExpected lines.old lines.new result }
 {
     match expected_of(alloc, text) {
+        Ok(told) => written(told.bytes(), lines),
+        Err(said) => said,
+    }
+}
+
+/// The same of the rounds that a run of the program begins where nothing is limited, or of there being no bound.
+#[unsafe(no_mangle)]
+pub extern "C" fn zar_rounds_in_the_limit(alloc: Global, text: &[u8], lines: &mut [u8]) -> ZarSaid
+    ensures { IsReply (Spells text.now) (SpellsNone text.now) NoNumbers
+        (λ p. IsRoundsLine p 0) WhyNotExpected lines.old lines.new result }
+{
+    match rounds_of(alloc, text) {
         Ok(told) => written(told.bytes(), lines),
         Err(said) => said,
     }

@@ -3,8 +3,8 @@
 use crate::{
     DONE, MASS_REFUSED, NUMBERS_REFUSED, TEXT_REFUSED, ZarFound, ZarLimits, ZarRan, ZarRollLimits,
     zar_audit, zar_check, zar_code, zar_cost, zar_cost_in_the_limit, zar_draws, zar_draws_in_a_row,
-    zar_enclose, zar_explain, zar_hunt, zar_mass, zar_posterior, zar_roll, zar_run, zar_show,
-    zar_tally, zar_version,
+    zar_enclose, zar_explain, zar_hunt, zar_mass, zar_posterior, zar_roll, zar_rounds_in_the_limit,
+    zar_run, zar_show, zar_tally, zar_version,
 };
 use std::test::Fail;
 
@@ -241,6 +241,13 @@ fn tells_lines(rt: HostRuntime) -> Result<(), Fail> {
     );
     assert_eq!(rt; said.length, 15);
     assert_eq!(rt; lines[..15], *b"bits unbounded\n".as_slice());
+    let said = zar_rounds_in_the_limit(
+        rt.alloc(),
+        b"x ~ uniform(4); observe x < 3; return x;",
+        &mut lines,
+    );
+    assert_eq!(rt; said.length, 11);
+    assert_eq!(rt; lines[..11], *b"rounds 4/3\n".as_slice());
     Ok(())
 }
 

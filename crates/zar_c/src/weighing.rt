@@ -11,6 +11,7 @@ ghost use Rattle.mass_lines.specs.BoundLines.{AreBoundLines};
 ghost use Rattle.mass_lines.specs.EnclosedLines.{AreEnclosedLines};
 ghost use Rattle.mass_lines.specs.ExactLines.{AreExactLines};
 ghost use Rattle.mass_lines.specs.ExpectedLines.{IsExpectedLine};
+ghost use Rattle.mass_lines.specs.HowLongLines.{IsRoundsLine};
 ghost use Rattle.mass_lines.specs.MassLines.{AreMassLines};
 ghost use Rattle.mass_lines.specs.Reasons.{WhyNoBits, WhyNoBounds, WhyNoMasses, WhyNotEnclosed, WhyNotExact, WhyNotExpected};
 ghost use Rattle.zar_c.specs.Masses.{CanWeigh, limit_of};
@@ -25,6 +26,7 @@ use gcl_print::Text;
 use gcl_text::check_text;
 use mass_lines::{
     Reason, bits_text, bounds_text, enclosed_text, exact_text, expected_text, masses_text,
+    rounds_text,
 };
 use report_text::Decimals;
 use std::alloc::Global;
@@ -184,6 +186,23 @@ pub(crate) fn expected_of(alloc: Global, text: &[u8]) -> Result<Text, ZarSaid>
         Err(refusal) => return Err(refused(refusal)),
     };
     match expected_text(alloc, &program, Decimals::none()) {
+        Ok(lines) => Ok(lines),
+        Err(why) => Err(told(why)),
+    }
+}
+
+// The line of the rounds that they begin where nothing is limited.
+pub(crate) fn rounds_of(alloc: Global, text: &[u8]) -> Result<Text, ZarSaid>
+    ensures lines { IfOk result (λ lines. (p : SourceProgram) → Spells text.now p → IsRoundsLine p 0 lines) }
+    ensures there { IfOk result (λ _. (p : SourceProgram) × Spells text.now p) }
+    ensures refused { IfErr result (IsRefusal (Spells text.now) (SpellsNone text.now) WhyNotExpected) }
+{
+    one_reading();
+    let program = match check_text(alloc, text) {
+        Ok(program) => program,
+        Err(refusal) => return Err(refused(refusal)),
+    };
+    match rounds_text(alloc, &program, Decimals::none()) {
         Ok(lines) => Ok(lines),
         Err(why) => Err(told(why)),
     }

@@ -25,7 +25,7 @@ use Rattle.zar_cli.specs.declared.command.Command.{Command}
 use Rattle.zar_cli.specs.declared.command.Command.TheVariants.{Checked, Show, Gen, Fast, Roll, Help}
 use Rattle.zar_cli.specs.declared.command.Source.TheVariants.{File, Stream}
 use Rattle.zar_cli.specs.declared.command.Work.{Work}
-use Rattle.zar_cli.specs.declared.command.Work.TheVariants.{Sample, Mass, Cost, Posterior, Exact, Enclose, Audit, Tally, Runs, Hunt, Check, Code, Forgetful}
+use Rattle.zar_cli.specs.declared.command.Work.TheVariants.{Sample, Mass, Cost, HowLong, Posterior, Exact, Enclose, Audit, Tally, Runs, Hunt, Check, Code, Forgetful}
 use Rattle.zar_cli.specs.declared.said.Said.{Said}
 use Rattle.zar_cli.specs.declared.said.Said.TheVariants.{Answered, Rolled}
 use Rattle.zar_cli.specs.Counts.{ShowsText, ShowsBehind}
@@ -162,6 +162,7 @@ module _ (e : Refusal) where
   work_codes file p (Mass turns attempts rounds d) is = lines_codes mass_reason _ mass_codes _ e is
   work_codes file p (Cost (Some limits) d) is = lines_codes cost_reason _ cost_codes _ e is
   work_codes file p (Cost None d) is = lines_codes expected_reason _ expected_codes _ e is
+  work_codes file p (HowLong d) is = lines_codes expected_reason _ expected_codes _ e is
   work_codes file p (Posterior turns d) is = lines_codes mass_reason _ mass_codes _ e is
   work_codes file p (Exact d) is = lines_codes exact_reason _ exact_codes _ e is
   work_codes file p (Enclose turns attempts rounds all_turns d) is = lines_codes enclose_reason _ enclose_codes _ e is

@@ -8,6 +8,7 @@ use Rattle.zar_cli.specs.declared.command.Command.{Command}
 use Rattle.zar_cli.specs.declared.command.Command.TheVariants.{Checked, Show, Gen, Fast, Roll, Help}
 use Rattle.zar_cli.specs.declared.command.Source.{Source}
 use Rattle.zar_cli.specs.declared.command.Source.TheVariants.{File, Stream}
+use Rattle.zar_cli.specs.declared.command.Work.{Work}
 use Rattle.zar_cli.specs.declared.command.Work.TheVariants.{Forgetful}
 use Rattle.zar_cli.specs.Needs.{names_in, takes_memory}
 use Rattle.zar_cli.specs.Forms.{CallWord}
@@ -47,6 +48,11 @@ pub keeps_bits : (labels flips : ℕ) (source : Option Source) (d : ℕ) → Nam
 keeps_bits labels flips (Some (File bits)) d h = omega arith
 keeps_bits labels flips (Some (Stream seed stream budget)) d h = absurd h
 keeps_bits labels flips None d h = absurd h
+
+-- what is worked out of a program keeps the name of its file, whichever of two it is
+pub keeps_program : (first : Bool) (program : CallWord) (work other : Work) → KeepsWords (if first then Checked program work else Checked program other)
+keeps_program true program work other = omega arith
+keeps_program false program work other = omega arith
 
 -- a text that is shown keeps the name of its file, as it is written and as its forgetful program
 pub keeps_file : (forgetful : Bool) (program : CallWord) → KeepsWords (if forgetful then Checked program Forgetful else Show program)

@@ -14,7 +14,7 @@ use Rattle.zar_cli.specs.declared.command.Source.{Source}
 use Rattle.zar_cli.specs.declared.command.Source.TheVariants as source
 use Rattle.zar_cli.specs.declared.settings.Form.{Form}
 use Rattle.zar_cli.specs.declared.settings.Form.TheVariants as form
-use Rattle.zar_cli.specs.declared.settings.TheConstants.{BITS, SEED, STREAM, BUDGET, FROM, TO, WORKERS, TURNS, ATTEMPTS, ROUNDS, WANT, USUAL_LIMIT, USUAL_MASS_TURNS, USUAL_BUDGET, USUAL_WORKERS}
+use Rattle.zar_cli.specs.declared.settings.TheConstants.{BITS, SEED, STREAM, BUDGET, FROM, TO, WORKERS, TURNS, ATTEMPTS, ROUNDS, HOW_LONG, WANT, USUAL_LIMIT, USUAL_MASS_TURNS, USUAL_BUDGET, USUAL_WORKERS}
 use Rattle.gcl_core.specs.text.Numbers.{number_in}
 use Rattle.zar_cli.specs.Forms.{CallWord, is_name, key_named}
 
@@ -34,9 +34,11 @@ fits form.Wanted word = is_some (key_named word)
 fits form.Weights word = is_some (weights_in word)
 fits form.Alone word = false
 
--- bits of a file and bits of a stream exclude each other
+-- bits of a file and bits of a stream exclude each other, and so do how long a run takes and a limit
 abbrev pub excludes : CallWord → CallWord → Bool
-excludes a b = bytes_eq BITS.0.now a && (bytes_eq SEED.0.now b || bytes_eq STREAM.0.now b || bytes_eq BUDGET.0.now b)
+excludes a b =
+    (bytes_eq BITS.0.now a && (bytes_eq SEED.0.now b || bytes_eq STREAM.0.now b || bytes_eq BUDGET.0.now b))
+    || (bytes_eq HOW_LONG.0.now a && (bytes_eq TURNS.0.now b || bytes_eq ATTEMPTS.0.now b || bytes_eq ROUNDS.0.now b))
 
 -- one option rules out the other, which may be the same
 abbrev pub bars : CallWord → CallWord → Bool

@@ -12,7 +12,7 @@ use Rattle.zar_cli.specs.declared.command.Command.TheVariants.{Checked, Show, Ge
 use Rattle.zar_cli.specs.declared.command.Source.{Source}
 use Rattle.zar_cli.specs.declared.command.Source.TheVariants.{File, Stream}
 use Rattle.zar_cli.specs.declared.command.Work.{Work}
-use Rattle.zar_cli.specs.declared.command.Work.TheVariants.{Sample, Mass, Cost, Posterior, Exact, Enclose, Audit, Tally, Runs, Hunt, Check, Code, Forgetful}
+use Rattle.zar_cli.specs.declared.command.Work.TheVariants.{Sample, Mass, Cost, HowLong, Posterior, Exact, Enclose, Audit, Tally, Runs, Hunt, Check, Code, Forgetful}
 use Rattle.zar_io.specs.declared.stream_bits.TheConstants.{MOST_BUDGET}
 use Rattle.audit_walk.specs.declared.auditing.TheConstants.{MOST_DEPTH}
 
@@ -24,6 +24,7 @@ abbrev pub WorkHasRange : Work → Type 0
 WorkHasRange (Sample source limits) = InRange limits × SourceHasRange source
 WorkHasRange (Mass turns attempts rounds d) = (turns ≤ MOST_LIMIT) × IfSome attempts IsLimit × IfSome rounds IsLimit
 WorkHasRange (Cost limits d) = IfSome limits InRange
+WorkHasRange (HowLong d) = Unit {0}
 WorkHasRange (Posterior turns d) = turns ≤ MOST_LIMIT
 WorkHasRange (Exact d) = Unit {0}
 WorkHasRange (Enclose turns attempts rounds all_turns d) =

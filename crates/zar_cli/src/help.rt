@@ -78,6 +78,11 @@ const ALL_TURNS: Piece = (
     None,
 );
 
+const HOW_LONG: Piece = (
+    "--how-long    with the rounds that it begins; without limits\n",
+    None,
+);
+
 const FORGETFUL: Piece = (
     "--forgetful   with x := 0; where x is read no more, as exact and enclose take the program\n",
     None,
@@ -239,11 +244,14 @@ pub const MASS: Page = (
 pub const COST: Page = (
     "zar cost FILE
     print how many bits a run reads on average where nothing is limited
+zar cost FILE --how-long
+    print how many rounds it begins, too
 zar cost FILE --attempts N --rounds N
     print how many under limits, of turns too
 
 ",
     &[
+        &[HOW_LONG],
         &[ATTEMPTS, REQUIRED, ROUNDS, REQUIRED],
         MASS_TURNS,
         DECIMALS,

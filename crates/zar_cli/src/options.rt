@@ -12,8 +12,8 @@ ghost use Rattle.zar_cli.specs.inner.OptionsView.{options_of, IsIn};
 
 use crate::keys::key_named;
 use crate::settings::{
-    ATTEMPTS, BITS, BUDGET, FROM, Form, ROUNDS, SEED, STREAM, Setting, TO, TURNS, USUAL_BUDGET,
-    USUAL_LIMIT, USUAL_MASS_TURNS, USUAL_WORKERS, WANT, WORKERS,
+    ATTEMPTS, BITS, BUDGET, FROM, Form, HOW_LONG, ROUNDS, SEED, STREAM, Setting, TO, TURNS,
+    USUAL_BUDGET, USUAL_LIMIT, USUAL_MASS_TURNS, USUAL_WORKERS, WANT, WORKERS,
 };
 use gcl_core::{Limits, TallyKey, number_in, value_named};
 use stream_runs::{MOST_STREAMS, SeedRange};
@@ -44,11 +44,12 @@ fn is_alone(form: Option<Form>) -> bool
     matches!(form, Some(Form::Alone))
 }
 
-// Bits of a file and bits of a stream exclude each other.
+// Bits of a file and bits of a stream exclude each other, and so do how long a run takes and a limit.
 fn excludes(name: &str, other: &str) -> bool
     ensures { result ≡ excludes name.now other.now }
 {
-    BITS.0 == name && (SEED.0 == other || STREAM.0 == other || BUDGET.0 == other)
+    (BITS.0 == name && (SEED.0 == other || STREAM.0 == other || BUDGET.0 == other))
+        || (HOW_LONG.0 == name && (TURNS.0 == other || ATTEMPTS.0 == other || ROUNDS.0 == other))
 }
 
 // One option rules out the other, which may be the same.

@@ -84,6 +84,9 @@ pub const WANT: Setting = ("--want", Form::Wanted);
 
 pub const ALL_TURNS: Setting = ("--all-turns", Form::Alone);
 
+/// It is said how long a run takes, too.
+pub const HOW_LONG: Setting = ("--how-long", Form::Alone);
+
 /// So many decimals stand behind each fraction.
 pub const DECIMALS: Setting = ("--decimals", Form::Number(1, MOST_DECIMALS as u64));
 
@@ -99,6 +102,8 @@ pub const EXPLAIN: Setting = ("--explain", Form::Alone);
 const SAMPLE: &[Setting] = &[BITS, SEED, STREAM, BUDGET, TURNS, ATTEMPTS, ROUNDS, EXPLAIN];
 
 const LIMITS: &[Setting] = &[TURNS, ATTEMPTS, ROUNDS, DECIMALS, EXPLAIN];
+
+const COST: &[Setting] = &[TURNS, ATTEMPTS, ROUNDS, HOW_LONG, DECIMALS, EXPLAIN];
 
 const ONE_LIMIT: &[Setting] = &[TURNS, DECIMALS, EXPLAIN];
 
@@ -134,7 +139,7 @@ pub type Row = (Verb, Form, &'static [Setting], &'static [Setting]);
 pub const VERBS: [(&str, Row); 16] = [
     ("sample", (Verb::Sample, Form::Name, SAMPLE, &[])),
     ("mass", (Verb::Mass, Form::Name, LIMITS, &[])),
-    ("cost", (Verb::Cost, Form::Name, LIMITS, &[])),
+    ("cost", (Verb::Cost, Form::Name, COST, &[])),
     ("posterior", (Verb::Posterior, Form::Name, ONE_LIMIT, &[])),
     ("exact", (Verb::Exact, Form::Name, EXACT, &[])),
     ("enclose", (Verb::Enclose, Form::Name, ENCLOSE, &[])),

@@ -1,17 +1,17 @@
-// The masses of a program, and the bits that a run of it reads on average.
+// The masses of a program, the bits that a run of it reads on average, and how long it takes.
 
 ghost use Rattle.std.specs.Prelude.{◌≤◌, None, Some, IfSome};
 ghost use Rattle.gcl_core.specs.declared.rules.TheConstants.{MOST_LIMIT};
 ghost use Rattle.gcl_core.specs.meaning.LimitRange.{InRange};
 ghost use Rattle.gcl_core.specs.meaning.Views.{source_of};
 ghost use Rattle.mass_fold.specs.Refused.{IsLimit};
-ghost use Rattle.zar_cli.specs.declared.command.Work.TheVariants.{Cost, Mass};
+ghost use Rattle.zar_cli.specs.declared.command.Work.TheVariants.{Cost, HowLong, Mass};
 ghost use Rattle.zar_cli.specs.inner.Works.{WorksAlone};
 
 use crate::refusing::refusal_by;
 use crate::said::Said;
 use gcl_core::{Checked, Limits};
-use mass_lines::{bits_text, expected_text, masses_text};
+use mass_lines::{bits_text, expected_text, how_long_text, masses_text};
 use report_text::{Decimals, Refusal};
 use std::alloc::Global;
 
@@ -74,5 +74,15 @@ pub fn bits_of(
     match limits {
         Some(limits) => bits_under(alloc, program, limits, decimals),
         None => bits_expected(alloc, program, decimals),
+    }
+}
+
+/// The lines of how long a run of a program takes where nothing is limited.
+pub fn how_long_of(alloc: Global, program: &Checked, decimals: Decimals) -> Result<Said, Refusal>
+    ensures { WorksAlone (HowLong decimals) (source_of program.now) result }
+{
+    match how_long_text(alloc, program, decimals) {
+        Ok(lines) => Ok(Said::Shown(lines)),
+        Err(reason) => Err(refusal_by(reason)),
     }
 }

@@ -19,7 +19,7 @@ use crate::naming::part_name;
 use crate::posterior::bounds_of;
 use crate::said::Said;
 use crate::sampling::run_of;
-use crate::weighing::{bits_of, masses_of};
+use crate::weighing::{bits_of, how_long_of, masses_of};
 use forgetting::forgetful;
 use gcl_core::{Checked, Limits, count_statements};
 use gcl_print::{Text, print};
@@ -96,6 +96,7 @@ pub fn work_on<R: Threads + Sync, F: Files, G: Gate>(
             masses_of(alloc, &program, *turns, *attempts, *rounds, *decimals)
         }
         Work::Cost(limits, decimals) => bits_of(alloc, &program, limits, *decimals),
+        Work::HowLong(decimals) => how_long_of(alloc, &program, *decimals),
         Work::Posterior(turns, decimals) => bounds_of(alloc, &program, *turns, *decimals),
         Work::Exact(decimals) => exact_masses_of(alloc, &program, *decimals),
         Work::Enclose(turns, attempts, rounds, all_turns, decimals) => enclosed_of(

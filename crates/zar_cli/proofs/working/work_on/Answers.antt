@@ -11,6 +11,9 @@ returns-in-Mass g c = search (rules, works_alone)
 pub returns-in-Cost : goal.returns-in-Cost
 returns-in-Cost g c = search (rules, works_alone)
 
+pub returns-in-HowLong : goal.returns-in-HowLong
+returns-in-HowLong g c = search (rules, works_alone)
+
 pub returns-in-Posterior : goal.returns-in-Posterior
 returns-in-Posterior g c = search (rules, works_alone)
 
