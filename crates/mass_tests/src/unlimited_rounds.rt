@@ -2,7 +2,7 @@
 
 use crate::programs::program;
 use crate::rows::{Pair, is};
-use bits_fold::{Rounds, rounds_in_the_limit};
+use bits_fold::{BitsError, Rounds, rounds_in_the_limit};
 use std::alloc::Global;
 use std::test::Fail;
 
@@ -76,23 +76,21 @@ const CASES: [Case; 8] = [
     },
 ];
 
+fn rounds_of(alloc: Global, text: &str) -> Option<Result<Rounds, BitsError>> {
+    Some(rounds_in_the_limit(alloc, &program(alloc, text)?))
+}
+
 fn has_rounds(alloc: Global, text: &str, want: Pair) -> bool {
-    match program(alloc, text) {
-        Some(p) => match rounds_in_the_limit(alloc, &p) {
-            Ok(Rounds::Expected(rounds)) => is(&rounds, want),
-            _ => false,
-        },
-        None => false,
+    match &rounds_of(alloc, text) {
+        Some(Ok(Rounds::Expected(rounds))) => is(rounds, want),
+        _ => false,
     }
 }
 
 fn has_no_bound(alloc: Global, text: &str) -> bool {
-    match program(alloc, text) {
-        Some(p) => match rounds_in_the_limit(alloc, &p) {
-            Ok(Rounds::Unbounded) => true,
-            _ => false,
-        },
-        None => false,
+    match rounds_of(alloc, text) {
+        Some(Ok(Rounds::Unbounded)) => true,
+        _ => false,
     }
 }
 
