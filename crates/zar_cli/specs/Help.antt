@@ -4,6 +4,7 @@ use Rattle.zar_cli.specs.declared.explained.TheConstants.{REFUSALS}
 use Rattle.zar_cli.specs.declared.help.TheConstants.{VERSION, COMMANDS, SAMPLE, MASS, COST, POSTERIOR, EXACT, ENCLOSE, AUDIT, TALLY, RUNS, HUNT, CHECK, SHOW, CODE, GEN, FAST, ROLL}
 use Rattle.zar_cli.specs.declared.help.Topic.{Topic}
 use Rattle.zar_cli.specs.declared.help.Topic.TheVariants.{Everything, One, Refused, Version}
+use Rattle.zar_cli.specs.declared.settings.Verb.{Verb}
 use Rattle.zar_cli.specs.declared.settings.Verb.TheVariants as verb
 
 -- the words, and the number behind them where there is one
@@ -22,24 +23,28 @@ page_text (words, parts) = words.now ++ flat_map (λ part. flat_map (λ piece. p
 unfoldable pub refusal_page : ℕ → List ℕ
 refusal_page code = unwrap_or (slice_get (map page_text REFUSALS) code) []
 
+-- the page of a command
+abbrev pub command_page : Verb → Page
+command_page verb.Sample = SAMPLE
+command_page verb.Mass = MASS
+command_page verb.Cost = COST
+command_page verb.Posterior = POSTERIOR
+command_page verb.Exact = EXACT
+command_page verb.Enclose = ENCLOSE
+command_page verb.Audit = AUDIT
+command_page verb.Tally = TALLY
+command_page verb.Runs = RUNS
+command_page verb.Hunt = HUNT
+command_page verb.Check = CHECK
+command_page verb.Show = SHOW
+command_page verb.Code = CODE
+command_page verb.Gen = GEN
+command_page verb.Fast = FAST
+command_page verb.Roll = ROLL
+
 abbrev pub page_of : Topic → Page
 page_of Everything = COMMANDS
-page_of (One verb.Sample) = SAMPLE
-page_of (One verb.Mass) = MASS
-page_of (One verb.Cost) = COST
-page_of (One verb.Posterior) = POSTERIOR
-page_of (One verb.Exact) = EXACT
-page_of (One verb.Enclose) = ENCLOSE
-page_of (One verb.Audit) = AUDIT
-page_of (One verb.Tally) = TALLY
-page_of (One verb.Runs) = RUNS
-page_of (One verb.Hunt) = HUNT
-page_of (One verb.Check) = CHECK
-page_of (One verb.Show) = SHOW
-page_of (One verb.Code) = CODE
-page_of (One verb.Gen) = GEN
-page_of (One verb.Fast) = FAST
-page_of (One verb.Roll) = ROLL
+page_of (One v) = command_page v
 page_of (Refused code) = (record { now = refusal_page code }, record { now = [] })
 page_of Version = VERSION
 

@@ -1,7 +1,7 @@
 // What `help` and `--version` print. A number in brackets stands where the option is not given.
 
 ghost use Rattle.std.specs.Prelude.{◌≡◌, ◌<◌, ◌++◌, [], map, flat_map, unwrap_or, slice_get};
-ghost use Rattle.zar_cli.specs.Help.{piece_text, refusal_page, topic_text};
+ghost use Rattle.zar_cli.specs.Help.{piece_text, page_text, refusal_page, command_page, topic_text};
 ghost use Rattle.zar_cli.specs.Words.{code_behind, code_named, is_one_of, topic_named};
 ghost use Rattle.zar_cli.specs.declared.settings.TheConstants.{HELP};
 
@@ -456,6 +456,31 @@ pub fn topic_named(word: &str) -> Option<Topic>
     }
 }
 
+// The page of a command.
+fn command_page(verb: Verb) -> Page
+    ensures { result.0.now ++ flat_map (λ part. flat_map (λ piece. piece_text piece.0.now piece.1) part.now) result.1.now
+        ≡ page_text (command_page verb) }
+{
+    match verb {
+        Verb::Sample => SAMPLE,
+        Verb::Mass => MASS,
+        Verb::Cost => COST,
+        Verb::Posterior => POSTERIOR,
+        Verb::Exact => EXACT,
+        Verb::Enclose => ENCLOSE,
+        Verb::Audit => AUDIT,
+        Verb::Tally => TALLY,
+        Verb::Runs => RUNS,
+        Verb::Hunt => HUNT,
+        Verb::Check => CHECK,
+        Verb::Show => SHOW,
+        Verb::Code => CODE,
+        Verb::Gen => GEN,
+        Verb::Fast => FAST,
+        Verb::Roll => ROLL,
+    }
+}
+
 /// The page that is asked for.
 pub fn page_of(topic: Topic) -> Page
     ensures { result.0.now ++ flat_map (λ part. flat_map (λ piece. piece_text piece.0.now piece.1) part.now) result.1.now
@@ -463,22 +488,7 @@ pub fn page_of(topic: Topic) -> Page
 {
     match topic {
         Topic::Everything => COMMANDS,
-        Topic::One(Verb::Sample) => SAMPLE,
-        Topic::One(Verb::Mass) => MASS,
-        Topic::One(Verb::Cost) => COST,
-        Topic::One(Verb::Posterior) => POSTERIOR,
-        Topic::One(Verb::Exact) => EXACT,
-        Topic::One(Verb::Enclose) => ENCLOSE,
-        Topic::One(Verb::Audit) => AUDIT,
-        Topic::One(Verb::Tally) => TALLY,
-        Topic::One(Verb::Runs) => RUNS,
-        Topic::One(Verb::Hunt) => HUNT,
-        Topic::One(Verb::Check) => CHECK,
-        Topic::One(Verb::Show) => SHOW,
-        Topic::One(Verb::Code) => CODE,
-        Topic::One(Verb::Gen) => GEN,
-        Topic::One(Verb::Fast) => FAST,
-        Topic::One(Verb::Roll) => ROLL,
+        Topic::One(verb) => command_page(verb),
         Topic::Refused(code) => refusal_page(code),
         Topic::Version => VERSION,
     }
