@@ -9,7 +9,8 @@ use Rattle.gcl_core.specs.meaning.Value.{State}
 use Rattle.gcl_core.specs.weighing.Fractions.{Fraction, plus, times}
 use Rattle.gcl_core.specs.weighing.WeightedEnds.{Weighted, scaled}
 use Rattle.numbers.specs.Fraction.{lowest}
-use Rattle.numbers.proofs.Divisors.{product_pos, lowest_in_lowest, lowest_equal}
+use Rattle.numbers.proofs.Divisors.{product_pos, lowest_in_lowest, lowest_equal, lowest_from}
+use Rattle.std.proofs.lemmas.Nat.Gcd.{dvd_refl}
 use Rattle.table_flow.proofs.Denominators.{weights_whole}
 use Rattle.table_flow.proofs.Positive.{weights_positive}
 use Rattle.table_flow.specs.Width.{weights}
@@ -106,6 +107,9 @@ module _ (w : Fraction) (some : 1 ≤ w.1) where
 
 pub adds_from : (w : Fraction) (G E E' F : Ended) → E' ≡ E → AddsTimes w G E' F → AddsTimes w G E F
 adds_from w G E E' F p a = subst (λ E. AddsTimes w G E F) p a
+
+pub one_is : (f : Fraction) (n d : ℕ) → f ≡ lowest (n, d) → n ≡ 1 → d ≡ 1 → f ≡ (1, 1)
+one_is f n d e p q = e ∙ ap (λ n. lowest (n, d)) p ∙ ap (λ d. lowest (1, d)) q ∙ lowest_from 1 1 1 (omega arith) (omega arith) (dvd_refl 1, dvd_refl 1, λ d p q. p)
 
 -- ---- one state more
 pub put_alike : (es fs : Entries) (s : State) (f : Fraction) → PutGives es fs s f → AreAbove es → 0 < f.0 → 0 < f.1 → AreAbove fs × Alike (as_table fs) ((f, s) ∷ as_table es)

@@ -4,6 +4,7 @@ use exact_fold::SettleError;
 use mass_fold::MassError;
 use std::alloc::{AllocError, AllocFailed};
 use wide_numbers::WideError;
+use wide_visits::VisitsError;
 
 /// Why a block is not settled in wide fractions.
 #[derive(Clone, Copy, PartialEq, Eq, Debug)]
@@ -40,6 +41,16 @@ impl From<WideError> for WideFoldError {
         match error {
             WideError::TooWide => WideFoldError::TooWide,
             WideError::OutOfMemory => WideFoldError::OutOfMemory,
+        }
+    }
+}
+
+impl From<VisitsError> for WideFoldError {
+    fn from(error: VisitsError) -> Self {
+        match error {
+            VisitsError::TooWide => WideFoldError::TooWide,
+            VisitsError::OutOfMemory => WideFoldError::OutOfMemory,
+            VisitsError::NotLeft => WideFoldError::NotSettled,
         }
     }
 }

@@ -1,8 +1,9 @@
 // A table of states, each once, with its weight in a wide fraction.
 
-ghost use Rattle.std.specs.Prelude.{◌≡◌, [], length, All, OnOk, OnErr, IfOk};
+ghost use Rattle.std.specs.Prelude.{◌≡◌, [], ◌∷◌, length, All, OnOk, OnErr, IfOk};
 ghost use Rattle.std.specs.BTreeMap.{keys};
 ghost use Rattle.std.proofs.Props.{props};
+ghost use Rattle.gcl_core.specs.meaning.Outcomes.{zeros};
 ghost use Rattle.mass_fold.specs.inner.Amounts.{PutGives, order};
 ghost use Rattle.wide_fold.specs.inner.Adding.{SumsAt, IsAdded};
 
@@ -11,7 +12,7 @@ use crate::widened::sum;
 use mass_fold::State;
 use std::alloc::Global;
 use std::collections::BTreeMap;
-use wide_numbers::WideFraction;
+use wide_numbers::{Wide, WideFraction};
 
 /// States of `vars` variables, each once, with its weight.
 #[derive(Drop)]
@@ -21,6 +22,14 @@ pub struct WideTable {
     /// The weight of each state.
     pub states: BTreeMap<State, WideFraction>,
     ghost sized: { All (λ s. length s ≡ vars) (keys states) } by { Prim.hlevel props },
+}
+
+fn one(alloc: Global) -> Result<WideFraction, WideFoldError>
+    ensures { IfOk result (λ f. f ≡ (1, 1)) }
+{
+    let num = Wide::of(alloc, 1)?;
+    let den = Wide::of(alloc, 1)?;
+    Ok(WideFraction::of(alloc, &num, &den)?)
 }
 
 // What the state weighs once f is added.
@@ -63,6 +72,18 @@ impl WideTable {
             vars,
             states: BTreeMap::new(alloc),
         }
+    }
+
+    /// One state, of `vars` variables that are 0, with the weight 1.
+    pub fn start(alloc: Global, vars: u32) -> Result<WideTable, WideFoldError>
+        ensures one { IfOk result (λ t. t.states.entries ≡ (zeros vars, (1, 1)) ∷ []) }
+        ensures vars { IfOk result (λ t. t.vars ≡ vars) }
+    {
+        let mut states = BTreeMap::new(alloc);
+        let zeros = State::zeros(alloc, vars)?;
+        let weight = one(alloc)?;
+        states.insert(zeros, weight)?;
+        Ok(WideTable { vars, states })
     }
 
     /// Adds the weight of a state.
