@@ -17,7 +17,7 @@ fn read(alloc: Global, call: &[&str]) -> Result<Result<Command, WordsError>, All
 }
 
 // Calls, and the place of the first wrong word of each.
-const WRONG: [(&'static [&'static str], u32); 76] = [
+const WRONG: [(&'static [&'static str], u32); 80] = [
     (&[], 0),
     (&["sampel", "x"], 0),
     (&["Sample", "p", "--bits", "b"], 0),
