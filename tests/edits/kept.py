@@ -9,7 +9,7 @@ import subprocess
 from edits import CRATES, source
 
 PLACE = pathlib.Path(os.environ.get("XDG_CACHE_HOME") or pathlib.Path.home() / ".cache") / "zar-edits"
-RULES = [pathlib.Path(__file__).with_name(it) for it in ("edits.py", "trying.py")]
+RULES = [pathlib.Path(__file__).with_name(it) for it in ("edits.py", "grouping.py", "trying.py")]
 
 
 @functools.cache
