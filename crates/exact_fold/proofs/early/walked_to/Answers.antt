@@ -8,7 +8,7 @@ use Rattle.exact_fold.proofs.early.walked_to.Goals as goal
 
 pub drawn-requires : goal.drawn-requires
 drawn-requires c =
-    let m = c.args.table.now.vars in
-    let q = ap statement_of c.in-Uniform.is ∙ uniform_view c.in-Uniform.field-0 c.in-Uniform.e in
-    let there = subst (λ s. StatementBelow m (statement_of s)) (sym c.index.ensures) (below_at m c.args.block.now.stmts.items c.args.from c.index.result.now c.requires.inside c.requires.below) in
-    (below_as m _ _ q there).1
+    let variables = c.args.table.now.vars in
+    let form = ap statement_of c.in-Uniform.is ∙ uniform_view c.in-Uniform.field-0 c.in-Uniform.e in
+    let there = subst (λ s. StatementBelow variables (statement_of s)) (sym c.index.ensures) (below_at variables c.args.block.now.stmts.items c.args.from c.index.result.now c.requires.inside c.requires.below) in
+    (below_as variables _ _ form there).1

@@ -21,14 +21,14 @@ returns-clause-masses c = subst (λ (p : SourceProgram). IfOk c.exact_as_written
 
 pub returns-clause-limits : goal.returns-clause-limits
 returns-clause-limits c =
-    let p = source_of c.args.program.now in
+    let program = source_of c.args.program.now in
     if_ok c.exact_as_written.result
-    (λ e h. limits_hold p (c.forgetting_changes_no_meaning.ensures p) e.rows e.endless (subst (λ (q : SourceProgram). IsExactInTheLimit q e.rows e.endless) c.in_ok-forgetful_program.ensures h))
+    (λ e h. limits_hold program (c.forgetting_changes_no_meaning.ensures program) e.rows e.endless (subst (λ (q : SourceProgram). IsExactInTheLimit q e.rows e.endless) c.in_ok-forgetful_program.ensures h))
     c.exact_as_written.ensures.limits
 
 pub returns-clause-refused : goal.returns-clause-refused
 returns-clause-refused c =
-    let p = source_of c.args.program.now in
+    let program = source_of c.args.program.now in
     if_err c.exact_as_written.result
-    (λ e h. refused_holds p (c.forgetting_changes_no_meaning.ensures p) e (subst (λ (q : SourceProgram). RefusedAsWritten q e) c.in_ok-forgetful_program.ensures h))
+    (λ e h. refused_holds program (c.forgetting_changes_no_meaning.ensures program) e (subst (λ (q : SourceProgram). RefusedAsWritten q e) c.in_ok-forgetful_program.ensures h))
     c.exact_as_written.ensures.refused

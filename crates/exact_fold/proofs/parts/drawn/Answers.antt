@@ -7,5 +7,5 @@ use Rattle.exact_fold.proofs.parts.drawn.Goals as goal
 
 pub bound-requires : goal.bound-requires
 bound-requires c =
-    let p : length c.in-Some.state.now ≡ c.args.table.now.vars = sized_at _ _ c.args.table.now.sized deref_pair _ _ _ _ _ _ c.into_iter-state-iterator.ensures.into_iter_gives.0 c.loop-state.yielded_by c.in-Some.is c.next.ensures.steps in
-    reads_at (expression_of c.args.e.now) _ _ (ap length c.values.ensures ∙ p) c.requires
+    let sized : length c.in-Some.state.now ≡ c.args.table.now.vars = sized_at _ _ c.args.table.now.sized deref_pair _ _ _ _ _ _ c.into_iter-state-iterator.ensures.into_iter_gives.0 c.loop-state.yielded_by c.in-Some.is c.next.ensures.steps in
+    reads_at (expression_of c.args.e.now) _ _ (ap length c.values.ensures ∙ sized) c.requires

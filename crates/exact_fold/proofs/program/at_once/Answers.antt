@@ -9,10 +9,10 @@ use Rattle.exact_fold.proofs.program.at_once.Goals as goal
 
 pub returns-in-Ok-clause-masses : goal.returns-in-Ok-clause-masses
 returns-in-Ok-clause-masses c =
-    let p = source_of c.args.program.now in
-    let r = c.in-Ok.ensures in
-    let suffice = free_suffices 1 p.body (no_loop p.body c.requires) (sure (zeros (length p.names))) in
-    ended_exact p c.is_kept.ensures.kept 1 (omega arith) suffice r.passes c.in-Ok.rows c.of.result r.rows c.of.ensures.lowest (omega (arith, c.of.ensures.equal))
+    let program = source_of c.args.program.now in
+    let answered = c.in-Ok.ensures in
+    let suffice = free_suffices 1 program.body (no_loop program.body c.requires) (sure (zeros (length program.names))) in
+    ended_exact program c.is_kept.ensures.kept 1 (omega arith) suffice answered.passes c.in-Ok.rows c.of.result answered.rows c.of.ensures.lowest (omega (arith, c.of.ensures.equal))
 
 pub returns-in-Ok-clause-limits : goal.returns-in-Ok-clause-limits
 returns-in-Ok-clause-limits c = is_exact_in_the_limit (source_of c.args.program.now) c.is_kept.ensures.kept c.in-Ok.rows c.of.result (returns-in-Ok-clause-masses c)

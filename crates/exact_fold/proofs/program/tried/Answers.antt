@@ -20,18 +20,18 @@ returns-in-Some-clause-refused c = c.requires (runs_on (c.in-Ok.ensures.rows.eac
 
 pub returns-in-None-clause-masses : goal.returns-in-None-clause-masses
 returns-in-None-clause-masses c =
-    let p = source_of c.args.program.now in
-    let r = c.in-Ok.ensures in
-    let x = outcome.Limit Turns in
-    let m = mass_of p TURNS_TRIED None None x in
-    let suffice = no_mass_suffices p c.is_kept.ensures.kept TURNS_TRIED (omega arith) (nothing m.0 (λ some. c.in-None.ensures.none (lowest m) (r.rows.all x some))) in
-    ended_exact p c.is_kept.ensures.kept TURNS_TRIED (omega arith) suffice r.passes c.in-Ok.rows c.of.result r.rows c.of.ensures.lowest (omega (arith, c.of.ensures.equal))
+    let program = source_of c.args.program.now in
+    let answered = c.in-Ok.ensures in
+    let out_of_turns = outcome.Limit Turns in
+    let mass = mass_of program TURNS_TRIED None None out_of_turns in
+    let suffice = no_mass_suffices program c.is_kept.ensures.kept TURNS_TRIED (omega arith) (nothing mass.0 (λ some. c.in-None.ensures.none (lowest mass) (answered.rows.all out_of_turns some))) in
+    ended_exact program c.is_kept.ensures.kept TURNS_TRIED (omega arith) suffice answered.passes c.in-Ok.rows c.of.result answered.rows c.of.ensures.lowest (omega (arith, c.of.ensures.equal))
 
 pub returns-in-None-clause-limits : goal.returns-in-None-clause-limits
 returns-in-None-clause-limits c = is_exact_in_the_limit (source_of c.args.program.now) c.is_kept.ensures.kept c.in-Ok.rows c.of.result (returns-in-None-clause-masses c)
 
 pub returns-in-Err-AllFailed-clause-refused : goal.returns-in-Err-AllFailed-clause-refused
 returns-in-Err-AllFailed-clause-refused c =
-    let p = source_of c.args.program.now in
-    let one = (subst (λ e. MassRefused e p TURNS_TRIED None None) c.in-Err-AllFailed.field-0-is c.in-Err-AllFailed.ensures.refused).1 in
-    fails_in_the_limit p c.is_kept.ensures.kept (ended_fails p c.is_kept.ensures.kept TURNS_TRIED (omega arith) (all_fail_suffices p c.is_kept.ensures.kept TURNS_TRIED (omega arith) one) one)
+    let program = source_of c.args.program.now in
+    let one = (subst (λ e. MassRefused e program TURNS_TRIED None None) c.in-Err-AllFailed.field-0-is c.in-Err-AllFailed.ensures.refused).1 in
+    fails_in_the_limit program c.is_kept.ensures.kept (ended_fails program c.is_kept.ensures.kept TURNS_TRIED (omega arith) (all_fail_suffices program c.is_kept.ensures.kept TURNS_TRIED (omega arith) one) one)

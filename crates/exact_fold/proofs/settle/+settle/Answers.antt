@@ -58,12 +58,12 @@ settle_block-returns-clause-ok t c =
 pub settle_between-settle_stmt-requires : goal.settle_between-settle_stmt-requires
 settle_between-settle_stmt-requires t c =
     let xs = c.args.block.now.stmts.items in
-    let d = c.index.result.now in
+    let statement = c.index.result.now in
     let lt : c.loop-at.at < length xs = omega (arith, c.loop-at-test.true, c.requires.inside) in (
       search (rules, the_lemmas),
       (
-        subst (λ m. StatementBelow m (statement_of d)) (sym c.loop-at.invariant.vars) (subst (λ s. StatementBelow c.args.table.vars (statement_of s)) (sym c.index.ensures) (below_at c.args.table.vars xs c.loop-at.at d lt c.requires.below)),
-        subst (λ s. StatementIsWeighed (statement_of s)) (sym c.index.ensures) (weighed_at xs c.loop-at.at d lt c.requires.weights),
+        subst (λ m. StatementBelow m (statement_of statement)) (sym c.loop-at.invariant.vars) (subst (λ s. StatementBelow c.args.table.vars (statement_of s)) (sym c.index.ensures) (below_at c.args.table.vars xs c.loop-at.at statement lt c.requires.below)),
+        subst (λ s. StatementIsWeighed (statement_of s)) (sym c.index.ensures) (weighed_at xs c.loop-at.at statement lt c.requires.weights),
       ),
     )
 
@@ -103,13 +103,13 @@ settle_from-settle_between-requires-in-loop-state t c = (
 
 pub settle_from-loop-state-preserved : goal.settle_from-loop-state-preserved
 settle_from-loop-state-preserved t c =
-    let b = between c.args.from c.args.to c.args.block.now.stmts.items in
+    let stretch = between c.args.from c.args.to c.args.block.now.stmts.items in
     record {
       next = tt;
       finite = tt;
       vars = c.merge.ensures.vars ∙ c.loop-state.invariant.vars;
-      so_far = state_turn b c.args.table.states.entries _ c.in-Some.state c.in-Some.weight _ _ _ _ c.args.ended.now _ _ (weighed_between c.args.from c.args.to c.args.block.now.stmts.items c.requires.weights)
-          (states_as b c.args.table.states.entries _ _ c.args.ended.now c.loop-state.out.states.entries c.loop-state.ended c.in-Some.ensures.steps c.loop-state.invariant.so_far)
+      so_far = state_turn stretch c.args.table.states.entries _ c.in-Some.state c.in-Some.weight _ _ _ _ c.args.ended.now _ _ (weighed_between c.args.from c.args.to c.args.block.now.stmts.items c.requires.weights)
+          (states_as stretch c.args.table.states.entries _ _ c.args.ended.now c.loop-state.out.states.entries c.loop-state.ended c.in-Some.ensures.steps c.loop-state.invariant.so_far)
           c.in_ok-one.ensures.one c.in_ok-left.ensures.ok c.in_ok-merge.ensures.ok;
     }
 
@@ -119,60 +119,60 @@ settle_from-returns-clause-ok t c =
 
 pub settle_stmt-returns-in-Skip-clause-ok : goal.settle_stmt-returns-in-Skip-clause-ok
 settle_stmt-returns-in-Skip-clause-ok t c =
-    let q = ap statement_of c.in-Skip.is ∙ skip_view in
+    let form = ap statement_of c.in-Skip.is ∙ skip_view in
     let es = c.args.table.states.entries in
-    statement_as _ _ es es c.args.ended.now c.args.ended.now q (alone_settles Skip es c.args.ended.now es c.args.ended.now tt (skip_back es) (one_unlimited 0 Skip tt (as_table es)) (fold_skip 0 None es c.args.ended.now))
+    statement_as _ _ es es c.args.ended.now c.args.ended.now form (alone_settles Skip es c.args.ended.now es c.args.ended.now tt (skip_back es) (one_unlimited 0 Skip tt (as_table es)) (fold_skip 0 None es c.args.ended.now))
 
 pub settle_stmt-returns-in_ok-assign-in-Set-clause-ok : goal.settle_stmt-returns-in_ok-assign-in-Set-clause-ok
 settle_stmt-returns-in_ok-assign-in-Set-clause-ok t c =
-    let q = ap statement_of c.in-Set.is ∙ set_view c.in-Set.x c.in-Set.e in
+    let form = ap statement_of c.in-Set.is ∙ set_view c.in-Set.x c.in-Set.e in
     let es = c.args.table.states.entries in
-    let E = c.args.ended.now in
+    let ended = c.args.ended.now in
     let ex = expression_of c.in-Set.e in
-    statement_as _ _ es _ E _ q (alone_settles (Set c.in-Set.x ex) es E _ _ tt (set_back c.in-Set.x ex es) (one_unlimited 0 (Set c.in-Set.x ex) tt (as_table es)) (fold_assign 0 None c.in-Set.x ex es E _ _ c.in_ok-assign-in-Set.ensures.ok))
+    statement_as _ _ es _ ended _ form (alone_settles (Set c.in-Set.x ex) es ended _ _ tt (set_back c.in-Set.x ex es) (one_unlimited 0 (Set c.in-Set.x ex) tt (as_table es)) (fold_assign 0 None c.in-Set.x ex es ended _ _ c.in_ok-assign-in-Set.ensures.ok))
 
 pub settle_stmt-returns-in_ok-draw-in-Uniform-clause-ok : goal.settle_stmt-returns-in_ok-draw-in-Uniform-clause-ok
 settle_stmt-returns-in_ok-draw-in-Uniform-clause-ok t c =
-    let q = ap statement_of c.in-Uniform.is ∙ uniform_view c.in-Uniform.x c.in-Uniform.e in
+    let form = ap statement_of c.in-Uniform.is ∙ uniform_view c.in-Uniform.x c.in-Uniform.e in
     let es = c.args.table.states.entries in
-    let E = c.args.ended.now in
+    let ended = c.args.ended.now in
     let ex = expression_of c.in-Uniform.e in
     let after = c.in_ok-draw-in-Uniform.field-0.states.entries in
-    let drawn : UniformTo c.in-Uniform.x (value_of ex) None es E after c.draw.new.ended =
-    subst (λ r. UniformTo c.in-Uniform.x (value_of ex) r es E after c.draw.new.ended) c.unlimited.ensures c.in_ok-draw-in-Uniform.ensures.ok in
-    statement_as _ _ es _ E _ q (alone_settles (Uniform c.in-Uniform.x ex) es E _ _ tt (uniform_back c.in-Uniform.x ex es)
-    (one_unlimited 0 (Uniform c.in-Uniform.x ex) tt (as_table es)) (fold_draw 0 None c.in-Uniform.x ex es E c.len-count.ensures.ordered _ _ drawn))
+    let drawn : UniformTo c.in-Uniform.x (value_of ex) None es ended after c.draw.new.ended =
+    subst (λ r. UniformTo c.in-Uniform.x (value_of ex) r es ended after c.draw.new.ended) c.unlimited.ensures c.in_ok-draw-in-Uniform.ensures.ok in
+    statement_as _ _ es _ ended _ form (alone_settles (Uniform c.in-Uniform.x ex) es ended _ _ tt (uniform_back c.in-Uniform.x ex es)
+    (one_unlimited 0 (Uniform c.in-Uniform.x ex) tt (as_table es)) (fold_draw 0 None c.in-Uniform.x ex es ended c.len-count.ensures.ordered _ _ drawn))
 
 pub settle_stmt-returns-in_ok-end_all-in-Observe-clause-ok : goal.settle_stmt-returns-in_ok-end_all-in-Observe-clause-ok
 settle_stmt-returns-in_ok-end_all-in-Observe-clause-ok t c =
-    let q = ap statement_of c.in-Observe.is ∙ observe_view c.in-Observe.e in
+    let form = ap statement_of c.in-Observe.is ∙ observe_view c.in-Observe.e in
     let es = c.args.table.states.entries in
-    let E = c.args.ended.now in
+    let ended = c.args.ended.now in
     let ex = expression_of c.in-Observe.e in
-    statement_as _ _ es _ E _ q (alone_settles (Observe ex) es E _ _ tt (observe_back ex es) (one_unlimited 0 (Observe ex) tt (as_table es)) (fold_observe 0 None ex es E _ _ _ _ c.in_ok-first-in-Observe.ensures.first c.in_ok-first-in-Observe.ensures.second c.in_ok-end_all-in-Observe.ensures.ok))
+    statement_as _ _ es _ ended _ form (alone_settles (Observe ex) es ended _ _ tt (observe_back ex es) (one_unlimited 0 (Observe ex) tt (as_table es)) (fold_observe 0 None ex es ended _ _ _ _ c.in_ok-first-in-Observe.ensures.first c.in_ok-first-in-Observe.ensures.second c.in_ok-end_all-in-Observe.ensures.ok))
 
 pub settle_stmt-settle_block-requires : goal.settle_stmt-settle_block-requires
 settle_stmt-settle_block-requires t c =
-    let q = (ap statement_of c.in-If.is ∙ if_view c.in-If.e c.in-If.a c.in-If.c) in
-    (search (rules, the_lemmas), (subst (λ m. BlockBelow m (statements_of c.in-If.a)) (sym c.in_ok-first-in-If.ensures.vars.0) (below_as _ _ _ q c.requires.below).1, (weights_as _ _ q c.requires.weights).0))
+    let form = (ap statement_of c.in-If.is ∙ if_view c.in-If.e c.in-If.a c.in-If.c) in
+    (search (rules, the_lemmas), (subst (λ m. BlockBelow m (statements_of c.in-If.a)) (sym c.in_ok-first-in-If.ensures.vars.0) (below_as _ _ _ form c.requires.below).1, (weights_as _ _ form c.requires.weights).0))
 
 pub settle_stmt-settle_block-requires-in-If : goal.settle_stmt-settle_block-requires-in-If
 settle_stmt-settle_block-requires-in-If t c =
-    let q = (ap statement_of c.in-If.is ∙ if_view c.in-If.e c.in-If.a c.in-If.c) in
-    (search (rules, the_lemmas), (subst (λ m. BlockBelow m (statements_of c.in-If.c)) (sym c.in_ok-first-in-If.ensures.vars.1) (below_as _ _ _ q c.requires.below).2, (weights_as _ _ q c.requires.weights).1))
+    let form = (ap statement_of c.in-If.is ∙ if_view c.in-If.e c.in-If.a c.in-If.c) in
+    (search (rules, the_lemmas), (subst (λ m. BlockBelow m (statements_of c.in-If.c)) (sym c.in_ok-first-in-If.ensures.vars.1) (below_as _ _ _ form c.requires.below).2, (weights_as _ _ form c.requires.weights).1))
 
 pub settle_stmt-returns-in_ok-merge-in-If-clause-ok : goal.settle_stmt-returns-in_ok-merge-in-If-clause-ok
 settle_stmt-returns-in_ok-merge-in-If-clause-ok t c =
-    let q = (ap statement_of c.in-If.is ∙ if_view c.in-If.e c.in-If.a c.in-If.c) in
-    let ws = weights_as _ _ q c.requires.weights in
-    statement_as _ _ c.args.table.states.entries _ c.args.ended.now _ q
+    let form = (ap statement_of c.in-If.is ∙ if_view c.in-If.e c.in-If.a c.in-If.c) in
+    let ws = weights_as _ _ form c.requires.weights in
+    statement_as _ _ c.args.table.states.entries _ c.args.ended.now _ form
     (branch_settles (expression_of c.in-If.e) (statements_of c.in-If.a) (statements_of c.in-If.c) c.args.table.states.entries _ _ _ _ _ c.args.ended.now _ _ _ ws.0 ws.1
     c.in_ok-first-in-If.ensures.first c.in_ok-first-in-If.ensures.second c.in_ok-left-in-If.ensures.ok c.in_ok-right-in-If.ensures.ok c.in_ok-merge-in-If.ensures.ok)
 
 pub settle_stmt-settle_loop-requires : goal.settle_stmt-settle_loop-requires
 settle_stmt-settle_loop-requires t c =
-    let q = (ap statement_of c.in-While.is ∙ while_view c.in-While.e c.in-While.body) in
-    (search (rules, the_lemmas), ((below_as _ _ _ q c.requires.below).0, ((below_as _ _ _ q c.requires.below).1, weights_as _ _ q c.requires.weights)))
+    let form = (ap statement_of c.in-While.is ∙ while_view c.in-While.e c.in-While.body) in
+    (search (rules, the_lemmas), ((below_as _ _ _ form c.requires.below).0, ((below_as _ _ _ form c.requires.below).1, weights_as _ _ form c.requires.weights)))
 
 pub settle_stmt-returns-in-While-clause-ok : goal.settle_stmt-returns-in-While-clause-ok
 settle_stmt-returns-in-While-clause-ok t c =
@@ -186,27 +186,27 @@ settle_stmt-sides-requires t c =
 
 pub settle_stmt-settle_block-requires-in-Choice : goal.settle_stmt-settle_block-requires-in-Choice
 settle_stmt-settle_block-requires-in-Choice t c =
-    let q = (ap statement_of c.in-Choice.is ∙ choice_view c.in-Choice.p c.in-Choice.a c.in-Choice.c) in
-    (search (rules, the_lemmas), (subst (λ m. BlockBelow m (statements_of c.in-Choice.a)) (sym c.in_ok-first-in-Choice.ensures.vars.0) (below_as _ _ _ q c.requires.below).0, (weights_as _ _ q c.requires.weights).1))
+    let form = (ap statement_of c.in-Choice.is ∙ choice_view c.in-Choice.p c.in-Choice.a c.in-Choice.c) in
+    (search (rules, the_lemmas), (subst (λ m. BlockBelow m (statements_of c.in-Choice.a)) (sym c.in_ok-first-in-Choice.ensures.vars.0) (below_as _ _ _ form c.requires.below).0, (weights_as _ _ form c.requires.weights).1))
 
 pub settle_stmt-settle_block-requires-in-Choice-2 : goal.settle_stmt-settle_block-requires-in-Choice-2
 settle_stmt-settle_block-requires-in-Choice-2 t c =
-    let q = (ap statement_of c.in-Choice.is ∙ choice_view c.in-Choice.p c.in-Choice.a c.in-Choice.c) in
-    (search (rules, the_lemmas), (subst (λ m. BlockBelow m (statements_of c.in-Choice.c)) (sym c.in_ok-first-in-Choice.ensures.vars.1) (below_as _ _ _ q c.requires.below).1, (weights_as _ _ q c.requires.weights).2))
+    let form = (ap statement_of c.in-Choice.is ∙ choice_view c.in-Choice.p c.in-Choice.a c.in-Choice.c) in
+    (search (rules, the_lemmas), (subst (λ m. BlockBelow m (statements_of c.in-Choice.c)) (sym c.in_ok-first-in-Choice.ensures.vars.1) (below_as _ _ _ form c.requires.below).1, (weights_as _ _ form c.requires.weights).2))
 
 pub settle_stmt-returns-in_ok-merge-in-Choice-clause-ok : goal.settle_stmt-returns-in_ok-merge-in-Choice-clause-ok
 settle_stmt-returns-in_ok-merge-in-Choice-clause-ok t c =
-    let q = (ap statement_of c.in-Choice.is ∙ choice_view c.in-Choice.p c.in-Choice.a c.in-Choice.c) in
-    let ws = weights_as _ _ q c.requires.weights in
-    statement_as _ _ c.args.table.states.entries _ c.args.ended.now _ q
+    let form = (ap statement_of c.in-Choice.is ∙ choice_view c.in-Choice.p c.in-Choice.a c.in-Choice.c) in
+    let ws = weights_as _ _ form c.requires.weights in
+    statement_as _ _ c.args.table.states.entries _ c.args.ended.now _ form
     (choice_settles c.in-Choice.p (statements_of c.in-Choice.a) (statements_of c.in-Choice.c) c.args.table.states.entries _ _ _ _ _ c.args.ended.now _ _ _ ws.0 ws.1 ws.2
     c.in_ok-first-in-Choice.ensures.ok c.in_ok-left-in-Choice.ensures.ok c.in_ok-right-in-Choice.ensures.ok c.in_ok-merge-in-Choice.ensures.ok)
 
 pub turned-returns-clause-ok : goal.turned-returns-clause-ok
 turned-returns-clause-ok t c =
-    let D = c.args.found.closed.states.entries in
+    let closed = c.args.found.closed.states.entries in
     let copy = c.args.found.copy.states.entries in
-    turn_settles (value_of (expression_of c.args.guard.now)) (statements_of c.args.body.now) D c.args.table.states.entries c.args.found.visits.states.entries _ _ _ _ _ copy c.args.ended.now _ _ c.requires.weights
+    turn_settles (value_of (expression_of c.args.guard.now)) (statements_of c.args.body.now) closed c.args.table.states.entries c.args.found.visits.states.entries _ _ _ _ _ copy c.args.ended.now _ _ c.requires.weights
     (c.above.ensures c.if-not-above.false) (c.same.ensures c.if-not-same.false) (c.same-2.ensures c.if-not-same-2.false) c.in_ok-next.ensures.ok c.in_ok-merge.ensures.ok
     c.in_ok-seen.ensures.ok c.in_ok-on.ensures.first c.in_ok-on.ensures.second
 
@@ -238,10 +238,10 @@ check_closed-returns t c =
 
 pub settle_stmt-settle_arms-requires : goal.settle_stmt-settle_arms-requires
 settle_stmt-settle_arms-requires t c =
-    let q = (ap statement_of c.in-Choose.is ∙ choose_view c.in-Choose.arms) in
-    let w = weights_as _ _ q c.requires.weights in
+    let form = (ap statement_of c.in-Choose.is ∙ choose_view c.in-Choose.arms) in
+    let weighted = weights_as _ _ form c.requires.weights in
     let equal = subst (λ b. IsEqual c.one_part-part.result (1, b)) c.total.ensures c.one_part-part.ensures.equal in
-    (search (rules, the_lemmas), (below_as _ _ _ q c.requires.below, (w.0, (w.1, (c.one_part-part.ensures.above, equal)))))
+    (search (rules, the_lemmas), (below_as _ _ _ form c.requires.below, (weighted.0, (weighted.1, (c.one_part-part.ensures.above, equal)))))
 
 pub settle_stmt-returns-in-Choose-clause-ok : goal.settle_stmt-returns-in-Choose-clause-ok
 settle_stmt-returns-in-Choose-clause-ok t c =

@@ -18,26 +18,26 @@ put-requires c = sized_at _ _ c.args.table.sized (λ e. e) _ _ _ _ _ _ c.into_it
 
 pub loop-state-preserved-in-Continue-1 : goal.loop-state-preserved-in-Continue-1
 loop-state-preserved-in-Continue-1 c =
-    let D = c.args.closed.now.states.entries in
-    let i : inside D c.in-Some.state ≡ false = sym c.stands.ensures ∙ c.if-not-stands.true in
+    let closed = c.args.closed.now.states.entries in
+    let absent : inside closed c.in-Some.state ≡ false = sym c.stands.ensures ∙ c.if-not-stands.true in
     record {
       next = tt;
       finite = tt;
       vars = c.put.ensures.vars ∙ c.loop-state.invariant.vars;
-      so_far = λ E. doing_go (kept_if (outside D)) none_stopped [] c.args.table.states.entries E c.loop-state.visits.states.entries E c.in-Some.state c.in-Some.weight c.next.new.self
-          (doing_along _ _ _ _ _ _ _ _ _ c.in-Some.ensures.steps (c.loop-state.invariant.so_far E)) c.put.new.self.states.entries c.in-Some.state c.in_ok-put.ensures.ok (λ G. ap (λ b. cond (not b) (G c.in-Some.state) 0) i) (λ G. refl);
+      so_far = λ E. doing_go (kept_if (outside closed)) none_stopped [] c.args.table.states.entries E c.loop-state.visits.states.entries E c.in-Some.state c.in-Some.weight c.next.new.self
+          (doing_along _ _ _ _ _ _ _ _ _ c.in-Some.ensures.steps (c.loop-state.invariant.so_far E)) c.put.new.self.states.entries c.in-Some.state c.in_ok-put.ensures.ok (λ G. ap (λ b. cond (not b) (G c.in-Some.state) 0) absent) (λ G. refl);
     }
 
 pub loop-state-preserved : goal.loop-state-preserved
 loop-state-preserved c =
-    let D = c.args.closed.now.states.entries in
-    let i : inside D c.in-Some.state ≡ true = sym c.stands.ensures ∙ c.if-not-stands.false in
+    let closed = c.args.closed.now.states.entries in
+    let standing : inside closed c.in-Some.state ≡ true = sym c.stands.ensures ∙ c.if-not-stands.false in
     record {
       next = tt;
       finite = tt;
       vars = c.loop-state.invariant.vars;
-      so_far = λ E. doing_skip (kept_if (outside D)) none_stopped [] c.args.table.states.entries E c.loop-state.visits.states.entries E c.in-Some.state c.in-Some.weight c.next.new.self
-          (doing_along _ _ _ _ _ _ _ _ _ c.in-Some.ensures.steps (c.loop-state.invariant.so_far E)) (λ G. ap (λ b. cond (not b) (G c.in-Some.state) 0) i) (λ G. refl);
+      so_far = λ E. doing_skip (kept_if (outside closed)) none_stopped [] c.args.table.states.entries E c.loop-state.visits.states.entries E c.in-Some.state c.in-Some.weight c.next.new.self
+          (doing_along _ _ _ _ _ _ _ _ _ c.in-Some.ensures.steps (c.loop-state.invariant.so_far E)) (λ G. ap (λ b. cond (not b) (G c.in-Some.state) 0) standing) (λ G. refl);
     }
 
 pub returns-clause-ok : goal.returns-clause-ok

@@ -14,5 +14,5 @@ loop-state-preserved c = record {
 
 pub returns : goal.returns
 returns c = λ e.
-    let p = none_there c.next-2.result c.is_none.result _ _ c.is_none.ensures e c.next-2.ensures.steps in
-    c.loop-state.invariant.so_far (c.in-None.ensures.steps.0 ∙ sym p.0)
+    let ended = none_there c.next-2.result c.is_none.result _ _ c.is_none.ensures e c.next-2.ensures.steps in
+    c.loop-state.invariant.so_far (c.in-None.ensures.steps.0 ∙ sym ended.0)
