@@ -202,21 +202,25 @@ def column(bits, share):
     return div("column", f"{math.floor(100 * share)}" + tag("span", tag("b", style=f"height:{percent(share)}")) + str(bits))
 
 
-def read_on_average(zar, cost):
+def read_on_average(told):
     """What is said of the bits that a run reads."""
-    try:
-        average = printed.bits(zar.told(cost).text)
-    except Refused as why:
-        return str(why)
-    return f"With one attempt at each draw and one round, a run reads {average} bits on average, {float(average):.4g} in decimals."
+    average, limits = printed.bits(told.text), "With one attempt at each draw and one round" if told.call[1:] else "With no limit"
+    if average == math.inf:
+        return f"{limits} there is no bound to the bits that a run reads on average."
+    return f"{limits} a run reads {average} bits on average, {float(average):.4g} in decimals."
 
 
 def reading(zar, asked):
     turns = turns_of(asked)
-    audit, cost = ("audit", "--depth", f"0 .. {asked.depth}", *turns), ("cost", *"--attempts 1 --rounds 1".split(), *turns)
+    audit, limited = ("audit", "--depth", f"0 .. {asked.depth}", *turns), ("cost", *"--attempts 1 --rounds 1".split(), *turns)
     body = div("columns", "".join(column(bits, decided(zar, bits, asked.turns)) for bits in range(asked.depth + 1)))
-    note = f"Of all strings of so many bits, how many in a hundred end the run. {read_on_average(zar, cost)}"
-    return figure("Bits", body, [zar.typed(*it) for it in (audit, cost)], note)
+    calls, note = [audit], "Of all strings of so many bits, how many in a hundred end the run."
+    try:
+        told = zar.told(("cost",), limited)
+        calls, note = [*calls, told.call], f"{note} {told.refused} {read_on_average(told)}"
+    except Refused as why:
+        note += f" {why}"
+    return figure("Bits", body, [zar.typed(*it) for it in calls], note.replace("  ", " "))
 
 
 def code(zar, _):
