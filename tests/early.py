@@ -1,7 +1,8 @@
-"""Programs that draw among many numbers and forget what was drawn behind a test, so that `exact` walks them state by state. As a whole the
-tables of each have more than 65,536 states. What the draws lead to is counted here one by one."""
+"""Programs that draw among many numbers and forget what was drawn behind a test, so that `exact` and `enclose` walk them state by state. As a whole
+the tables of each have more than 65,536 states. What the draws lead to is counted here one by one."""
 import fractions
 import itertools
+import math
 
 from tables import BOUND, DIVISOR, FAILED
 
@@ -41,16 +42,31 @@ TABLE = {
 # Bundles of unreliable gates (see nand.gcl of the examples), of which two lines are drawn before either is looked at: 74,840 states with both drawn.
 BUNDLE = "a bundle of gates"
 LINES, HOLDING = 15, 12
+BY_CHANCE = "a bundle of gates whose lines come in by chance"  # each holds with 3/4: 99,372 states with both drawn
+HELD = f"a := {HOLDING}; b := {HOLDING};"
+CHOSEN = f"while line < {LINES} {{ choice 3/4 {{ a := a + 1; }} or {{ }} choice 3/4 {{ b := b + 1; }} or {{ }} line := line + 1; }}"
 GATES = (
-    f"a := {HOLDING}; b := {HOLDING}; left := {LINES}; while left > 0 {{ x ~ uniform(left); y ~ uniform(left); both := 0; if x < a and y < b {{ both := 1; }}"
+    f" left := {LINES}; while left > 0 {{ x ~ uniform(left); y ~ uniform(left); both := 0; if x < a and y < b {{ both := 1; }}"
     " if x < a { a := a - 1; } if y < b { b := b - 1; } choice 3/4 { out := out + 1 - both; } or { out := out + both; } left := left - 1; } return out;"
 )
 NAMES = [*TABLE, BUNDLE]
+ENCLOSED = [*NAMES, BY_CHANCE]
 
 
-def gates():
+def by_chance(count):
+    """That so many lines of a bundle hold."""
+    return fractions.Fraction(math.comb(LINES, count) * 3**count, 4**LINES)
+
+
+def start(name):
+    """How many lines of both bundles hold, and that none has come out."""
+    if name == BUNDLE:
+        return {(HOLDING, HOLDING, 0): fractions.Fraction(1)}
+    return {(a, b, 0): by_chance(a) * by_chance(b) for a in range(LINES + 1) for b in range(LINES + 1)}
+
+
+def gates(now):
     """How many lines come out, by the lines of both bundles that are left and what came out so far."""
-    now = {(HOLDING, HOLDING, 0): fractions.Fraction(1)}
     for left in range(LINES, 0, -1):
         after = {}
         for (a, b, out), weight in now.items():
@@ -65,16 +81,16 @@ def gates():
 
 
 def text(name):
-    if name == BUNDLE:
-        return GATES
+    if name not in TABLE:
+        return (HELD if name == BUNDLE else CHOSEN) + GATES
     return f"place ~ uniform({FIRST}); {TABLE[name][0]} return place % 10;"
 
 
 def masses(name):
     """What each value and fault weighs, over what does not fail."""
     found = {}
-    if name == BUNDLE:
-        for (_, _, out), weight in gates().items():
+    if name not in TABLE:
+        for (_, _, out), weight in gates(start(name)).items():
             found[f"value {out}"] = found.get(f"value {out}", 0) + weight
         return found
     _, bound, after = TABLE[name]

@@ -12,6 +12,9 @@ pub mod Ending
 pub mod Listed
 pub mod ManyRounds
 pub mod NonePass
+pub mod Parted
+pub mod Between
+pub mod ByStates
 pub mod Passing
 pub mod Putting
 pub mod RoundOf

@@ -1,5 +1,7 @@
 pub mod Refusals
 pub mod Ended
+pub mod Exact
+pub mod Between
 pub mod Folding
 pub mod Body
 pub mod Outcomes

@@ -1,6 +1,6 @@
 // A table through a block.
 
-ghost use Rattle.std.specs.Prelude.{◌≡◌, ◌≤◌, ◌+◌, length, IfOk, IfErr};
+ghost use Rattle.std.specs.Prelude.{◌≡◌, ◌<◌, ◌≤◌, ◌+◌, length, IfOk, IfErr};
 ghost use Rattle.std.specs.List.{sum};
 ghost use Rattle.numbers.specs.declared.units.TheConstants.{ALL};
 ghost use Rattle.gcl_core.specs.meaning.Arms.{parts_of};
@@ -8,14 +8,17 @@ ghost use Rattle.gcl_core.specs.meaning.Bounds.{StatementIsWeighed, BlockIsWeigh
 ghost use Rattle.gcl_core.specs.meaning.Bounds.{StatementBelow, BlockBelow, ArmsBelow};
 ghost use Rattle.gcl_core.specs.meaning.Views.{expression_of, statement_of, statements_of, list_of_arms};
 ghost use Rattle.units_law.specs.Units.{total};
+ghost use Rattle.enclose_fold.specs.inner.Between.{between};
 ghost use Rattle.enclose_fold.specs.inner.Ended.{units_of};
+ghost use Rattle.enclose_fold.specs.inner.Exact.{DrawsOnce};
 ghost use Rattle.enclose_fold.specs.inner.Folding.{BlockGives, BlockRefused, StatementGives, StatementRefused};
 ghost use Rattle.enclose_fold.specs.inner.Folding.{LoopGives, LoopRefused, ArmsGive, ArmsRefused, ArmsWithin};
 
 use crate::choosing::{side, undecided};
+use crate::early::walked_to;
 use crate::ended::Ended;
 use crate::error::EncloseError;
-use crate::steps::{all_of, assign, merge, split};
+use crate::steps::{all_of, assign, merge, one_state, split};
 use crate::table::Table;
 use gcl_core::{Arms, Block, Expr, Stmt};
 use scaled_fold::Odds;
@@ -42,10 +45,70 @@ impl Fold {
         ensures cause { IfErr result (BlockRefused self (statements_of b.now) table) }
     {
         let mut now = table;
-        for s in &b.stmts {
-            now = self.stmt(s, now, ended)?;
+        let mut from = 0;
+        while from < b.stmts.len() {
+            let to = walked_to(b, from, &now);
+            now = self.from_to(b, from, to, now, ended)?;
+            from = to;
         }
         Ok(now)
+    }
+
+    // The table after the statements of a block from one place to another.
+    #[cycle(fold)]
+    fn between(
+        self,
+        b: &Block,
+        from: usize,
+        to: usize,
+        table: Table,
+        ended: &mut Ended,
+    ) -> Result<Table, EncloseError>
+        requires below { BlockBelow table.vars (statements_of b.now) }
+        requires weights { BlockIsWeighed (statements_of b.now) }
+        requires inside { to ≤ length b.now.stmts.items }
+        requires within { total table.states.entries + total (units_of ended.old) ≤ ALL }
+        ensures ok { IfOk result (λ t. BlockGives self (between from to b.now.stmts.items) table ended.old t ended.new) }
+        ensures vars { IfOk result (λ t. t.vars ≡ table.vars) }
+        ensures cause { IfErr result (BlockRefused self (between from to b.now.stmts.items) table) }
+    {
+        let mut now = table;
+        for at in from..to {
+            now = self.stmt(&b.stmts[at], now, ended)?;
+        }
+        Ok(now)
+    }
+
+    // The same, state by state where these are several statements: a draw, and behind it what rounds nothing.
+    #[cycle(fold)]
+    fn from_to(
+        self,
+        b: &Block,
+        from: usize,
+        to: usize,
+        table: Table,
+        ended: &mut Ended,
+    ) -> Result<Table, EncloseError>
+        requires below { BlockBelow table.vars (statements_of b.now) }
+        requires weights { BlockIsWeighed (statements_of b.now) }
+        requires above { from < to }
+        requires inside { to ≤ length b.now.stmts.items }
+        requires once { from + 1 < to → DrawsOnce (between from to b.now.stmts.items) }
+        requires within { total table.states.entries + total (units_of ended.old) ≤ ALL }
+        ensures ok { IfOk result (λ t. BlockGives self (between from to b.now.stmts.items) table ended.old t ended.new) }
+        ensures vars { IfOk result (λ t. t.vars ≡ table.vars) }
+        ensures cause { IfErr result (BlockRefused self (between from to b.now.stmts.items) table) }
+    {
+        if to - from == 1 {
+            return self.between(b, from, to, table, ended);
+        }
+        let mut out = Table::new(self.alloc, table.vars);
+        for (s, w) in table.states {
+            let one = one_state(self.alloc, out.vars, s, w)?;
+            let left = self.between(b, from, to, one, ended)?;
+            merge(&mut out, left)?;
+        }
+        Ok(out)
     }
 
     #[cycle(fold)]

@@ -22,6 +22,7 @@ mod bounding;
 mod bounds;
 mod choosing;
 mod draws;
+mod early;
 mod enclosing;
 mod ended;
 mod error;

@@ -1,12 +1,12 @@
 // What one statement makes of a table.
 
-ghost use Rattle.std.specs.Prelude.{◌≡◌, ◌≤◌, ◌<◌, ◌+◌, ◌++◌, IfOk, OnOk, IfErr};
+ghost use Rattle.std.specs.Prelude.{◌≡◌, ◌≤◌, ◌<◌, ◌+◌, ◌++◌, [], length, IfOk, OnOk, IfErr};
 ghost use Rattle.numbers.specs.declared.units.TheConstants.{ALL};
 ghost use Rattle.gcl_core.specs.meaning.Views.{expression_of};
 ghost use Rattle.gcl_core.specs.meaning.Value.{value_of};
 ghost use Rattle.gcl_core.specs.meaning.Bounds.{ExpressionBelow};
 ghost use Rattle.table_flow.specs.Tables.{holds, fails};
-ghost use Rattle.units_law.specs.Merged.{merged};
+ghost use Rattle.units_law.specs.Merged.{merged, put};
 ghost use Rattle.units_law.specs.Units.{total, set_units, only_units, fault_units};
 ghost use Rattle.enclose_fold.specs.declared.error.EncloseError.TheVariants.{OutOfMemory};
 ghost use Rattle.enclose_fold.specs.inner.Ended.{units_of, EndsWith};
@@ -16,7 +16,21 @@ use crate::ended::Ended;
 use crate::error::EncloseError;
 use crate::table::Table;
 use gcl_core::{Expr, eval};
+use mass_fold::State;
 use std::alloc::Global;
+
+/// One state by itself.
+pub fn one_state(alloc: Global, vars: u32, s: State, w: u128) -> Result<Table, EncloseError>
+    requires sized { length s ≡ vars }
+    requires within { w ≤ ALL }
+    ensures one { IfOk result (λ t. t.states.entries ≡ put [] s w) }
+    ensures vars { IfOk result (λ t. t.vars ≡ vars) }
+    ensures cause { IfErr result (λ e. e ≡ OutOfMemory) }
+{
+    let mut one = Table::new(alloc, vars);
+    one.put(s, w)?;
+    Ok(one)
+}
 
 /// An assignment.
 pub fn assign(

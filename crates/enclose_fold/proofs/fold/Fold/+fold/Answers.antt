@@ -1,11 +1,11 @@
-use Rattle.std.proofs.Common.{rules, ◌≡◌, ◌+◌, ◌-◌, ◌<◌, [], arith, refl, sym, ap, ◌∙◌, drop, subst, Err, suc}
+use Rattle.std.proofs.Common.{rules, length, ◌≡◌, ◌+◌, ◌-◌, ◌<◌, [], arith, refl, sym, ap, ◌∙◌, drop, subst, Err, suc}
 use Rattle.std.specs.List.{sum}
 use Rattle.std.proofs.lemmas.Result.{IfOk-weaker, IfErr-weaker}
 use Rattle.gcl_core.specs.declared.answers.Limit.TheVariants.{Attempts}
 use Rattle.gcl_core.specs.declared.syntax.Stmt.{the_lemmas}
 use Rattle.gcl_core.specs.meaning.Arms.{parts_of}
 use Rattle.gcl_core.specs.meaning.Blocks.{limit}
-use Rattle.gcl_core.specs.meaning.Bounds.{StatementBelow, BlockBelow, ArmsBelow, ArmsAreWeighed, ExpressionBelow}
+use Rattle.gcl_core.specs.meaning.Bounds.{StatementBelow, BlockBelow, ArmsBelow, ArmsAreWeighed, ExpressionBelow, StatementIsWeighed}
 use Rattle.gcl_core.specs.meaning.Value.{value_of}
 use Rattle.gcl_core.specs.meaning.Views.{expression_of, statement_of, statements_of, list_of, arm_list_of, list_of_arms}
 use Rattle.gcl_core.proofs.ViewLemmas.{skip_view, set_view, observe_view, if_view, while_view, choice_view, choose_view, uniform_view}
@@ -16,50 +16,205 @@ use Rattle.units_law.specs.Down.{down}
 use Rattle.units_law.specs.Flows.{block_units}
 use Rattle.units_law.specs.Rounding.{class_units, rest_units}
 use Rattle.units_law.specs.Units.{only_units, fault_units, end_units}
+use Rattle.forgetting.proofs.Marking.{below_at}
+use Rattle.enclose_fold.specs.inner.Between.{part, between}
 use Rattle.enclose_fold.specs.inner.Folding.{FlowRefused}
+use Rattle.enclose_fold.proofs.ByStates.{states_start, states_end, states_short, units_room, state_room, state_fails, state_merge_room, state_merge_fails, state_turn, goes_on, goes_on_fails, goes_between}
+use Rattle.enclose_fold.proofs.Between.{part_behind, part_step, weighed_between, weighed_at}
 use Rattle.enclose_fold.proofs.CycleArms.{arms_start, arms_as, arms_turn, arms_end, arm_room, merge_room, side_fails, block_fails, merge_fails, side_as, choose_within, choose_gives}
 use Rattle.enclose_fold.proofs.CycleFlows.{goes_next, goes_fails, block_spends, empty_gives, both_give, first_refused, second_refused, merge_refused}
 use Rattle.enclose_fold.proofs.CycleSteps.{no_states, guard_room, gives_as, refused_as, goes_as, goes_done, memory_refused, skip_gives, set_gives, draw_gives, observe_gives, choice_room, rest_as, ok_both, draw_refused}
 use Rattle.enclose_fold.proofs.CycleLoops.{loop_start, loop_as, loop_dry, loop_fails, loop_room, exits_fail, body_fails, loop_turn, loop_end}
+use Rattle.enclose_fold.proofs.Sizes.{sized_at}
 use Rattle.enclose_fold.proofs.fold.Fold.+fold.Goals as goal
 
-pub block-stmt-requires : goal.block-stmt-requires
-block-stmt-requires t c =
-    let p = list_step c.deref-s-items.result.now c.loop-s.s-index c.s-item.result c.loop-s-test.true c.s-item.is in
-    let m = c.args.table.vars in (
-      search (rules, the_lemmas),
+pub block-walked_to-to-requires : goal.block-walked_to-to-requires
+block-walked_to-to-requires t c = record {
+  below = subst (λ m. BlockBelow m (statements_of c.args.b.now)) (sym c.loop-from.invariant.vars) c.requires.below;
+  inside = omega (arith, c.loop-from-test.true);
+}
+
+pub block-from_to-requires : goal.block-from_to-requires
+block-from_to-requires t c = (
+  search (rules, the_lemmas),
+  (
+    subst (λ m. BlockBelow m (statements_of c.args.b.now)) (sym c.loop-from.invariant.vars) c.requires.below,
+    (
+      c.requires.weights,
       (
-        subst (λ m. StatementBelow m (statement_of c.s-item.result)) (sym c.loop-s.invariant.vars) (below_next m _ _ _ p (c.loop-s.invariant.below m (below_list m _ _ c.deref-s-items.ensures.value c.requires.below))).0,
-        (
-          (weights_next _ _ _ p (c.loop-s.invariant.weights (along_list _ _ c.deref-s-items.ensures.value c.requires.weights))).0,
-          (let w = c.loop-s.invariant.so_far.within in omega (arith, c.requires.within)),
-        ),
+        c.walked_to-to.ensures.above,
+        (c.walked_to-to.ensures.inside, (c.walked_to-to.ensures.once, (let w = c.loop-from.invariant.so_far.within in omega (arith, c.requires.within, w)))),
       ),
-    )
+    ),
+  ),
+)
 
 pub block-returns-in_err-now-clause-cause : goal.block-returns-in_err-now-clause-cause
 block-returns-in_err-now-clause-cause t c =
-    let p = list_step c.deref-s-items.result.now c.loop-s.s-index c.s-item.result c.loop-s-test.true c.s-item.is in
-    let b = list_of c.deref-s-items.result.now in
+    let n = c.args.self.turns in
+    let r = c.args.self.attempts in
+    let xs = c.args.b.now.stmts.items in
+    let at = c.loop-from.from in
+    let to = c.walked_to-to.result in
     let out : c.from_residual.result ≡ Err c.in_err-now.field-0.0 = grind arith in
-    rw out (subst (λ z. FlowRefused (block_units down c.args.self.turns c.args.self.attempts (list_of z) c.args.table.states.entries) c.in_err-now.field-0.0) c.deref-s-items.ensures.value
-    (goes_fails c.args.self.turns c.args.self.attempts b c.args.table.states.entries c.args.ended.now _ _ c.loop-s.now.states.entries c.loop-s.ended c.loop-s.now.once (goes_as c.args.self.turns c.args.self.attempts b _ _ c.args.table.states.entries _ c.args.ended.now _ p c.loop-s.invariant.so_far) _ c.in_err-now.ensures.cause))
+    rw out (goes_on_fails n r (list_of xs) c.args.table.states.entries c.args.ended.now (part at to xs) (drop to xs) c.loop-from.now.states.entries c.loop-from.ended
+    (goes_as n r (list_of xs) _ _ c.args.table.states.entries _ c.args.ended.now _ (ap list_of (sym (part_behind at to xs (omega (arith, c.walked_to-to.ensures.above))))) c.loop-from.invariant.so_far) _ c.in_err-now.ensures.cause)
 
-pub block-loop-s-preserved : goal.block-loop-s-preserved
-block-loop-s-preserved t c =
-    let p = list_step c.deref-s-items.result.now c.loop-s.s-index c.s-item.result c.loop-s-test.true c.s-item.is in
-    let b = list_of c.deref-s-items.result.now in
-    let w = (weights_next _ _ _ p (c.loop-s.invariant.weights (along_list _ _ c.deref-s-items.ensures.value c.requires.weights))).0 in
+pub block-loop-from-preserved : goal.block-loop-from-preserved
+block-loop-from-preserved t c =
+    let n = c.args.self.turns in
+    let r = c.args.self.attempts in
+    let xs = c.args.b.now.stmts.items in
+    let at = c.loop-from.from in
+    let to = c.walked_to-to.result in
     record {
-      below = λ m h. (below_next m _ _ _ p (c.loop-s.invariant.below m h)).1;
-      weights = λ h. (weights_next _ _ _ p (c.loop-s.invariant.weights h)).1;
-      vars = c.in_ok-now.ensures.vars ∙ c.loop-s.invariant.vars;
-      so_far = goes_next c.args.self.turns c.args.self.attempts b c.args.table.states.entries c.args.ended.now _ _ c.loop-s.now.states.entries c.loop-s.ended c.loop-s.now.once (goes_as c.args.self.turns c.args.self.attempts b _ _ c.args.table.states.entries _ c.args.ended.now _ p c.loop-s.invariant.so_far) w _ _ c.in_ok-now.ensures.ok;
+      place = c.walked_to-to.ensures.inside;
+      vars = c.in_ok-now.ensures.vars ∙ c.loop-from.invariant.vars;
+      so_far = goes_on n r (list_of xs) c.args.table.states.entries c.args.ended.now (part at to xs) (drop to xs) c.loop-from.now.states.entries _ c.loop-from.ended _ (weighed_between at to xs c.requires.weights)
+          (goes_as n r (list_of xs) _ _ c.args.table.states.entries _ c.args.ended.now _ (ap list_of (sym (part_behind at to xs (omega (arith, c.walked_to-to.ensures.above))))) c.loop-from.invariant.so_far)
+          c.in_ok-now.ensures.ok;
     }
 
 pub block-returns-clause-ok : goal.block-returns-clause-ok
 block-returns-clause-ok t c =
-    goes_done c.args.self.turns c.args.self.attempts c.deref-s-items.result.now c.args.b.now.stmts.items c.loop-s.s-index c.args.table.states.entries _ c.args.ended.now _ c.loop-s-test.false c.deref-s-items.ensures.value c.loop-s.now.once c.loop-s.invariant.so_far
+    let xs = c.args.b.now.stmts.items in
+    goes_done c.args.self.turns c.args.self.attempts xs xs c.loop-from.from c.args.table.states.entries _ c.args.ended.now _ (omega (arith, c.loop-from-test.false)) refl c.loop-from.now.once c.loop-from.invariant.so_far
+
+pub between-stmt-requires : goal.between-stmt-requires
+between-stmt-requires t c =
+    let xs = c.args.b.now.stmts.items in
+    let d = c.index.result.now in
+    let m = c.args.table.vars in
+    let lt : c.loop-at.at < length xs = omega (arith, c.loop-at-test.true, c.requires.inside) in (
+      search (rules, the_lemmas),
+      (
+        subst (λ m. StatementBelow m (statement_of d)) (sym c.loop-at.invariant.vars) (subst (λ s. StatementBelow m (statement_of s)) (sym c.index.ensures) (below_at m xs c.loop-at.at d lt c.requires.below)),
+        (
+          subst (λ s. StatementIsWeighed (statement_of s)) (sym c.index.ensures) (weighed_at xs c.loop-at.at d lt c.requires.weights),
+          (let w = c.loop-at.invariant.so_far.within in omega (arith, c.requires.within, w)),
+        ),
+      ),
+    )
+
+pub between-returns-in_err-now-clause-cause : goal.between-returns-in_err-now-clause-cause
+between-returns-in_err-now-clause-cause t c =
+    let n = c.args.self.turns in
+    let r = c.args.self.attempts in
+    let xs = c.args.b.now.stmts.items in
+    let b = between c.args.from c.args.to xs in
+    let lt : c.loop-at.at < length xs = omega (arith, c.loop-at-test.true, c.requires.inside) in
+    let p = part_step xs c.loop-at.at c.args.to c.index.result.now lt c.loop-at-test.true c.index.ensures in
+    let out : c.from_residual.result ≡ Err c.in_err-now.field-0.0 = grind arith in
+    rw out (goes_fails n r b c.args.table.states.entries c.args.ended.now _ _ c.loop-at.now.states.entries c.loop-at.ended c.loop-at.now.once
+    (goes_as n r b _ _ c.args.table.states.entries _ c.args.ended.now _ p c.loop-at.invariant.so_far) _ c.in_err-now.ensures.cause)
+
+pub between-loop-at-preserved : goal.between-loop-at-preserved
+between-loop-at-preserved t c =
+    let n = c.args.self.turns in
+    let r = c.args.self.attempts in
+    let xs = c.args.b.now.stmts.items in
+    let b = between c.args.from c.args.to xs in
+    let lt : c.loop-at.at < length xs = omega (arith, c.loop-at-test.true, c.requires.inside) in
+    let p = part_step xs c.loop-at.at c.args.to c.index.result.now lt c.loop-at-test.true c.index.ensures in
+    let w = subst (λ s. StatementIsWeighed (statement_of s)) (sym c.index.ensures) (weighed_at xs c.loop-at.at c.index.result.now lt c.requires.weights) in
+    record {
+      vars = c.in_ok-now.ensures.vars ∙ c.loop-at.invariant.vars;
+      so_far = goes_next n r b c.args.table.states.entries c.args.ended.now _ _ c.loop-at.now.states.entries c.loop-at.ended c.loop-at.now.once
+          (goes_as n r b _ _ c.args.table.states.entries _ c.args.ended.now _ p c.loop-at.invariant.so_far) w _ _ c.in_ok-now.ensures.ok;
+    }
+
+pub between-returns-clause-ok : goal.between-returns-clause-ok
+between-returns-clause-ok t c =
+    goes_between c.args.self.turns c.args.self.attempts c.args.from c.loop-at.at c.args.to c.args.b.now.stmts.items c.args.table.states.entries _ c.args.ended.now _ (omega (arith, c.loop-at-test.false)) c.loop-at.now.once
+    c.loop-at.invariant.so_far
+
+pub from_to-loop-s-init : goal.from_to-loop-s-init
+from_to-loop-s-init t c =
+    let n = c.args.self.turns in
+    let r = c.args.self.attempts in
+    let b = between c.args.from c.args.to c.args.b.now.stmts.items in
+    record {
+      next = tt;
+      finite = tt;
+      vars = c.new-out.ensures.vars;
+      so_far = states_start n r b c.args.table.states.entries c.args.ended.now c.args.table.once (c.requires.once (omega (arith, c.requires.above, c.if-to-from-eq1.false))) (weighed_between c.args.from c.args.to c.args.b.now.stmts.items c.requires.weights) _ _
+          c.new-out.ensures.empty c.into_iter-s-iterator.ensures.into_iter_gives.0 c.requires.within;
+    }
+
+pub from_to-one_state-requires : goal.from_to-one_state-requires
+from_to-one_state-requires t c =
+    let n = c.args.self.turns in
+    let r = c.args.self.attempts in
+    let b = between c.args.from c.args.to c.args.b.now.stmts.items in
+    record {
+      sized = sized_at _ _ c.args.table.sized (λ e. e) _ _ _ _ _ _ c.into_iter-s-iterator.ensures.into_iter_gives.0 c.loop-s.yielded_by c.in-Some.is c.next.ensures.steps ∙ sym c.loop-s.invariant.vars;
+      within = units_room n r b c.args.table.states.entries c.args.ended.now c.args.table.once _ c.next.new.self c.loop-s.out.states.entries c.in-Some.s c.in-Some.w c.loop-s.ended c.in-Some.ensures.steps c.loop-s.invariant.so_far;
+    }
+
+pub from_to-returns-in_err-one-clause-cause : goal.from_to-returns-in_err-one-clause-cause
+from_to-returns-in_err-one-clause-cause t c =
+    let n = c.args.self.turns in
+    let r = c.args.self.attempts in
+    let b = between c.args.from c.args.to c.args.b.now.stmts.items in
+    let out : c.from_residual.result ≡ Err c.in_err-one.field-0.0 = grind arith in
+    rw out (states_short n r b c.args.table.states.entries c.args.ended.now c.args.table.once _ c.in_err-one.ensures.cause)
+
+pub from_to-between-requires-in-loop-s : goal.from_to-between-requires-in-loop-s
+from_to-between-requires-in-loop-s t c =
+    let n = c.args.self.turns in
+    let r = c.args.self.attempts in
+    let b = between c.args.from c.args.to c.args.b.now.stmts.items in (
+      search (rules, the_lemmas),
+      (
+        subst (λ m. BlockBelow m (statements_of c.args.b.now)) (sym (c.in_ok-one.ensures.vars ∙ c.loop-s.invariant.vars)) c.requires.below,
+        (c.requires.weights, (c.requires.inside, state_room n r b c.args.table.states.entries c.args.ended.now c.args.table.once _ c.next.new.self c.loop-s.out.states.entries c.in-Some.s c.in-Some.w c.loop-s.ended c.in-Some.ensures.steps c.loop-s.invariant.so_far c.in_ok-one.one.states.entries c.in_ok-one.one.once c.in_ok-one.ensures.one)),
+      ),
+    )
+
+pub from_to-returns-in_err-left-clause-cause : goal.from_to-returns-in_err-left-clause-cause
+from_to-returns-in_err-left-clause-cause t c =
+    let n = c.args.self.turns in
+    let r = c.args.self.attempts in
+    let b = between c.args.from c.args.to c.args.b.now.stmts.items in
+    let out : c.from_residual-in_err-left.result ≡ Err c.in_err-left.field-0.0 = grind arith in
+    rw out (state_fails n r b c.args.table.states.entries c.args.ended.now c.args.table.once _ c.next.new.self c.loop-s.out.states.entries c.in-Some.s c.in-Some.w c.loop-s.ended c.in-Some.ensures.steps c.loop-s.invariant.so_far c.in_ok-one.one.states.entries c.in_ok-one.one.once c.in_ok-one.ensures.one _ c.in_err-left.ensures.cause)
+
+pub from_to-merge-requires : goal.from_to-merge-requires
+from_to-merge-requires t c =
+    let n = c.args.self.turns in
+    let r = c.args.self.attempts in
+    let b = between c.args.from c.args.to c.args.b.now.stmts.items in
+    record {
+      vars = c.in_ok-left.ensures.vars ∙ c.in_ok-one.ensures.vars;
+      within = state_merge_room n r b c.args.table.states.entries c.args.ended.now c.args.table.once _ c.next.new.self c.loop-s.out.states.entries c.in-Some.s c.in-Some.w c.loop-s.ended c.in-Some.ensures.steps c.loop-s.invariant.so_far c.in_ok-one.one.states.entries c.in_ok-one.one.once c.in_ok-one.ensures.one _ _ c.in_ok-left.ensures.ok (weighed_between c.args.from c.args.to c.args.b.now.stmts.items c.requires.weights);
+    }
+
+pub from_to-returns-in_err-merge-clause-cause : goal.from_to-returns-in_err-merge-clause-cause
+from_to-returns-in_err-merge-clause-cause t c =
+    let n = c.args.self.turns in
+    let r = c.args.self.attempts in
+    let b = between c.args.from c.args.to c.args.b.now.stmts.items in
+    let out : c.from_residual-in_err-merge.result ≡ Err c.in_err-merge.field-0.0 = grind arith in
+    rw out (state_merge_fails n r b c.args.table.states.entries c.args.ended.now c.args.table.once _ c.next.new.self c.loop-s.out.states.entries c.in-Some.s c.in-Some.w c.loop-s.ended c.in-Some.ensures.steps c.loop-s.invariant.so_far c.in_ok-one.one.states.entries c.in_ok-one.one.once c.in_ok-one.ensures.one _ _ c.in_ok-left.ensures.ok _ c.in_err-merge.ensures.cause)
+
+pub from_to-loop-s-preserved : goal.from_to-loop-s-preserved
+from_to-loop-s-preserved t c =
+    let n = c.args.self.turns in
+    let r = c.args.self.attempts in
+    let b = between c.args.from c.args.to c.args.b.now.stmts.items in
+    record {
+      next = tt;
+      finite = tt;
+      vars = c.merge.ensures.vars ∙ c.loop-s.invariant.vars;
+      so_far = state_turn n r b c.args.table.states.entries c.args.ended.now c.args.table.once _ c.next.new.self c.loop-s.out.states.entries c.in-Some.s c.in-Some.w c.loop-s.ended c.in-Some.ensures.steps c.loop-s.invariant.so_far c.in_ok-one.one.states.entries c.in_ok-one.one.once c.in_ok-one.ensures.one _ _ c.in_ok-left.ensures.ok (weighed_between c.args.from c.args.to c.args.b.now.stmts.items c.requires.weights) _ c.in_ok-merge.ensures.ok;
+    }
+
+pub from_to-returns-clause-ok : goal.from_to-returns-clause-ok
+from_to-returns-clause-ok t c =
+    let n = c.args.self.turns in
+    let r = c.args.self.attempts in
+    let b = between c.args.from c.args.to c.args.b.now.stmts.items in
+    states_end n r b c.args.table.states.entries c.args.ended.now c.args.table.once _ c.loop-s.out.states.entries c.loop-s.ended c.in-None.ensures.steps.0 c.loop-s.out.once c.loop-s.invariant.so_far
 
 pub stmt-returns-then-len-eq0-clause-ok : goal.stmt-returns-then-len-eq0-clause-ok
 stmt-returns-then-len-eq0-clause-ok t c = empty_gives c.args.self.turns c.args.self.attempts _ c.requires.weights c.args.table.states.entries c.args.ended.now (no_states c.args.table.states.entries (sym c.len.ensures.len ∙ c.if-len-eq0.true)) c.args.table.once

@@ -1,9 +1,11 @@
-use Rattle.std.proofs.Common.{◌≡◌, ◌≤◌, ℕ, drop, ◌-◌}
+use Rattle.std.proofs.Common.{◌≡◌, ◌≤◌, drop, length, ◌-◌}
 use Rattle.std.specs.List.{sum}
 use Rattle.gcl_core.specs.meaning.Arms.{parts_of}
-use Rattle.gcl_core.specs.meaning.Bounds.{BlockIsWeighed, BlockBelow, ArmsAreWeighed, ArmsBelow}
+use Rattle.gcl_core.specs.meaning.Bounds.{ArmsAreWeighed, ArmsBelow}
 use Rattle.gcl_core.specs.meaning.Views.{list_of, arm_list_of, list_of_arms, expression_of, statements_of}
 use Rattle.mass_fold.proofs.ArmsLeft.{parts_left}
+use Rattle.enclose_fold.specs.inner.Between.{between}
+use Rattle.enclose_fold.proofs.ByStates.{StatesAt}
 use Rattle.enclose_fold.proofs.CycleArms.{ArmsAt}
 use Rattle.enclose_fold.proofs.CycleFlows.{Goes}
 use Rattle.gcl_core.specs.meaning.Value.{value_of}
@@ -20,12 +22,28 @@ invariant-arms-loop-count l = record {
       (arm_list_of (drop l.count-index l.count-items)) l.out.states.entries l.ended;
 }
 
-abbrev pub invariant-block-loop-s : goal.invariant-block-loop-s
-invariant-block-loop-s l = record {
-  below : (m : ℕ) → BlockBelow m (list_of l.s-items) → BlockBelow m (list_of (drop l.s-index l.s-items));
-  weights : BlockIsWeighed (list_of l.s-items) → BlockIsWeighed (list_of (drop l.s-index l.s-items));
+abbrev pub decreases-block-loop-from : goal.decreases-block-loop-from
+decreases-block-loop-from l = length l.b.stmts.items - l.from
+
+abbrev pub invariant-block-loop-from : goal.invariant-block-loop-from
+invariant-block-loop-from l = record {
+  place : l.from ≤ length l.b.stmts.items;
   vars : l.now.vars ≡ l.fn.table.vars;
-  so_far : Goes l.self.turns l.self.attempts (list_of l.s-items) l.fn.table.states.entries l.fn.ended (list_of (drop l.s-index l.s-items)) l.now.states.entries l.ended;
+  so_far : Goes l.self.turns l.self.attempts (list_of l.b.stmts.items) l.fn.table.states.entries l.fn.ended (list_of (drop l.from l.b.stmts.items)) l.now.states.entries l.ended;
+}
+
+abbrev pub invariant-between-loop-at : goal.invariant-between-loop-at
+invariant-between-loop-at l = record {
+  vars : l.now.vars ≡ l.fn.table.vars;
+  so_far : Goes l.self.turns l.self.attempts (between l.from l.to l.b.stmts.items) l.fn.table.states.entries l.fn.ended (between l.at l.to l.b.stmts.items) l.now.states.entries l.ended;
+}
+
+abbrev pub invariant-from_to-loop-s : goal.invariant-from_to-loop-s
+invariant-from_to-loop-s l = record {
+  next : (goal.iterator-from_to-loop-s).can_next l.s-iterator;
+  finite : (goal.iterator-from_to-loop-s).is_finite l.s-iterator;
+  vars : l.out.vars ≡ l.fn.table.vars;
+  so_far : StatesAt l.self.turns l.self.attempts (between l.from l.to l.b.stmts.items) l.fn.table.states.entries l.fn.ended l.fn.table.once l.s-iterator l.out.states.entries l.ended;
 }
 
 abbrev pub invariant-while_loop-loop : goal.invariant-while_loop-loop
