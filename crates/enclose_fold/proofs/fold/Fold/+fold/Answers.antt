@@ -130,14 +130,15 @@ between-returns-clause-ok t c =
 
 pub from_to-loop-s-init : goal.from_to-loop-s-init
 from_to-loop-s-init t c =
-    let n = c.args.self.turns in
-    let r = c.args.self.attempts in
-    let b = between c.args.from c.args.to c.args.b.now.stmts.items in
+    let turns = c.args.self.turns in
+    let attempts = c.args.self.attempts in
+    let stretch = between c.args.from c.args.to c.args.b.now.stmts.items in
     record {
       next = tt;
       finite = tt;
       vars = c.new-out.ensures.vars;
-      so_far = states_start n r b c.args.table.states.entries c.args.ended.now c.args.table.once (c.requires.once (omega (arith, c.requires.above, c.if-to-from-eq1.false))) (weighed_between c.args.from c.args.to c.args.b.now.stmts.items c.requires.weights) _ _
+      so_far = states_start turns attempts stretch c.args.table.states.entries c.args.ended.now c.args.table.once (c.requires.once (omega (arith, c.requires.above, c.if-to-from-eq1.false)))
+          (weighed_between c.args.from c.args.to c.args.b.now.stmts.items c.requires.weights) _ _
           c.new-out.ensures.empty c.into_iter-s-iterator.ensures.into_iter_gives.0 c.requires.within;
     }
 
@@ -161,52 +162,67 @@ from_to-returns-in_err-one-clause-cause t c =
 
 pub from_to-between-requires-in-loop-s : goal.from_to-between-requires-in-loop-s
 from_to-between-requires-in-loop-s t c =
-    let n = c.args.self.turns in
-    let r = c.args.self.attempts in
-    let b = between c.args.from c.args.to c.args.b.now.stmts.items in (
+    let turns = c.args.self.turns in
+    let attempts = c.args.self.attempts in
+    let stretch = between c.args.from c.args.to c.args.b.now.stmts.items in (
       search (rules, the_lemmas),
       (
         subst (λ m. BlockBelow m (statements_of c.args.b.now)) (sym (c.in_ok-one.ensures.vars ∙ c.loop-s.invariant.vars)) c.requires.below,
-        (c.requires.weights, (c.requires.inside, state_room n r b c.args.table.states.entries c.args.ended.now c.args.table.once _ c.next.new.self c.loop-s.out.states.entries c.in-Some.s c.in-Some.w c.loop-s.ended c.in-Some.ensures.steps c.loop-s.invariant.so_far c.in_ok-one.one.states.entries c.in_ok-one.one.once c.in_ok-one.ensures.one)),
+        (
+          c.requires.weights,
+          (
+            c.requires.inside,
+            state_room turns attempts stretch c.args.table.states.entries c.args.ended.now c.args.table.once _ c.next.new.self
+                c.loop-s.out.states.entries c.in-Some.s c.in-Some.w c.loop-s.ended c.in-Some.ensures.steps c.loop-s.invariant.so_far c.in_ok-one.one.states.entries c.in_ok-one.one.once
+                c.in_ok-one.ensures.one,
+          ),
+        ),
       ),
     )
 
 pub from_to-returns-in_err-left-clause-cause : goal.from_to-returns-in_err-left-clause-cause
 from_to-returns-in_err-left-clause-cause t c =
-    let n = c.args.self.turns in
-    let r = c.args.self.attempts in
-    let b = between c.args.from c.args.to c.args.b.now.stmts.items in
+    let turns = c.args.self.turns in
+    let attempts = c.args.self.attempts in
+    let stretch = between c.args.from c.args.to c.args.b.now.stmts.items in
     let out : c.from_residual-in_err-left.result ≡ Err c.in_err-left.field-0.0 = grind arith in
-    rw out (state_fails n r b c.args.table.states.entries c.args.ended.now c.args.table.once _ c.next.new.self c.loop-s.out.states.entries c.in-Some.s c.in-Some.w c.loop-s.ended c.in-Some.ensures.steps c.loop-s.invariant.so_far c.in_ok-one.one.states.entries c.in_ok-one.one.once c.in_ok-one.ensures.one _ c.in_err-left.ensures.cause)
+    rw out (state_fails turns attempts stretch c.args.table.states.entries c.args.ended.now c.args.table.once _ c.next.new.self c.loop-s.out.states.entries c.in-Some.s c.in-Some.w
+    c.loop-s.ended c.in-Some.ensures.steps c.loop-s.invariant.so_far c.in_ok-one.one.states.entries c.in_ok-one.one.once c.in_ok-one.ensures.one _ c.in_err-left.ensures.cause)
 
 pub from_to-merge-requires : goal.from_to-merge-requires
 from_to-merge-requires t c =
-    let n = c.args.self.turns in
-    let r = c.args.self.attempts in
-    let b = between c.args.from c.args.to c.args.b.now.stmts.items in
+    let turns = c.args.self.turns in
+    let attempts = c.args.self.attempts in
+    let stretch = between c.args.from c.args.to c.args.b.now.stmts.items in
     record {
       vars = c.in_ok-left.ensures.vars ∙ c.in_ok-one.ensures.vars;
-      within = state_merge_room n r b c.args.table.states.entries c.args.ended.now c.args.table.once _ c.next.new.self c.loop-s.out.states.entries c.in-Some.s c.in-Some.w c.loop-s.ended c.in-Some.ensures.steps c.loop-s.invariant.so_far c.in_ok-one.one.states.entries c.in_ok-one.one.once c.in_ok-one.ensures.one _ _ c.in_ok-left.ensures.ok (weighed_between c.args.from c.args.to c.args.b.now.stmts.items c.requires.weights);
+      within = state_merge_room turns attempts stretch c.args.table.states.entries c.args.ended.now c.args.table.once _ c.next.new.self c.loop-s.out.states.entries c.in-Some.s c.in-Some.w
+          c.loop-s.ended c.in-Some.ensures.steps c.loop-s.invariant.so_far c.in_ok-one.one.states.entries c.in_ok-one.one.once c.in_ok-one.ensures.one _ _ c.in_ok-left.ensures.ok
+          (weighed_between c.args.from c.args.to c.args.b.now.stmts.items c.requires.weights);
     }
 
 pub from_to-returns-in_err-merge-clause-cause : goal.from_to-returns-in_err-merge-clause-cause
 from_to-returns-in_err-merge-clause-cause t c =
-    let n = c.args.self.turns in
-    let r = c.args.self.attempts in
-    let b = between c.args.from c.args.to c.args.b.now.stmts.items in
+    let turns = c.args.self.turns in
+    let attempts = c.args.self.attempts in
+    let stretch = between c.args.from c.args.to c.args.b.now.stmts.items in
     let out : c.from_residual-in_err-merge.result ≡ Err c.in_err-merge.field-0.0 = grind arith in
-    rw out (state_merge_fails n r b c.args.table.states.entries c.args.ended.now c.args.table.once _ c.next.new.self c.loop-s.out.states.entries c.in-Some.s c.in-Some.w c.loop-s.ended c.in-Some.ensures.steps c.loop-s.invariant.so_far c.in_ok-one.one.states.entries c.in_ok-one.one.once c.in_ok-one.ensures.one _ _ c.in_ok-left.ensures.ok _ c.in_err-merge.ensures.cause)
+    rw out (state_merge_fails turns attempts stretch c.args.table.states.entries c.args.ended.now c.args.table.once _ c.next.new.self c.loop-s.out.states.entries c.in-Some.s c.in-Some.w
+    c.loop-s.ended c.in-Some.ensures.steps c.loop-s.invariant.so_far c.in_ok-one.one.states.entries c.in_ok-one.one.once c.in_ok-one.ensures.one _ _ c.in_ok-left.ensures.ok _
+    c.in_err-merge.ensures.cause)
 
 pub from_to-loop-s-preserved : goal.from_to-loop-s-preserved
 from_to-loop-s-preserved t c =
-    let n = c.args.self.turns in
-    let r = c.args.self.attempts in
-    let b = between c.args.from c.args.to c.args.b.now.stmts.items in
+    let turns = c.args.self.turns in
+    let attempts = c.args.self.attempts in
+    let stretch = between c.args.from c.args.to c.args.b.now.stmts.items in
     record {
       next = tt;
       finite = tt;
       vars = c.merge.ensures.vars ∙ c.loop-s.invariant.vars;
-      so_far = state_turn n r b c.args.table.states.entries c.args.ended.now c.args.table.once _ c.next.new.self c.loop-s.out.states.entries c.in-Some.s c.in-Some.w c.loop-s.ended c.in-Some.ensures.steps c.loop-s.invariant.so_far c.in_ok-one.one.states.entries c.in_ok-one.one.once c.in_ok-one.ensures.one _ _ c.in_ok-left.ensures.ok (weighed_between c.args.from c.args.to c.args.b.now.stmts.items c.requires.weights) _ c.in_ok-merge.ensures.ok;
+      so_far = state_turn turns attempts stretch c.args.table.states.entries c.args.ended.now c.args.table.once _ c.next.new.self c.loop-s.out.states.entries c.in-Some.s c.in-Some.w
+          c.loop-s.ended c.in-Some.ensures.steps c.loop-s.invariant.so_far c.in_ok-one.one.states.entries c.in_ok-one.one.once c.in_ok-one.ensures.one _ _ c.in_ok-left.ensures.ok
+          (weighed_between c.args.from c.args.to c.args.b.now.stmts.items c.requires.weights) _ c.in_ok-merge.ensures.ok;
     }
 
 pub from_to-returns-clause-ok : goal.from_to-returns-clause-ok
@@ -217,15 +233,27 @@ from_to-returns-clause-ok t c =
     states_end n r b c.args.table.states.entries c.args.ended.now c.args.table.once _ c.loop-s.out.states.entries c.loop-s.ended c.in-None.ensures.steps.0 c.loop-s.out.once c.loop-s.invariant.so_far
 
 pub stmt-returns-then-len-eq0-clause-ok : goal.stmt-returns-then-len-eq0-clause-ok
-stmt-returns-then-len-eq0-clause-ok t c = empty_gives c.args.self.turns c.args.self.attempts _ c.requires.weights c.args.table.states.entries c.args.ended.now (no_states c.args.table.states.entries (sym c.len.ensures.len ∙ c.if-len-eq0.true)) c.args.table.once
+stmt-returns-then-len-eq0-clause-ok t c =
+    let entries = c.args.table.states.entries in
+    empty_gives c.args.self.turns c.args.self.attempts _ c.requires.weights entries c.args.ended.now (no_states entries (sym c.len.ensures.len ∙ c.if-len-eq0.true)) c.args.table.once
 
 pub stmt-returns-in-Skip-clause-ok : goal.stmt-returns-in-Skip-clause-ok
-stmt-returns-in-Skip-clause-ok t c = gives_as c.args.self.turns c.args.self.attempts _ _ c.args.table.states.entries _ c.args.ended.now _ (ap statement_of c.in-Skip.is ∙ skip_view) (skip_gives c.args.self.turns c.args.self.attempts c.args.table.states.entries c.args.ended.now c.args.table.once)
+stmt-returns-in-Skip-clause-ok t c =
+    let entries = c.args.table.states.entries in
+    let ended = c.args.ended.now in
+    let turns = c.args.self.turns in
+    let attempts = c.args.self.attempts in
+    gives_as turns attempts _ _ entries _ ended _ (ap statement_of c.in-Skip.is ∙ skip_view) (skip_gives turns attempts entries ended c.args.table.once)
 
 pub stmt-returns-in-Set-clause-ok : goal.stmt-returns-in-Set-clause-ok
 stmt-returns-in-Set-clause-ok t c =
+    let entries = c.args.table.states.entries in
+    let ended = c.args.ended.now in
+    let turns = c.args.self.turns in
+    let attempts = c.args.self.attempts in
     ok_both c.assign.result _ _ _
-    (λ next a b. gives_as c.args.self.turns c.args.self.attempts _ _ c.args.table.states.entries _ c.args.ended.now _ (ap statement_of c.in-Set.is ∙ set_view c.in-Set.x c.in-Set.e) (set_gives c.args.self.turns c.args.self.attempts c.in-Set.x (expression_of c.in-Set.e) c.args.table.states.entries _ c.args.ended.now _ a b))
+    (λ next a b. gives_as turns attempts _ _ entries _ ended _ (ap statement_of c.in-Set.is ∙ set_view c.in-Set.x c.in-Set.e)
+    (set_gives turns attempts c.in-Set.x (expression_of c.in-Set.e) entries _ ended _ a b))
     c.assign.ensures.next c.assign.ensures.stopped
 
 pub stmt-returns-in-Set-clause-cause : goal.stmt-returns-in-Set-clause-cause
@@ -234,20 +262,34 @@ stmt-returns-in-Set-clause-cause t c =
 
 pub stmt-returns-in-Uniform-clause-ok : goal.stmt-returns-in-Uniform-clause-ok
 stmt-returns-in-Uniform-clause-ok t c =
+    let entries = c.args.table.states.entries in
+    let ended = c.args.ended.now in
+    let turns = c.args.self.turns in
+    let attempts = c.args.self.attempts in
     ok_both c.draw.result _ _ _
-    (λ next a b. gives_as c.args.self.turns c.args.self.attempts _ _ c.args.table.states.entries _ c.args.ended.now _ (ap statement_of c.in-Uniform.is ∙ uniform_view c.in-Uniform.x c.in-Uniform.e) (draw_gives c.args.self.turns c.args.self.attempts c.in-Uniform.x (expression_of c.in-Uniform.e) c.args.table.states.entries _ c.args.ended.now _ a b))
+    (λ next a b. gives_as turns attempts _ _ entries _ ended _ (ap statement_of c.in-Uniform.is ∙ uniform_view c.in-Uniform.x c.in-Uniform.e)
+    (draw_gives turns attempts c.in-Uniform.x (expression_of c.in-Uniform.e) entries _ ended _ a b))
     c.draw.ensures.next c.draw.ensures.stopped
 
 pub stmt-returns-in-Uniform-clause-cause : goal.stmt-returns-in-Uniform-clause-cause
 stmt-returns-in-Uniform-clause-cause t c =
+    let entries = c.args.table.states.entries in
+    let turns = c.args.self.turns in
+    let attempts = c.args.self.attempts in
     IfErr-weaker c.draw.result _ _
-    (λ e a. refused_as c.args.self.turns c.args.self.attempts _ _ c.args.table.states.entries e (ap statement_of c.in-Uniform.is ∙ uniform_view c.in-Uniform.x c.in-Uniform.e) (draw_refused c.args.self.turns c.args.self.attempts c.in-Uniform.x (expression_of c.in-Uniform.e) c.args.table.states.entries e a))
+    (λ e a. refused_as turns attempts _ _ entries e (ap statement_of c.in-Uniform.is ∙ uniform_view c.in-Uniform.x c.in-Uniform.e)
+    (draw_refused turns attempts c.in-Uniform.x (expression_of c.in-Uniform.e) entries e a))
     c.draw.ensures.cause
 
 pub stmt-returns-in_ok-first-in-Observe-clause-ok : goal.stmt-returns-in_ok-first-in-Observe-clause-ok
 stmt-returns-in_ok-first-in-Observe-clause-ok t c =
-    gives_as c.args.self.turns c.args.self.attempts _ _ c.args.table.states.entries _ c.args.ended.now _ (ap statement_of c.in-Observe.is ∙ observe_view c.in-Observe.e)
-    (observe_gives c.args.self.turns c.args.self.attempts (expression_of c.in-Observe.e) c.args.table.states.entries _ _ c.args.ended.now _ _ _ c.in_ok-first-in-Observe.ensures.first c.in_ok-first-in-Observe.ensures.second c.in_ok-first-in-Observe.ensures.stopped c.all_of.ensures c.add_failed.ensures)
+    let entries = c.args.table.states.entries in
+    let ended = c.args.ended.now in
+    let turns = c.args.self.turns in
+    let attempts = c.args.self.attempts in
+    gives_as turns attempts _ _ entries _ ended _ (ap statement_of c.in-Observe.is ∙ observe_view c.in-Observe.e)
+    (observe_gives turns attempts (expression_of c.in-Observe.e) entries _ _ ended _ _ _ c.in_ok-first-in-Observe.ensures.first c.in_ok-first-in-Observe.ensures.second
+    c.in_ok-first-in-Observe.ensures.stopped c.all_of.ensures c.add_failed.ensures)
 
 pub stmt-returns-in_err-first-in-Observe-clause-cause : goal.stmt-returns-in_err-first-in-Observe-clause-cause
 stmt-returns-in_err-first-in-Observe-clause-cause t c =
@@ -279,28 +321,65 @@ stmt-block-requires-in-If t c =
 
 pub stmt-returns-in_ok-merge-in-If-clause-ok : goal.stmt-returns-in_ok-merge-in-If-clause-ok
 stmt-returns-in_ok-merge-in-If-clause-ok t c =
-    gives_as c.args.self.turns c.args.self.attempts _ _ c.args.table.states.entries _ c.args.ended.now _ (ap statement_of c.in-If.is ∙ if_view c.in-If.e c.in-If.a c.in-If.c)
-    (both_give c.args.self.turns c.args.self.attempts (fault_units (value_of (expression_of c.in-If.e)) c.args.table.states.entries) (statements_of c.in-If.a) (statements_of c.in-If.c) (only_units (holds (value_of (expression_of c.in-If.e))) c.args.table.states.entries) (only_units (fails (value_of (expression_of c.in-If.e))) c.args.table.states.entries) _ _ _ _ _ c.in_ok-first-in-If.ensures.first c.in_ok-first-in-If.ensures.second c.args.ended.now _ _ _
+    let form = ap statement_of c.in-If.is ∙ if_view c.in-If.e c.in-If.a c.in-If.c in
+    let guard = value_of (expression_of c.in-If.e) in
+    let entries = c.args.table.states.entries in
+    let faults = fault_units guard entries in
+    let passing = only_units (holds guard) entries in
+    let failing = only_units (fails guard) entries in
+    let ended = c.args.ended.now in
+    let turns = c.args.self.turns in
+    let attempts = c.args.self.attempts in
+    gives_as turns attempts _ _ entries _ ended _ form
+    (both_give turns attempts faults (statements_of c.in-If.a) (statements_of c.in-If.c) passing failing _ _ _ _ _ c.in_ok-first-in-If.ensures.first c.in_ok-first-in-If.ensures.second ended
+    _ _ _
     c.in_ok-first-in-If.ensures.stopped c.in_ok-left-in-If.ensures.ok c.in_ok-right-in-If.ensures.ok c.in_ok-merge-in-If.ensures.ok)
 
 pub stmt-returns-in_err-merge-in-If-clause-cause : goal.stmt-returns-in_err-merge-in-If-clause-cause
 stmt-returns-in_err-merge-in-If-clause-cause t c =
+    let form = ap statement_of c.in-If.is ∙ if_view c.in-If.e c.in-If.a c.in-If.c in
+    let guard = value_of (expression_of c.in-If.e) in
+    let entries = c.args.table.states.entries in
+    let faults = fault_units guard entries in
+    let passing = only_units (holds guard) entries in
+    let failing = only_units (fails guard) entries in
+    let turns = c.args.self.turns in
+    let attempts = c.args.self.attempts in
     let out : c.from_residual-in_err-merge-in-If.result ≡ Err c.in_err-merge-in-If.field-0.0 = grind arith in
-    rw out (refused_as c.args.self.turns c.args.self.attempts _ _ c.args.table.states.entries _ (ap statement_of c.in-If.is ∙ if_view c.in-If.e c.in-If.a c.in-If.c)
-    (merge_refused c.args.self.turns c.args.self.attempts (fault_units (value_of (expression_of c.in-If.e)) c.args.table.states.entries) (statements_of c.in-If.a) (statements_of c.in-If.c) (only_units (holds (value_of (expression_of c.in-If.e))) c.args.table.states.entries) (only_units (fails (value_of (expression_of c.in-If.e))) c.args.table.states.entries) _ _ _ _ [] c.in_ok-first-in-If.ensures.first c.in_ok-first-in-If.ensures.second _ _ _ _
+    rw out (refused_as turns attempts _ _ entries _ form
+    (merge_refused turns attempts faults (statements_of c.in-If.a) (statements_of c.in-If.c) passing failing _ _ _ _ [] c.in_ok-first-in-If.ensures.first c.in_ok-first-in-If.ensures.second
+    _ _ _ _
     c.in_ok-left-in-If.ensures.ok c.in_ok-right-in-If.ensures.ok c.in_err-merge-in-If.ensures.cause))
 
 pub stmt-returns-in_err-right-in-If-clause-cause : goal.stmt-returns-in_err-right-in-If-clause-cause
 stmt-returns-in_err-right-in-If-clause-cause t c =
+    let form = ap statement_of c.in-If.is ∙ if_view c.in-If.e c.in-If.a c.in-If.c in
+    let guard = value_of (expression_of c.in-If.e) in
+    let entries = c.args.table.states.entries in
+    let faults = fault_units guard entries in
+    let passing = only_units (holds guard) entries in
+    let failing = only_units (fails guard) entries in
+    let turns = c.args.self.turns in
+    let attempts = c.args.self.attempts in
     let out : c.from_residual-in_err-right-in-If.result ≡ Err c.in_err-right-in-If.field-0.0 = grind arith in
-    rw out (refused_as c.args.self.turns c.args.self.attempts _ _ c.args.table.states.entries _ (ap statement_of c.in-If.is ∙ if_view c.in-If.e c.in-If.a c.in-If.c)
-    (second_refused c.args.self.turns c.args.self.attempts (fault_units (value_of (expression_of c.in-If.e)) c.args.table.states.entries) (statements_of c.in-If.a) (statements_of c.in-If.c) (only_units (holds (value_of (expression_of c.in-If.e))) c.args.table.states.entries) (only_units (fails (value_of (expression_of c.in-If.e))) c.args.table.states.entries) _ _ [] [] [] c.in_ok-first-in-If.ensures.first c.in_ok-first-in-If.ensures.second _ c.in_err-right-in-If.ensures.cause))
+    rw out (refused_as turns attempts _ _ entries _ form
+    (second_refused turns attempts faults (statements_of c.in-If.a) (statements_of c.in-If.c) passing failing _ _ [] [] [] c.in_ok-first-in-If.ensures.first
+    c.in_ok-first-in-If.ensures.second _ c.in_err-right-in-If.ensures.cause))
 
 pub stmt-returns-in_err-left-in-If-clause-cause : goal.stmt-returns-in_err-left-in-If-clause-cause
 stmt-returns-in_err-left-in-If-clause-cause t c =
+    let form = ap statement_of c.in-If.is ∙ if_view c.in-If.e c.in-If.a c.in-If.c in
+    let guard = value_of (expression_of c.in-If.e) in
+    let entries = c.args.table.states.entries in
+    let faults = fault_units guard entries in
+    let passing = only_units (holds guard) entries in
+    let failing = only_units (fails guard) entries in
+    let turns = c.args.self.turns in
+    let attempts = c.args.self.attempts in
     let out : c.from_residual-in_err-left-in-If.result ≡ Err c.in_err-left-in-If.field-0.0 = grind arith in
-    rw out (refused_as c.args.self.turns c.args.self.attempts _ _ c.args.table.states.entries _ (ap statement_of c.in-If.is ∙ if_view c.in-If.e c.in-If.a c.in-If.c)
-    (first_refused c.args.self.turns c.args.self.attempts (fault_units (value_of (expression_of c.in-If.e)) c.args.table.states.entries) (statements_of c.in-If.a) (statements_of c.in-If.c) (only_units (holds (value_of (expression_of c.in-If.e))) c.args.table.states.entries) (only_units (fails (value_of (expression_of c.in-If.e))) c.args.table.states.entries) _ _ [] [] [] c.in_ok-first-in-If.ensures.first c.in_ok-first-in-If.ensures.second _ c.in_err-left-in-If.ensures.cause))
+    rw out (refused_as turns attempts _ _ entries _ form
+    (first_refused turns attempts faults (statements_of c.in-If.a) (statements_of c.in-If.c) passing failing _ _ [] [] [] c.in_ok-first-in-If.ensures.first
+    c.in_ok-first-in-If.ensures.second _ c.in_err-left-in-If.ensures.cause))
 
 pub stmt-returns-in_err-first-in-If-clause-cause : goal.stmt-returns-in_err-first-in-If-clause-cause
 stmt-returns-in_err-first-in-If-clause-cause t c =
@@ -314,7 +393,8 @@ stmt-while_loop-requires t c =
 
 pub stmt-returns-in-While-clause-ok : goal.stmt-returns-in-While-clause-ok
 stmt-returns-in-While-clause-ok t c =
-    IfOk-weaker c.while_loop.result _ _ (λ next a. gives_as c.args.self.turns c.args.self.attempts _ _ c.args.table.states.entries _ c.args.ended.now _ (ap statement_of c.in-While.is ∙ while_view c.in-While.e c.in-While.body) a) c.while_loop.ensures.ok
+    IfOk-weaker c.while_loop.result _ _ (λ next a. gives_as c.args.self.turns c.args.self.attempts _ _ c.args.table.states.entries _ c.args.ended.now _
+    (ap statement_of c.in-While.is ∙ while_view c.in-While.e c.in-While.body) a) c.while_loop.ensures.ok
 
 pub stmt-returns-in-While-clause-cause : goal.stmt-returns-in-While-clause-cause
 stmt-returns-in-While-clause-cause t c =
@@ -575,49 +655,108 @@ while_loop-returns-clause-ok t c =
 
 pub stmt-block-requires-in-Choice : goal.stmt-block-requires-in-Choice
 stmt-block-requires-in-Choice t c =
-    let q = (ap statement_of c.in-Choice.is ∙ choice_view c.in-Choice.p c.in-Choice.a c.in-Choice.c) in
-    let g = choice_room c.args.self.turns c.args.self.attempts c.in-Choice.p (weights_as _ _ q c.requires.weights).0 c.args.table.states.entries _ _ c.args.ended.now _ c.args.table.once (side_as c.args.table.states.entries c.in-Choice.p.num _ c.in-Choice.p.den _ c.args.self.attempts _ c.of-odds.ensures.bound c.of-odds.ensures.attempts c.in_ok-first-in-Choice.ensures.next) (side_as c.args.table.states.entries (c.in-Choice.p.den - c.in-Choice.p.num) _ c.in-Choice.p.den _ c.args.self.attempts _ c.of-odds.ensures.bound c.of-odds.ensures.attempts c.in_ok-second-in-Choice.ensures.next) (rest_as c.args.table.states.entries _ c.in-Choice.p.den _ c.args.self.attempts c.args.ended.now _ c.of-odds.ensures.bound c.of-odds.ensures.attempts c.undecided.ensures) in (
+    let entries = c.args.table.states.entries in
+    let ended = c.args.ended.now in
+    let attempts = c.args.self.attempts in
+    let first = side_as entries c.in-Choice.p.num _ c.in-Choice.p.den _ attempts _ c.of-odds.ensures.bound c.of-odds.ensures.attempts c.in_ok-first-in-Choice.ensures.next in
+    let second = side_as entries (c.in-Choice.p.den - c.in-Choice.p.num) _ c.in-Choice.p.den _ attempts _ c.of-odds.ensures.bound c.of-odds.ensures.attempts
+    c.in_ok-second-in-Choice.ensures.next in
+    let undecided = rest_as entries _ c.in-Choice.p.den _ attempts ended _ c.of-odds.ensures.bound c.of-odds.ensures.attempts c.undecided.ensures in
+    let form = ap statement_of c.in-Choice.is ∙ choice_view c.in-Choice.p c.in-Choice.a c.in-Choice.c in
+    let g = choice_room c.args.self.turns attempts c.in-Choice.p (weights_as _ _ form c.requires.weights).0 entries _ _ ended _ c.args.table.once first second undecided in (
       search (rules, the_lemmas),
       (
-        subst (λ m. BlockBelow m (statements_of c.in-Choice.a)) (sym c.in_ok-first-in-Choice.ensures.vars) (below_as _ _ _ q c.requires.below).0,
-        ((weights_as _ _ q c.requires.weights).1, omega (arith, g, c.requires.within)),
+        subst (λ m. BlockBelow m (statements_of c.in-Choice.a)) (sym c.in_ok-first-in-Choice.ensures.vars) (below_as _ _ _ form c.requires.below).0,
+        ((weights_as _ _ form c.requires.weights).1, omega (arith, g, c.requires.within)),
       ),
     )
 
 pub stmt-block-requires-in-Choice-2 : goal.stmt-block-requires-in-Choice-2
 stmt-block-requires-in-Choice-2 t c =
-    let q = (ap statement_of c.in-Choice.is ∙ choice_view c.in-Choice.p c.in-Choice.a c.in-Choice.c) in
-    let g = choice_room c.args.self.turns c.args.self.attempts c.in-Choice.p (weights_as _ _ q c.requires.weights).0 c.args.table.states.entries _ _ c.args.ended.now _ c.args.table.once (side_as c.args.table.states.entries c.in-Choice.p.num _ c.in-Choice.p.den _ c.args.self.attempts _ c.of-odds.ensures.bound c.of-odds.ensures.attempts c.in_ok-first-in-Choice.ensures.next) (side_as c.args.table.states.entries (c.in-Choice.p.den - c.in-Choice.p.num) _ c.in-Choice.p.den _ c.args.self.attempts _ c.of-odds.ensures.bound c.of-odds.ensures.attempts c.in_ok-second-in-Choice.ensures.next) (rest_as c.args.table.states.entries _ c.in-Choice.p.den _ c.args.self.attempts c.args.ended.now _ c.of-odds.ensures.bound c.of-odds.ensures.attempts c.undecided.ensures) in
-    let l = block_spends c.args.self.turns c.args.self.attempts (statements_of c.in-Choice.a) (weights_as _ _ q c.requires.weights).1 _ _ _ _ c.in_ok-left-in-Choice.ensures.ok in (
+    let entries = c.args.table.states.entries in
+    let ended = c.args.ended.now in
+    let turns = c.args.self.turns in
+    let attempts = c.args.self.attempts in
+    let first = side_as entries c.in-Choice.p.num _ c.in-Choice.p.den _ attempts _ c.of-odds.ensures.bound c.of-odds.ensures.attempts c.in_ok-first-in-Choice.ensures.next in
+    let second = side_as entries (c.in-Choice.p.den - c.in-Choice.p.num) _ c.in-Choice.p.den _ attempts _ c.of-odds.ensures.bound c.of-odds.ensures.attempts
+    c.in_ok-second-in-Choice.ensures.next in
+    let undecided = rest_as entries _ c.in-Choice.p.den _ attempts ended _ c.of-odds.ensures.bound c.of-odds.ensures.attempts c.undecided.ensures in
+    let form = ap statement_of c.in-Choice.is ∙ choice_view c.in-Choice.p c.in-Choice.a c.in-Choice.c in
+    let g = choice_room turns attempts c.in-Choice.p (weights_as _ _ form c.requires.weights).0 entries _ _ ended _ c.args.table.once first second undecided in
+    let l = block_spends turns attempts (statements_of c.in-Choice.a) (weights_as _ _ form c.requires.weights).1 _ _ _ _ c.in_ok-left-in-Choice.ensures.ok in (
       search (rules, the_lemmas),
       (
-        subst (λ m. BlockBelow m (statements_of c.in-Choice.c)) (sym c.in_ok-second-in-Choice.ensures.vars) (below_as _ _ _ q c.requires.below).1,
-        ((weights_as _ _ q c.requires.weights).2, omega (arith, g, l, c.requires.within)),
+        subst (λ m. BlockBelow m (statements_of c.in-Choice.c)) (sym c.in_ok-second-in-Choice.ensures.vars) (below_as _ _ _ form c.requires.below).1,
+        ((weights_as _ _ form c.requires.weights).2, omega (arith, g, l, c.requires.within)),
       ),
     )
 
 pub stmt-returns-in_ok-merge-in-Choice-clause-ok : goal.stmt-returns-in_ok-merge-in-Choice-clause-ok
 stmt-returns-in_ok-merge-in-Choice-clause-ok t c =
-    gives_as c.args.self.turns c.args.self.attempts _ _ c.args.table.states.entries _ c.args.ended.now _ (ap statement_of c.in-Choice.is ∙ choice_view c.in-Choice.p c.in-Choice.a c.in-Choice.c)
-    (both_give c.args.self.turns c.args.self.attempts (end_units (limit Attempts) (rest_units down c.in-Choice.p.den c.args.self.attempts c.args.table.states.entries)) (statements_of c.in-Choice.a) (statements_of c.in-Choice.c) (class_units down c.in-Choice.p.den c.args.self.attempts c.in-Choice.p.num c.args.table.states.entries) (class_units down c.in-Choice.p.den c.args.self.attempts (c.in-Choice.p.den - c.in-Choice.p.num) c.args.table.states.entries) _ _ _ _ _ (side_as c.args.table.states.entries c.in-Choice.p.num _ c.in-Choice.p.den _ c.args.self.attempts _ c.of-odds.ensures.bound c.of-odds.ensures.attempts c.in_ok-first-in-Choice.ensures.next) (side_as c.args.table.states.entries (c.in-Choice.p.den - c.in-Choice.p.num) _ c.in-Choice.p.den _ c.args.self.attempts _ c.of-odds.ensures.bound c.of-odds.ensures.attempts c.in_ok-second-in-Choice.ensures.next) c.args.ended.now _ _ _
-    (rest_as c.args.table.states.entries _ c.in-Choice.p.den _ c.args.self.attempts c.args.ended.now _ c.of-odds.ensures.bound c.of-odds.ensures.attempts c.undecided.ensures) c.in_ok-left-in-Choice.ensures.ok c.in_ok-right-in-Choice.ensures.ok c.in_ok-merge-in-Choice.ensures.ok)
+    let form = ap statement_of c.in-Choice.is ∙ choice_view c.in-Choice.p c.in-Choice.a c.in-Choice.c in
+    let entries = c.args.table.states.entries in
+    let ended = c.args.ended.now in
+    let turns = c.args.self.turns in
+    let attempts = c.args.self.attempts in
+    let first = side_as entries c.in-Choice.p.num _ c.in-Choice.p.den _ attempts _ c.of-odds.ensures.bound c.of-odds.ensures.attempts c.in_ok-first-in-Choice.ensures.next in
+    let second = side_as entries (c.in-Choice.p.den - c.in-Choice.p.num) _ c.in-Choice.p.den _ attempts _ c.of-odds.ensures.bound c.of-odds.ensures.attempts
+    c.in_ok-second-in-Choice.ensures.next in
+    let undecided = rest_as entries _ c.in-Choice.p.den _ attempts ended _ c.of-odds.ensures.bound c.of-odds.ensures.attempts c.undecided.ensures in
+    let rest = end_units (limit Attempts) (rest_units down c.in-Choice.p.den attempts entries) in
+    let one_part = class_units down c.in-Choice.p.den attempts c.in-Choice.p.num entries in
+    let other_part = class_units down c.in-Choice.p.den attempts (c.in-Choice.p.den - c.in-Choice.p.num) entries in
+    gives_as turns attempts _ _ entries _ ended _ form
+    (both_give turns attempts rest (statements_of c.in-Choice.a) (statements_of c.in-Choice.c) one_part other_part _ _ _ _ _ first second ended _ _ _
+    undecided c.in_ok-left-in-Choice.ensures.ok c.in_ok-right-in-Choice.ensures.ok c.in_ok-merge-in-Choice.ensures.ok)
 
 pub stmt-returns-in_err-merge-in-Choice-clause-cause : goal.stmt-returns-in_err-merge-in-Choice-clause-cause
 stmt-returns-in_err-merge-in-Choice-clause-cause t c =
+    let form = ap statement_of c.in-Choice.is ∙ choice_view c.in-Choice.p c.in-Choice.a c.in-Choice.c in
+    let entries = c.args.table.states.entries in
+    let turns = c.args.self.turns in
+    let attempts = c.args.self.attempts in
+    let first = side_as entries c.in-Choice.p.num _ c.in-Choice.p.den _ attempts _ c.of-odds.ensures.bound c.of-odds.ensures.attempts c.in_ok-first-in-Choice.ensures.next in
+    let second = side_as entries (c.in-Choice.p.den - c.in-Choice.p.num) _ c.in-Choice.p.den _ attempts _ c.of-odds.ensures.bound c.of-odds.ensures.attempts
+    c.in_ok-second-in-Choice.ensures.next in
+    let rest = end_units (limit Attempts) (rest_units down c.in-Choice.p.den attempts entries) in
+    let one_part = class_units down c.in-Choice.p.den attempts c.in-Choice.p.num entries in
+    let other_part = class_units down c.in-Choice.p.den attempts (c.in-Choice.p.den - c.in-Choice.p.num) entries in
     let out : c.from_residual-in_err-merge-in-Choice.result ≡ Err c.in_err-merge-in-Choice.field-0.0 = grind arith in
-    rw out (refused_as c.args.self.turns c.args.self.attempts _ _ c.args.table.states.entries _ (ap statement_of c.in-Choice.is ∙ choice_view c.in-Choice.p c.in-Choice.a c.in-Choice.c)
-    (merge_refused c.args.self.turns c.args.self.attempts (end_units (limit Attempts) (rest_units down c.in-Choice.p.den c.args.self.attempts c.args.table.states.entries)) (statements_of c.in-Choice.a) (statements_of c.in-Choice.c) (class_units down c.in-Choice.p.den c.args.self.attempts c.in-Choice.p.num c.args.table.states.entries) (class_units down c.in-Choice.p.den c.args.self.attempts (c.in-Choice.p.den - c.in-Choice.p.num) c.args.table.states.entries) _ _ _ _ [] (side_as c.args.table.states.entries c.in-Choice.p.num _ c.in-Choice.p.den _ c.args.self.attempts _ c.of-odds.ensures.bound c.of-odds.ensures.attempts c.in_ok-first-in-Choice.ensures.next) (side_as c.args.table.states.entries (c.in-Choice.p.den - c.in-Choice.p.num) _ c.in-Choice.p.den _ c.args.self.attempts _ c.of-odds.ensures.bound c.of-odds.ensures.attempts c.in_ok-second-in-Choice.ensures.next) _ _ _ _
+    rw out (refused_as turns attempts _ _ entries _ form
+    (merge_refused turns attempts rest (statements_of c.in-Choice.a) (statements_of c.in-Choice.c) one_part other_part _ _ _ _ [] first second _ _ _ _
     c.in_ok-left-in-Choice.ensures.ok c.in_ok-right-in-Choice.ensures.ok c.in_err-merge-in-Choice.ensures.cause))
 
 pub stmt-returns-in_err-right-in-Choice-clause-cause : goal.stmt-returns-in_err-right-in-Choice-clause-cause
 stmt-returns-in_err-right-in-Choice-clause-cause t c =
+    let form = ap statement_of c.in-Choice.is ∙ choice_view c.in-Choice.p c.in-Choice.a c.in-Choice.c in
+    let entries = c.args.table.states.entries in
+    let turns = c.args.self.turns in
+    let attempts = c.args.self.attempts in
+    let first = side_as entries c.in-Choice.p.num _ c.in-Choice.p.den _ attempts _ c.of-odds.ensures.bound c.of-odds.ensures.attempts c.in_ok-first-in-Choice.ensures.next in
+    let second = side_as entries (c.in-Choice.p.den - c.in-Choice.p.num) _ c.in-Choice.p.den _ attempts _ c.of-odds.ensures.bound c.of-odds.ensures.attempts
+    c.in_ok-second-in-Choice.ensures.next in
+    let rest = end_units (limit Attempts) (rest_units down c.in-Choice.p.den attempts entries) in
+    let one_part = class_units down c.in-Choice.p.den attempts c.in-Choice.p.num entries in
+    let other_part = class_units down c.in-Choice.p.den attempts (c.in-Choice.p.den - c.in-Choice.p.num) entries in
     let out : c.from_residual-in_err-right-in-Choice.result ≡ Err c.in_err-right-in-Choice.field-0.0 = grind arith in
-    rw out (refused_as c.args.self.turns c.args.self.attempts _ _ c.args.table.states.entries _ (ap statement_of c.in-Choice.is ∙ choice_view c.in-Choice.p c.in-Choice.a c.in-Choice.c) (second_refused c.args.self.turns c.args.self.attempts (end_units (limit Attempts) (rest_units down c.in-Choice.p.den c.args.self.attempts c.args.table.states.entries)) (statements_of c.in-Choice.a) (statements_of c.in-Choice.c) (class_units down c.in-Choice.p.den c.args.self.attempts c.in-Choice.p.num c.args.table.states.entries) (class_units down c.in-Choice.p.den c.args.self.attempts (c.in-Choice.p.den - c.in-Choice.p.num) c.args.table.states.entries) _ _ [] [] [] (side_as c.args.table.states.entries c.in-Choice.p.num _ c.in-Choice.p.den _ c.args.self.attempts _ c.of-odds.ensures.bound c.of-odds.ensures.attempts c.in_ok-first-in-Choice.ensures.next) (side_as c.args.table.states.entries (c.in-Choice.p.den - c.in-Choice.p.num) _ c.in-Choice.p.den _ c.args.self.attempts _ c.of-odds.ensures.bound c.of-odds.ensures.attempts c.in_ok-second-in-Choice.ensures.next) _ c.in_err-right-in-Choice.ensures.cause))
+    rw out (refused_as turns attempts _ _ entries _ form (second_refused turns attempts rest (statements_of c.in-Choice.a) (statements_of c.in-Choice.c) one_part other_part _ _ [] [] []
+    first second _ c.in_err-right-in-Choice.ensures.cause))
 
 pub stmt-returns-in_err-left-in-Choice-clause-cause : goal.stmt-returns-in_err-left-in-Choice-clause-cause
 stmt-returns-in_err-left-in-Choice-clause-cause t c =
+    let form = ap statement_of c.in-Choice.is ∙ choice_view c.in-Choice.p c.in-Choice.a c.in-Choice.c in
+    let entries = c.args.table.states.entries in
+    let turns = c.args.self.turns in
+    let attempts = c.args.self.attempts in
+    let first = side_as entries c.in-Choice.p.num _ c.in-Choice.p.den _ attempts _ c.of-odds.ensures.bound c.of-odds.ensures.attempts c.in_ok-first-in-Choice.ensures.next in
+    let second = side_as entries (c.in-Choice.p.den - c.in-Choice.p.num) _ c.in-Choice.p.den _ attempts _ c.of-odds.ensures.bound c.of-odds.ensures.attempts
+    c.in_ok-second-in-Choice.ensures.next in
+    let rest = end_units (limit Attempts) (rest_units down c.in-Choice.p.den attempts entries) in
+    let one_part = class_units down c.in-Choice.p.den attempts c.in-Choice.p.num entries in
+    let other_part = class_units down c.in-Choice.p.den attempts (c.in-Choice.p.den - c.in-Choice.p.num) entries in
     let out : c.from_residual-in_err-left-in-Choice.result ≡ Err c.in_err-left-in-Choice.field-0.0 = grind arith in
-    rw out (refused_as c.args.self.turns c.args.self.attempts _ _ c.args.table.states.entries _ (ap statement_of c.in-Choice.is ∙ choice_view c.in-Choice.p c.in-Choice.a c.in-Choice.c) (first_refused c.args.self.turns c.args.self.attempts (end_units (limit Attempts) (rest_units down c.in-Choice.p.den c.args.self.attempts c.args.table.states.entries)) (statements_of c.in-Choice.a) (statements_of c.in-Choice.c) (class_units down c.in-Choice.p.den c.args.self.attempts c.in-Choice.p.num c.args.table.states.entries) (class_units down c.in-Choice.p.den c.args.self.attempts (c.in-Choice.p.den - c.in-Choice.p.num) c.args.table.states.entries) _ _ [] [] [] (side_as c.args.table.states.entries c.in-Choice.p.num _ c.in-Choice.p.den _ c.args.self.attempts _ c.of-odds.ensures.bound c.of-odds.ensures.attempts c.in_ok-first-in-Choice.ensures.next) (side_as c.args.table.states.entries (c.in-Choice.p.den - c.in-Choice.p.num) _ c.in-Choice.p.den _ c.args.self.attempts _ c.of-odds.ensures.bound c.of-odds.ensures.attempts c.in_ok-second-in-Choice.ensures.next) _ c.in_err-left-in-Choice.ensures.cause))
+    rw out (refused_as turns attempts _ _ entries _ form (first_refused turns attempts rest (statements_of c.in-Choice.a) (statements_of c.in-Choice.c) one_part other_part _ _ [] [] []
+    first second _ c.in_err-left-in-Choice.ensures.cause))
 
 pub stmt-returns-in_err-second-in-Choice-clause-cause : goal.stmt-returns-in_err-second-in-Choice-clause-cause
 stmt-returns-in_err-second-in-Choice-clause-cause t c =
@@ -634,17 +773,29 @@ stmt-total-requires t c = (weights_as _ _ (ap statement_of c.in-Choose.is ∙ ch
 
 pub stmt-arms-requires : goal.stmt-arms-requires
 stmt-arms-requires t c =
-    let q = (ap statement_of c.in-Choose.is ∙ choose_view c.in-Choose.arms) in
-    let w = weights_as _ _ q c.requires.weights in
+    let entries = c.args.table.states.entries in
+    let ended = c.args.ended.now in
+    let attempts = c.args.self.attempts in
+    let undecided = rest_as entries _ (sum (parts_of (list_of_arms c.in-Choose.arms))) _ attempts ended _ (c.of-odds-in-Choose.ensures.bound ∙ c.total.ensures)
+    c.of-odds-in-Choose.ensures.attempts c.undecided-in-Choose.ensures in
+    let form = ap statement_of c.in-Choose.is ∙ choose_view c.in-Choose.arms in
+    let w = weights_as _ _ form c.requires.weights in
     let some : 0 < sum (parts_of (list_of_arms c.in-Choose.arms)) = let z = w.0.positive in omega arith in (
       search (rules, the_lemmas),
       (
-        below_as _ _ _ q c.requires.below,
+        below_as _ _ _ form c.requires.below,
         (
           w.1,
           (
             c.of-odds-in-Choose.ensures.bound ∙ c.total.ensures,
-            (c.of-odds-in-Choose.ensures.attempts, (omega (arith, c.requires.within), choose_within c.args.self.turns c.args.self.attempts (list_of_arms c.in-Choose.arms) c.args.table.states.entries c.args.ended.now _ (rest_as c.args.table.states.entries _ (sum (parts_of (list_of_arms c.in-Choose.arms))) _ c.args.self.attempts c.args.ended.now _ (c.of-odds-in-Choose.ensures.bound ∙ c.total.ensures) c.of-odds-in-Choose.ensures.attempts c.undecided-in-Choose.ensures) some c.requires.within)),
+            (
+              c.of-odds-in-Choose.ensures.attempts,
+              (
+                omega (arith, c.requires.within),
+                choose_within c.args.self.turns attempts (list_of_arms c.in-Choose.arms) entries ended _ undecided some
+                    c.requires.within,
+              ),
+            ),
           ),
         ),
       ),
@@ -652,8 +803,15 @@ stmt-arms-requires t c =
 
 pub stmt-returns-in-Choose-clause-ok : goal.stmt-returns-in-Choose-clause-ok
 stmt-returns-in-Choose-clause-ok t c =
+    let form = ap statement_of c.in-Choose.is ∙ choose_view c.in-Choose.arms in
+    let entries = c.args.table.states.entries in
+    let ended = c.args.ended.now in
+    let turns = c.args.self.turns in
+    let attempts = c.args.self.attempts in
+    let undecided = rest_as entries _ (sum (parts_of (list_of_arms c.in-Choose.arms))) _ attempts ended _ (c.of-odds-in-Choose.ensures.bound ∙ c.total.ensures)
+    c.of-odds-in-Choose.ensures.attempts c.undecided-in-Choose.ensures in
     IfOk-weaker c.arms.result _ _
-    (λ next a. gives_as c.args.self.turns c.args.self.attempts _ _ c.args.table.states.entries _ c.args.ended.now _ (ap statement_of c.in-Choose.is ∙ choose_view c.in-Choose.arms) (choose_gives c.args.self.turns c.args.self.attempts (list_of_arms c.in-Choose.arms) c.args.table.states.entries c.args.ended.now _ (rest_as c.args.table.states.entries _ (sum (parts_of (list_of_arms c.in-Choose.arms))) _ c.args.self.attempts c.args.ended.now _ (c.of-odds-in-Choose.ensures.bound ∙ c.total.ensures) c.of-odds-in-Choose.ensures.attempts c.undecided-in-Choose.ensures) _ _ a))
+    (λ next a. gives_as turns attempts _ _ entries _ ended _ form (choose_gives turns attempts (list_of_arms c.in-Choose.arms) entries ended _ undecided _ _ a))
     c.arms.ensures.ok
 
 pub stmt-returns-in-Choose-clause-cause : goal.stmt-returns-in-Choose-clause-cause
@@ -661,10 +819,14 @@ stmt-returns-in-Choose-clause-cause t c =
     IfErr-weaker c.arms.result _ _ (λ e a. refused_as c.args.self.turns c.args.self.attempts _ _ c.args.table.states.entries e (ap statement_of c.in-Choose.is ∙ choose_view c.in-Choose.arms) a) c.arms.ensures.cause
 
 pub stmt-all_of-requires : goal.stmt-all_of-requires
-stmt-all_of-requires t c = let g = guard_room (value_of (expression_of c.in-Observe.e)) c.args.table.states.entries _ _ c.args.ended.now _ c.in_ok-first-in-Observe.ensures.first c.in_ok-first-in-Observe.ensures.second c.in_ok-first-in-Observe.ensures.stopped in omega (arith, g, c.requires.within)
+stmt-all_of-requires t c =
+    let g = guard_room (value_of (expression_of c.in-Observe.e)) c.args.table.states.entries _ _ c.args.ended.now _ c.in_ok-first-in-Observe.ensures.first
+    c.in_ok-first-in-Observe.ensures.second c.in_ok-first-in-Observe.ensures.stopped in omega (arith, g, c.requires.within)
 
 pub stmt-add_failed-requires : goal.stmt-add_failed-requires
-stmt-add_failed-requires t c = let g = guard_room (value_of (expression_of c.in-Observe.e)) c.args.table.states.entries _ _ c.args.ended.now _ c.in_ok-first-in-Observe.ensures.first c.in_ok-first-in-Observe.ensures.second c.in_ok-first-in-Observe.ensures.stopped in omega (arith, g, c.requires.within, c.all_of.ensures)
+stmt-add_failed-requires t c =
+    let g = guard_room (value_of (expression_of c.in-Observe.e)) c.args.table.states.entries _ _ c.args.ended.now _ c.in_ok-first-in-Observe.ensures.first
+    c.in_ok-first-in-Observe.ensures.second c.in_ok-first-in-Observe.ensures.stopped in omega (arith, g, c.requires.within, c.all_of.ensures)
 
 pub stmt-merge-requires-clause-within : goal.stmt-merge-requires-clause-within
 stmt-merge-requires-clause-within t c =
@@ -677,9 +839,17 @@ stmt-merge-requires-clause-within t c =
 
 pub stmt-merge-requires-in-Choice-clause-within : goal.stmt-merge-requires-in-Choice-clause-within
 stmt-merge-requires-in-Choice-clause-within t c =
-    let q = (ap statement_of c.in-Choice.is ∙ choice_view c.in-Choice.p c.in-Choice.a c.in-Choice.c) in
-    let w = weights_as _ _ q c.requires.weights in
-    let g = choice_room c.args.self.turns c.args.self.attempts c.in-Choice.p (weights_as _ _ q c.requires.weights).0 c.args.table.states.entries _ _ c.args.ended.now _ c.args.table.once (side_as c.args.table.states.entries c.in-Choice.p.num _ c.in-Choice.p.den _ c.args.self.attempts _ c.of-odds.ensures.bound c.of-odds.ensures.attempts c.in_ok-first-in-Choice.ensures.next) (side_as c.args.table.states.entries (c.in-Choice.p.den - c.in-Choice.p.num) _ c.in-Choice.p.den _ c.args.self.attempts _ c.of-odds.ensures.bound c.of-odds.ensures.attempts c.in_ok-second-in-Choice.ensures.next) (rest_as c.args.table.states.entries _ c.in-Choice.p.den _ c.args.self.attempts c.args.ended.now _ c.of-odds.ensures.bound c.of-odds.ensures.attempts c.undecided.ensures) in
-    let l = block_spends c.args.self.turns c.args.self.attempts (statements_of c.in-Choice.a) w.1 _ _ _ _ c.in_ok-left-in-Choice.ensures.ok in
-    let k = block_spends c.args.self.turns c.args.self.attempts (statements_of c.in-Choice.c) w.2 _ _ _ _ c.in_ok-right-in-Choice.ensures.ok in
+    let entries = c.args.table.states.entries in
+    let ended = c.args.ended.now in
+    let turns = c.args.self.turns in
+    let attempts = c.args.self.attempts in
+    let first = side_as entries c.in-Choice.p.num _ c.in-Choice.p.den _ attempts _ c.of-odds.ensures.bound c.of-odds.ensures.attempts c.in_ok-first-in-Choice.ensures.next in
+    let second = side_as entries (c.in-Choice.p.den - c.in-Choice.p.num) _ c.in-Choice.p.den _ attempts _ c.of-odds.ensures.bound c.of-odds.ensures.attempts
+    c.in_ok-second-in-Choice.ensures.next in
+    let undecided = rest_as entries _ c.in-Choice.p.den _ attempts ended _ c.of-odds.ensures.bound c.of-odds.ensures.attempts c.undecided.ensures in
+    let form = ap statement_of c.in-Choice.is ∙ choice_view c.in-Choice.p c.in-Choice.a c.in-Choice.c in
+    let w = weights_as _ _ form c.requires.weights in
+    let g = choice_room turns attempts c.in-Choice.p (weights_as _ _ form c.requires.weights).0 entries _ _ ended _ c.args.table.once first second undecided in
+    let l = block_spends turns attempts (statements_of c.in-Choice.a) w.1 _ _ _ _ c.in_ok-left-in-Choice.ensures.ok in
+    let k = block_spends turns attempts (statements_of c.in-Choice.c) w.2 _ _ _ _ c.in_ok-right-in-Choice.ensures.ok in
     omega (arith, g, l, k, c.requires.within)
