@@ -1,11 +1,11 @@
 -- A table that is walked state by state: what the states so far give, merged, makes up with what those that are left give for what all give.
-use Rattle.std.proofs.Common.{◌≡◌, ℕ, zero, suc, ◌+◌, ◌-◌, ◌*◌, ◌≤◌, ◌<◌, List, [], ◌∷◌, ◌++◌, take, drop, length, Option, refl, sym, ap, ◌∙◌, subst, arith}
+use Rattle.std.proofs.Common.{◌≡◌, ℕ, zero, suc, ◌+◌, ◌-◌, ◌≤◌, ◌<◌, List, [], ◌∷◌, ◌++◌, take, drop, length, Option, refl, sym, ap, ◌∙◌, subst, arith}
 use Rattle.std.proofs.lemmas.List.Elements.{All-nil, All-cons, All-head, All-tail, All-append}
 use Rattle.numbers.specs.declared.units.TheConstants.{ALL}
 use Rattle.gcl_core.specs.declared.syntax.Stmt.{Stmt}
 use Rattle.gcl_core.specs.meaning.Bounds.{BlockIsWeighed}
 use Rattle.gcl_core.specs.meaning.Blocks.{End}
-use Rattle.gcl_core.specs.meaning.Syntax.{Statement, Skip, Set, If, While, Choice, Choose, Uniform, Observe, Statements, done, ◌▸◌}
+use Rattle.gcl_core.specs.meaning.Syntax.{Skip, Set, If, While, Choice, Choose, Uniform, Observe, Statements, done, ◌▸◌}
 use Rattle.gcl_core.specs.meaning.Value.{State}
 use Rattle.gcl_core.specs.meaning.Views.{statement_of, list_of}
 use Rattle.units_law.specs.Down.{down}
@@ -22,7 +22,7 @@ use Rattle.enclose_fold.specs.inner.Ended.{units_of}
 use Rattle.enclose_fold.specs.inner.Exact.{DrawsOnce}
 use Rattle.enclose_fold.specs.inner.Folding.{Gives, FlowRefused, StepRefused}
 use Rattle.enclose_fold.specs.inner.Refusals.{RefusedAt}
-use Rattle.enclose_fold.proofs.CycleFlows.{Few, few_left, few_right, nothing, from_table, opened, first_few, block_merged, block_spends, Goes, goes_end}
+use Rattle.enclose_fold.proofs.CycleFlows.{Few, few_left, few_right, nothing, from_table, first_few, block_merged, block_spends, Goes, goes_end}
 use Rattle.enclose_fold.proofs.Drawing.{both_hold}
 use Rattle.enclose_fold.proofs.Parted.{InEntries, draw_in_entries}
 use Rattle.enclose_fold.proofs.Putting.{is_merged, no_memory, refused_more, wider}

@@ -1,6 +1,6 @@
 -- A table in parts: what a block that rounds nothing makes of two tables is what it makes of both together, and so does one draw before it
 -- of the entries of a table.
-use Rattle.std.proofs.Common.{◌≡◌, ℕ, ◌+◌, ◌*◌, ◌≤◌, ◌<◌, Bool, true, false, cond, All, List, [], ◌∷◌, ◌++◌, length, Option, refl, sym, ap, ◌∙◌, subst, arith}
+use Rattle.std.proofs.Common.{◌≡◌, ℕ, ◌+◌, ◌*◌, ◌≤◌, ◌<◌, Bool, true, false, cond, All, List, [], ◌∷◌, ◌++◌, length, Option, refl, ap, arith}
 use Rattle.std.specs.Map.{values_of}
 use Rattle.std.proofs.lemmas.List.{length-append}
 use Rattle.std.proofs.lemmas.List.Elements.{All-nil, All-cons, All-head, All-tail, All-append}
@@ -12,7 +12,7 @@ use Rattle.table_flow.specs.Counts.{moved, stopped, kept_if}
 use Rattle.table_flow.specs.Tables.{holds, fails}
 use Rattle.units_law.specs.Down.{down}
 use Rattle.units_law.specs.Flows.{UnitFlow, both_units, statement_units, block_units}
-use Rattle.units_law.specs.Merged.{merged, IsMerged}
+use Rattle.units_law.specs.Merged.{merged}
 use Rattle.units_law.specs.Rounding.{drawn_units, undrawn_units}
 use Rattle.units_law.specs.Units.{Units, held, total, only_units, fault_units, end_units}
 use Rattle.units_law.proofs.Downs.{rounds_down}

@@ -1,6 +1,7 @@
 //! Bounds of masses, by merged tables of states whose weights are rounded down to units of 2^-120. They are worked out of the forgetful
 //! program, in which states that differ in variables alone whose values no longer matter are one. Where that is too coarse beside what passes,
-//! and rounds are not limited, they are those of `scaled_fold`, by units at least and at most.
+//! and rounds are not limited, they are those of `scaled_fold`, by units at least and at most. A draw among many numbers is walked state by
+//! state with what is behind it, as far as what it drew is set anew and nothing is rounded: to the same units, by fewer states at once.
 //!
 //! Proved: each mass lies between its two bounds (`enclose`), for all turns at every greater limit of turns too, where without a
 //! limit of rounds a round fails with probability below 1. The bounds are no further apart than the bound of the others and a few

@@ -10,15 +10,13 @@ use Rattle.gcl_core.specs.meaning.Value.{value_of}
 use Rattle.gcl_core.specs.meaning.Views.{expression_of, statement_of, statements_of, list_of, arm_list_of, list_of_arms}
 use Rattle.gcl_core.proofs.ViewLemmas.{skip_view, set_view, observe_view, if_view, while_view, choice_view, choose_view, uniform_view}
 use Rattle.mass_fold.proofs.ArmsLeft.{arms_done, sum_next, arms_next}
-use Rattle.mass_fold.proofs.Fitting.{below_as, weights_as, list_step, below_next, weights_next, along_list, below_list}
+use Rattle.mass_fold.proofs.Fitting.{below_as, weights_as}
 use Rattle.table_flow.specs.Tables.{holds, fails}
 use Rattle.units_law.specs.Down.{down}
-use Rattle.units_law.specs.Flows.{block_units}
 use Rattle.units_law.specs.Rounding.{class_units, rest_units}
 use Rattle.units_law.specs.Units.{only_units, fault_units, end_units}
 use Rattle.forgetting.proofs.Marking.{below_at}
 use Rattle.enclose_fold.specs.inner.Between.{part, between}
-use Rattle.enclose_fold.specs.inner.Folding.{FlowRefused}
 use Rattle.enclose_fold.proofs.ByStates.{states_start, states_end, states_short, units_room, state_room, state_fails, state_merge_room, state_merge_fails, state_turn, goes_on, goes_on_fails, goes_between}
 use Rattle.enclose_fold.proofs.Between.{part_behind, part_step, weighed_between, weighed_at}
 use Rattle.enclose_fold.proofs.CycleArms.{arms_start, arms_as, arms_turn, arms_end, arm_room, merge_room, side_fails, block_fails, merge_fails, side_as, choose_within, choose_gives}
