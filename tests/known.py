@@ -22,6 +22,9 @@ class End(collections.namedtuple("End", "value")):
     """A state in which the answer is known."""
 
 
+PAID = End("paid")
+
+
 # ---- methods
 
 
@@ -50,13 +53,13 @@ def after(steps, start, step):
     return functools.reduce(lambda table, _: forward(table, step), range(steps), {start: F(1)})
 
 
-def ended(start, step):
-    """With what weight each answer comes at last: linear equations, of which each state but the first is eliminated."""
+def solved(start, row_of):
+    """What a start comes to at last, by linear equations: each state that it leads to has a row, and all but the first are eliminated."""
     rows, waiting = {}, [start]
     while waiting:
         state = waiting.pop()
         if state not in rows and not isinstance(state, End):
-            rows[state] = dict(step(state))
+            rows[state] = dict(row_of(state))
             waiting += rows[state]
     for state in [it for it in rows if it != start]:
         out = leaving(rows.pop(state), state)
@@ -64,7 +67,17 @@ def ended(start, step):
             weight = row.pop(state, 0)
             for other, share in out.items() if weight else ():
                 row[other] = row.get(other, 0) + weight * share
-    return {it.value: weight for it, weight in leaving(rows[start], start).items()}
+    return leaving(rows[start], start)
+
+
+def ended(start, step):
+    """With what weight each answer comes at last."""
+    return {it.value: weight for it, weight in solved(start, step).items()}
+
+
+def paid(start, step, price):
+    """What is paid on average until an answer is known, where each visit of a state has its price."""
+    return solved(start, lambda state: {**step(state), PAID: F(price(state))})[PAID]
 
 
 def leaving(row, state):
@@ -83,6 +96,26 @@ def binomial(n, p):
 def rounds(success, most):
     """How many rounds there are where each ends with the same weight; the last number stands for all above."""
     return {**{k: (1 - success) ** (k - 1) * success for k in range(1, most)}, most: (1 - success) ** (most - 1)}
+
+
+# ---- what runs cost
+
+
+def drawn_bits(numbers):
+    """The bits that a uniform draw reads: an attempt ends where all numbers that begin with its bits are one, or are drawn again."""
+    width = (numbers - 1).bit_length()
+
+    def read(low, wide):
+        if len({min(it, numbers) for it in range(low, low + wide)}) == 1:
+            return F(0)
+        return 1 + (read(low, wide // 2) + read(low + wide // 2, wide // 2)) / 2
+
+    return read(0, 2**width) * F(2**width, numbers)
+
+
+def cost_of_turns(turns, numbers, draws=1):
+    """A run whose turns have so many draws among so many numbers each."""
+    return {"bits": turns * draws * drawn_bits(numbers), "rounds": 1, "draws": turns * draws, "turns": turns}
 
 
 # ---- case studies of PRISM
@@ -104,22 +137,34 @@ def rolled(wide, number):
     return End(number) if number < 6 else (wide - 6, number - 6)
 
 
-def herman(processes, most):
+def herman_turn(processes, tokens):
     """Each token stays or moves on by one place, and two that meet are gone."""
+    moves = itertools.product((0, 1), repeat=len(tokens))
+    places = [collections.Counter((it + move) % processes for it, move in zip(tokens, moved)) for moved in moves]
+    return counted(tuple(sorted(it for it, count in at.items() if count == 1)) for at in places)
+
+
+def herman(processes, most):
+    """In how many turns one token is left."""
 
     def step(state):
         tokens, passed = state
         if len(tokens) == 1:
             return {state: 1}
-        moves = itertools.product((0, 1), repeat=len(tokens))
-        places = [collections.Counter((it + move) % processes for it, move in zip(tokens, moved)) for moved in moves]
-        return counted((tuple(sorted(it for it, count in at.items() if count == 1)), min(passed + 1, most)) for at in places)
+        return {(left, min(passed + 1, most)): weight for left, weight in herman_turn(processes, tokens).items()}
 
     table, start = {}, (tuple(range(processes)), 0)
     for (tokens, passed), weight in after(most - 1, start, step).items():
         key = passed if len(tokens) == 1 else most
         table[key] = table.get(key, 0) + weight
     return table
+
+
+def herman_time(processes):
+    """Each turn draws a bit for each token."""
+    step = lambda tokens: added((End(1) if len(it) == 1 else it, weight) for it, weight in herman_turn(processes, tokens).items())
+    turns, draws = (paid(tuple(range(processes)), step, price) for price in (lambda _: 1, len))
+    return {"bits": draws, "rounds": 1, "draws": draws, "turns": turns}
 
 
 def leader(drawn):
@@ -335,9 +380,16 @@ JUMPS = {
 }
 
 
-def snakes_and_ladders(square):
-    ends = [square + die if square + die <= 100 else square for die in range(1, 7)]
-    return counted(JUMPS.get(it, it) for it in ends)
+def snakes_and_ladders(square, last=100):
+    """The board as far as a square; what leads beyond, or from the last, is left out."""
+    jumps = {it: to for it, to in JUMPS.items() if it < last and to <= last}
+    ends = [square + die if square + die <= last else square for die in range(1, 7)]
+    return counted(jumps.get(it, it) for it in ends)
+
+
+def snakes_time(last):
+    step = lambda square: added((End(1) if it == last else it, weight) for it, weight in snakes_and_ladders(square, last).items())
+    return cost_of_turns(paid(0, step, lambda _: 1), 6)
 
 
 def ehrenfest(first):
@@ -382,6 +434,7 @@ MASSES = {
     "casino": casino((1, 6, 6, 2, 6, 6)),
     "circle": {place: F(1, 5) for place in range(1, 6)},
     "coupons_six": coupons(6, 20),
+    "coupons_ten": {10: F(1)},
     "crowds": crowds(20, 3, F(3, 4)),
     "de_mere": coin(1 - F(35, 36) ** 24),
     "diamond": diamond(8),
@@ -395,8 +448,10 @@ MASSES = {
     "hare_tortoise": hare_tortoise(10),
     "herman_3": herman(3, 6),
     "herman_5": herman(5, 8),
+    "herman_time": {1: F(1)},
     "knuth_yao": ended(0, knuth_yao),
     "ladder": after(10, 1, ladder),
+    "leader_time": {1: F(1)},
     "leader": rounds(counted(map(leader, itertools.product(range(3), repeat=4)))[True], 5),
     "moran": coin((1 - HALF) / (1 - HALF**10)),
     "murder": scaled({1: F(7, 10) * F(2, 10) * F(5, 100), 2: F(3, 10) * F(9, 10) * F(5, 10)}),
@@ -409,9 +464,18 @@ MASSES = {
     "screening": scaled({1: F(1, 100) * F(80, 100), 0: F(99, 100) * F(96, 1000)}),
     "secretary": secretary(10, 3),
     "snakes_and_ladders": added((square // 100, p) for square, p in after(20, 0, snakes_and_ladders).items()),
+    "snakes_time": {62: F(1)},
     "sprinkler": sprinkler(),
     "survey": survey(),
     "tennis": tennis(F(3, 5)),
     "two_coins": counted(first for first, second in itertools.product((0, 1), repeat=2) if first + second < 2),
     "zeroconf": zeroconf(F(1000, 65024), F(1, 10), 4),
+}
+
+# What runs cost where nothing is limited: bits, rounds, draws and turns of loops.
+COSTS = {
+    "coupons_ten": cost_of_turns(paid(0, lambda n: {n: F(n, 10), End(1) if n == 9 else n + 1: F(10 - n, 10)}, lambda _: 1), 10),
+    "herman_time": herman_time(5),
+    "leader_time": cost_of_turns(1 / counted(map(leader, itertools.product(range(3), repeat=4)))[True], 3, draws=4),
+    "snakes_time": snakes_time(62),
 }
