@@ -11,3 +11,4 @@ pub mod Listed
 pub mod Sides
 pub mod Asides
 pub mod Walk
+pub mod AttemptsCost

@@ -15,12 +15,17 @@
 //! hold, and two bounds of a row are no further apart than what is not certain to belong to one outcome beside what is, and two
 //! parts of 2^-120 (`bounds_beside_others_hold`).
 //!
+//! Without a limit of rounds a limit of attempts changes the mass of any set of outcomes by no more than that limit weighs, and it weighs
+//! little where there are many attempts beside how often a round passes (`attempts_cost_what_they_weigh`).
+//!
 //! No clause is of code: `scaled_fold` walks so, and `enclose_fold` works with units that are only rounded down. No clause says that little is uncertain:
 //! that grows with the products of a program, and with what is loose.
 #![tactic(auto)]
 
+mod attempts;
 mod laws;
 
+pub use attempts::attempts_cost_what_they_weigh;
 pub use laws::{
     bounds_beside_others_hold, masses_lie_beside_others, pairs_are_merged, products_are_rounded_up,
     rounds_hold_masses, units_grow_with_what_is_left,
