@@ -1,5 +1,5 @@
 -- What the draws of a table read, by sums over its entries.
-use Rattle.std.proofs.Common.{◌≡◌, ℕ, zero, suc, ◌-◌, ◌*◌, ◌^◌, ◌≤◌, ◌<◌, pos, negsuc, true, List, [], ◌∷◌, Ok, Err, Some, None, sym, ap, ◌∙◌, subst, arith}
+use Rattle.std.proofs.Common.{◌≡◌, ℕ, zero, suc, ◌-◌, ◌*◌, ◌^◌, ◌≤◌, ◌<◌, pos, negsuc, true, List, [], ◌∷◌, Ok, Err, Some, None, refl, sym, ap, ◌∙◌, subst, arith}
 use Rattle.numbers.specs.Arithmetic.{sum_of, product_of}
 use Rattle.numbers.specs.Fraction.{IsEqual}
 use Rattle.numbers.proofs.Divisors.{product_pos}
@@ -8,7 +8,6 @@ use Rattle.gcl_core.specs.meaning.Value.{State, Value}
 use Rattle.gcl_core.specs.weighing.Fractions.{Fraction, plus, times}
 use Rattle.gcl_core.proofs.Classes.{bits_enough}
 use Rattle.gcl_core.proofs.EqualClasses.{last_of_equal}
-use Rattle.cost_law.specs.ExpectedBits.{attempt_bits}
 use Rattle.table_flow.specs.Reached.{drawn_each, drawn_bound}
 use Rattle.mass_fold.specs.inner.Amounts.{Entries}
 use Rattle.unlimited_law.specs.Settling.{total}
@@ -19,21 +18,12 @@ use Rattle.unlimited_law.proofs.Covers.{sign}
 use Rattle.unlimited_law.proofs.SameWeights as weights
 use Rattle.exact_fold.specs.inner.Settled.{as_table, AreAbove}
 use Rattle.exact_fold.proofs.Steps.{above_positive, above_fractions}
-use Rattle.bits_law.specs.Draws.{bits_of_draw, bits_of_draws}
+use Rattle.bits_law.specs.Price.{Price, draws_price, turns_price, price_of_draw, price_of_draws}
 use Rattle.bits_law.proofs.TableReads.{draw_some, each_some, each_is, bound_reads, bound_some, bound_is}
-use Rattle.bits_fold.specs.inner.Reading.{bits_of_bound, WeighsTo, DrawsRead}
+use Rattle.bits_fold.specs.Counted.{price_of}
+use Rattle.bits_fold.specs.declared.counted.Counted.{Counted}
+use Rattle.bits_fold.specs.inner.Reading.{price_of_bound, WeighsTo, DrawsCost}
 use Rattle.bits_fold.proofs.Sums.{sum_is, product_is}
-
--- ---- one draw
-pub price_is : (ends : List ℕ) (undecided last : ℕ) (price : Fraction) → undecided ≡ (attempt_bits ends).0 → last ≡ last_end ends → IsEqual price (undecided, last) → IsEqual price (bits_of_draw None ends)
-price_is ends undecided last price u l e =
-    let k = bits_for (last_end ends) in
-    let h = bits_enough (last_end ends) in
-    let left : 2 ^ k - rejected_numbers (last_end ends) ≡ last_end ends = omega arith in
-    by price.0 price.1 (attempt_bits ends).0 (last_end ends) (2 ^ k) (2 ^ k - rejected_numbers (last_end ends)) (ap (λ z. price.0 * z) (sym l) ∙ e ∙ ap (λ z. z * price.1) u) left
-  where
-    by : (a d U b K r : ℕ) → a * b ≡ U * d → r ≡ b → a * (K * r) ≡ U * K * d
-    by a d U b K r e h = let x = ap (λ z. K * z) e in let y = ap (λ z. a * (K * z)) h in omega arith
 
 -- ---- sums over entries
 pub record SoFar (F : State → Rational) (all rest : Entries) (sum : Fraction) : Type 0 where
@@ -93,57 +83,87 @@ weight_end all rest sum p so h =
       equal_of sum (total I) o.some (weights.sum_some (λ s. true) I f) (same_trans (sums_end any all sum o) (same_sym (weights.sum_is (λ s. true) I f))),
     )
 
--- the same draw of each entry
-pub each_read : (ends : List ℕ) (es : Entries) (weight price f : Fraction) → 0 < last_end ends → 1 ≤ price.1 → IsEqual price (bits_of_draw None ends) → WeighsTo es weight → product_of weight price ≡ Some f → DrawsRead (drawn_each ends) es f
-each_read ends es weight price f some pp e w p h =
-    let I = as_table es in
-    let t = w h in
-    let wp : 0 < weight.1 = let z = t.0 in omega arith in
-    let pp : 0 < price.1 = omega arith in
-    let fr = above_fractions es h in
-    let ip = above_positive es h in
-    let g = product_is weight price f wp pp p in (
-      let z = g.some in omega arith,
-      equal_of f (bits_of_draws (drawn_each ends I)) g.some (each_some ends some I ip)
-          (same_trans (of_equal f (times weight price) g.some (product_pos weight.1 price.1 wp pp) g.equal)
-          (same_trans (of_times weight price)
-          (same_trans (times_turned (of weight) (of price))
-          (same_trans (times_same (of price) (same_trans (of_equal weight (total I) wp (weights.sum_some (λ s. true) I fr) t.1) (weights.sum_is (λ s. true) I fr)))
-          (same_trans (same_sym (integral_times (of price) any I))
-          (same_trans (integral_same (λ s. of price ⊗ any s) (λ s. of (bits_of_draw None ends)) I (λ s. same_trans (times_unit (of price)) (of_equal price (bits_of_draw None ends) pp (draw_some ends some) e)))
-          (same_sym (each_is ends some I ip)))))))),
-    )
+-- ---- by a price
+module _ (P : Price) where
+  -- ---- one draw
+  pub price_is : (ends : List ℕ) (undecided last : ℕ) (price : Fraction) → undecided ≡ P.attempt ends → last ≡ last_end ends → IsEqual price (undecided, last) → IsEqual price (price_of_draw P None ends)
+  price_is ends undecided last price u l e =
+      let k = bits_for (last_end ends) in
+      let h = bits_enough (last_end ends) in
+      let left : 2 ^ k - rejected_numbers (last_end ends) ≡ last_end ends = omega arith in
+      by price.0 price.1 (P.attempt ends) (last_end ends) (2 ^ k) (2 ^ k - rejected_numbers (last_end ends)) (ap (λ z. price.0 * z) (sym l) ∙ e ∙ ap (λ z. z * price.1) u) left
+    where
+      by : (a d U b K r : ℕ) → a * b ≡ U * d → r ≡ b → a * (K * r) ≡ U * K * d
+      by a d U b K r e h = let x = ap (λ z. K * z) e in let y = ap (λ z. a * (K * z)) h in omega arith
 
--- ---- uniform draws
-bound_price : (o : Value) (price : Fraction) → 0 < price.1 → IsEqual price (bits_of_bound o) → of price ≃ bound_reads o
-bound_price (Err f) price h e = same_trans (of_equal price (0, 1) h (omega arith) e) (of_zero 1)
-bound_price (Ok (pos zero)) price h e = same_trans (of_equal price (0, 1) h (omega arith) e) (of_zero 1)
-bound_price (Ok (negsuc m)) price h e = same_trans (of_equal price (0, 1) h (omega arith) e) (of_zero 1)
-bound_price (Ok (pos (suc m))) price h e =
-    of_equal price (bits_of_draw None (uniform_ends (suc m))) h (draw_some (uniform_ends (suc m)) (let l = last_of_equal (suc m) in omega arith)) e
+  -- the same draw of each entry
+  pub each_read : (ends : List ℕ) (es : Entries) (weight price f : Fraction) → 0 < last_end ends → 1 ≤ price.1 → IsEqual price (price_of_draw P None ends) → WeighsTo es weight → product_of weight price ≡ Some f → DrawsCost P (drawn_each ends) es f
+  each_read ends es weight price f some pp e w p h =
+      let I = as_table es in
+      let t = w h in
+      let wp : 0 < weight.1 = let z = t.0 in omega arith in
+      let pp : 0 < price.1 = omega arith in
+      let fr = above_fractions es h in
+      let ip = above_positive es h in
+      let g = product_is weight price f wp pp p in (
+        let z = g.some in omega arith,
+        equal_of f (price_of_draws P (drawn_each ends I)) g.some (each_some P ends some I ip)
+            (same_trans (of_equal f (times weight price) g.some (product_pos weight.1 price.1 wp pp) g.equal)
+            (same_trans (of_times weight price)
+            (same_trans (times_turned (of weight) (of price))
+            (same_trans (times_same (of price) (same_trans (of_equal weight (total I) wp (weights.sum_some (λ s. true) I fr) t.1) (weights.sum_is (λ s. true) I fr)))
+            (same_trans (same_sym (integral_times (of price) any I))
+            (same_trans (integral_same (λ s. of price ⊗ any s) (λ s. of (price_of_draw P None ends)) I (λ s. same_trans (times_unit (of price)) (of_equal price (price_of_draw P None ends) pp (draw_some P ends some) e)))
+            (same_sym (each_is P ends some I ip)))))))),
+      )
 
-abbrev pub bound_of : (State → Value) → State → Rational
-bound_of v s = bound_reads (v s)
+  -- ---- uniform draws
+  bound_price : (o : Value) (price : Fraction) → 0 < price.1 → IsEqual price (price_of_bound P o) → of price ≃ bound_reads P o
+  bound_price (Err f) price h e = same_trans (of_equal price (0, 1) h (omega arith) e) (of_zero 1)
+  bound_price (Ok (pos zero)) price h e = same_trans (of_equal price (0, 1) h (omega arith) e) (of_zero 1)
+  bound_price (Ok (negsuc m)) price h e = same_trans (of_equal price (0, 1) h (omega arith) e) (of_zero 1)
+  bound_price (Ok (pos (suc m))) price h e =
+      of_equal price (price_of_draw P None (uniform_ends (suc m))) h (draw_some P (uniform_ends (suc m)) (let l = last_of_equal (suc m) in omega arith)) e
 
-pub bound_adds : (v : State → Value) (s : State) (f price more : Fraction) → 1 ≤ price.1 → IsEqual price (bits_of_bound (v s)) → product_of f price ≡ Some more → 0 < f.1 → Adds (bound_of v) s f more
-bound_adds v s f price more pp e p h =
-    let g = product_is f price more h (omega arith) p in
-    record {
-      some = g.some;
-      is = same_trans (of_equal more (times f price) g.some (product_pos f.1 price.1 h (omega arith)) g.equal) (same_trans (of_times f price) (times_same (of f) (bound_price (v s) price (omega arith) e)));
-    }
+  abbrev pub bound_of : (State → Value) → State → Rational
+  bound_of v s = bound_reads P (v s)
 
-pub bound_end : (v : State → Value) (all rest : Entries) (sum : Fraction) → rest ≡ [] → SumsSoFar (bound_of v) all rest sum → DrawsRead (drawn_bound v) all sum
-bound_end v all rest sum p so h =
-    let o = subst (λ z. SoFar (bound_of v) all z sum) p (so h) in
-    let I = as_table all in
-    let ip = above_positive all h in (
-      let z = o.some in omega arith,
-      equal_of sum (bits_of_draws (drawn_bound v I)) o.some (bound_some v I ip) (same_trans (sums_end (bound_of v) all sum o) (same_sym (bound_is v I ip))),
-    )
+  pub bound_adds : (v : State → Value) (s : State) (f price more : Fraction) → 1 ≤ price.1 → IsEqual price (price_of_bound P (v s)) → product_of f price ≡ Some more → 0 < f.1 → Adds (bound_of v) s f more
+  bound_adds v s f price more pp e p h =
+      let g = product_is f price more h (omega arith) p in
+      record {
+        some = g.some;
+        is = same_trans (of_equal more (times f price) g.some (product_pos f.1 price.1 h (omega arith)) g.equal) (same_trans (of_times f price) (times_same (of f) (bound_price (v s) price (omega arith) e)));
+      }
 
--- a bound that is a number above 0
-pub bound_at : (o : Value) (m k undecided : ℕ) (price : Fraction) → o ≡ Ok (pos (suc m)) → k ≡ suc m → undecided ≡ (attempt_bits (uniform_ends k)).0 → IsEqual price (undecided, k) → IsEqual price (bits_of_bound o)
-bound_at o m k undecided price e c u q =
-    subst (λ z. IsEqual price (bits_of_bound z)) (sym e)
-    (price_is (uniform_ends (suc m)) undecided k price (u ∙ ap (λ k. (attempt_bits (uniform_ends k)).0) c) (c ∙ sym (last_of_equal (suc m))) q)
+  pub bound_end : (v : State → Value) (all rest : Entries) (sum : Fraction) → rest ≡ [] → SumsSoFar (bound_of v) all rest sum → DrawsCost P (drawn_bound v) all sum
+  bound_end v all rest sum p so h =
+      let o = subst (λ z. SoFar (bound_of v) all z sum) p (so h) in
+      let I = as_table all in
+      let ip = above_positive all h in (
+        let z = o.some in omega arith,
+        equal_of sum (price_of_draws P (drawn_bound v I)) o.some (bound_some P v I ip) (same_trans (sums_end (bound_of v) all sum o) (same_sym (bound_is P v I ip))),
+      )
+
+  -- a bound that is a number above 0
+  pub bound_at : (o : Value) (m k : ℕ) (price : Fraction) → o ≡ Ok (pos (suc m)) → k ≡ suc m → IsEqual price (price_of_draw P None (uniform_ends k)) → IsEqual price (price_of_bound P o)
+  bound_at o m k price e c q = subst (λ z. IsEqual price (price_of_bound P z)) (sym e) (subst (λ k. IsEqual price (price_of_draw P None (uniform_ends k))) c q)
+
+-- ---- draws and turns of loops
+one_each : (f : Fraction) (n : ℕ) → IsEqual f (1, 1) → IsEqual f (n, n)
+one_each f n e = let x = ap (λ z. z * n) e in omega arith
+
+none_each : (f : Fraction) (n : ℕ) → IsEqual f (0, 1) → IsEqual f (0, n)
+none_each f n e = let z : f.0 ≡ 0 = omega arith in let x = ap (λ z. z * n) z in omega arith
+
+-- a draw counts 1
+pub once : (ends : List ℕ) (f : Fraction) → IsEqual f (1, 1) → IsEqual f (price_of_draw draws_price None ends)
+once ends f e = price_is draws_price ends (last_end ends) (last_end ends) f refl refl (one_each f (last_end ends) e)
+
+-- or nothing
+pub never : (ends : List ℕ) (f : Fraction) → IsEqual f (0, 1) → IsEqual f (price_of_draw turns_price None ends)
+never ends f e = price_is turns_price ends 0 (last_end ends) f refl refl (none_each f (last_end ends) e)
+
+-- the price of what is counted
+pub priced_as : (what which : Counted) (ends : List ℕ) (f : Fraction) → what ≡ which → IsEqual f (price_of_draw (price_of which) None ends) → IsEqual f (price_of_draw (price_of what) None ends)
+priced_as what which ends f e h = subst (λ w. IsEqual f (price_of_draw (price_of w) None ends)) (sym e) h

@@ -48,6 +48,7 @@ use Rattle.exact_fold.specs.Exact.{FailsWith}
 use Rattle.exact_fold.proofs.EndedMasses.{no_mass_suffices}
 use Rattle.exact_fold.proofs.Rows.{both_at}
 use Rattle.bits_law.specs.Draws.{bits_of_draw, bits_of_draws}
+use Rattle.bits_law.specs.Price.{bits_price}
 use Rattle.bits_law.specs.InTheLimit.{RoundReads}
 use Rattle.bits_law.proofs.EndedReads.{block_ended}
 use Rattle.bits_law.proofs.LimitedDraws.{block_counted}
@@ -116,7 +117,7 @@ module _ (M : ℕ) where
   share ends w =
       let U = (attempt_bits ends).0 in
       let b = last_end ends in
-      by U b (bits_of_draw None ends).0 (bits_of_draw None ends).1 (whole M (1, b)) (price_is ends U b (U, b) refl refl refl) w.exact
+      by U b (bits_of_draw None ends).0 (bits_of_draw None ends).1 (whole M (1, b)) (price_is bits_price ends U b (U, b) refl refl refl) w.exact
     where
       by : (U b x y W : ℕ) → U * y ≡ x * b → b * W ≡ 1 * M → y * (U * W) ≡ x * M
       by U b x y W e h = let z = ap (λ v. v * W) e in let v = ap (λ v. x * v) h in omega arith
@@ -234,7 +235,7 @@ module _ (p : SourceProgram) (ok : IsChecked p) (n : ℕ) where
         let c = counted (Some b) h in
         let e : b.1 * X ≡ b.0 * N = ap (λ z. b.1 * z) (sym c.1) ∙ c.0.exact in
         let some = c.0.positive in
-        (flow.next, block_as p.body s flow.next flow.next read b (alike_refl flow.next (all_fractions flow.next positive.next)) (one_share b read X N Np e read_share) (omega arith) reads)
+        (flow.next, block_as bits_price p.body s flow.next flow.next read b (alike_refl flow.next (all_fractions flow.next positive.next)) (one_share b read X N Np e read_share) (omega arith) reads)
 
     -- ---- what a round fails with
     abbrev settled : FlowSettles n p.body s

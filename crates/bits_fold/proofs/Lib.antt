@@ -9,3 +9,4 @@ pub mod Programs
 pub mod EndedRounds
 pub mod RoundsBegun
 pub mod NoLoops
+pub mod ForgottenCosts

@@ -14,7 +14,6 @@ use Rattle.gcl_core.specs.weighing.Mass.{is_failed}
 use Rattle.gcl_core.specs.weighing.WeightedEnds.{sure, weighted_ends}
 use Rattle.gcl_core.proofs.Accepted.{checked_weights}
 use Rattle.cost_law.specs.ExpectedBits.{expected_bits}
-use Rattle.table_flow.specs.Tables.{Table}
 use Rattle.mass_fold.specs.inner.Amounts.{Entries}
 use Rattle.weighing_law.proofs.Fractions.{at_most_then}
 use Rattle.unlimited_law.specs.Settling.{Outflow}
@@ -28,29 +27,34 @@ use Rattle.unlimited_law.proofs.BlockLimits.{event_test, settled_some, settled_i
 use Rattle.unlimited_law.proofs.OneLimit.{parts_vanish}
 use Rattle.exact_fold.specs.Exact.{FailsWith}
 use Rattle.exact_fold.specs.inner.Settled.{as_table}
-use Rattle.bits_law.specs.InTheLimit.{ComesTo, HasNoBound, AreExpected, RoundReads, bits_in_the_limit}
-use Rattle.bits_law.specs.Forever.{BlockForever}
-use Rattle.bits_law.specs.Reading.{BlockReads}
+use Rattle.bits_law.specs.Price.{Price}
+use Rattle.bits_law.specs.RunPrice.{expected_price}
+use Rattle.bits_law.specs.InTheLimit.{ComesTo, HasNoBound, price_in_the_limit}
+use Rattle.bits_law.specs.Forever.{BlockEndless}
+use Rattle.bits_law.specs.Reading.{BlockCosts}
+use Rattle.bits_fold.specs.declared.counts.Count.{Count}
+use Rattle.bits_fold.specs.declared.counts.Count.TheVariants as count
 use Rattle.bits_law.proofs.BlockTends.{block_some}
 use Rattle.bits_fold.specs.declared.expected.Bits.{Bits}
 use Rattle.bits_fold.specs.declared.expected.Bits.TheVariants as bits
 use Rattle.bits_fold.specs.declared.stop.Stop.{Stop}
-use Rattle.bits_fold.specs.Expected.{IsAnswer}
+use Rattle.bits_fold.specs.Expected.{IsAnswer, IsCount}
 use Rattle.bits_fold.specs.inner.Forever.{StopsFrom, RoundStops}
-use Rattle.bits_fold.specs.inner.Reading.{ReadsFrom, ReadsInRound}
+use Rattle.bits_fold.specs.inner.Reading.{ReadsFrom, CostsInRound}
 use Rattle.bits_fold.proofs.Sums.{product_is}
 
-pub program_reads : (p : SourceProgram) (es fs : Entries) (bits : Fraction) → es ≡ (zeros (length p.names), (1, 1)) ∷ [] → ReadsFrom (BlockReads p.body) es fs bits → ReadsInRound p bits
-program_reads p es fs bits e x = by (subst (λ z. ReadsFrom (BlockReads p.body) z fs bits) e x)
-  where
-    by : ReadsFrom (BlockReads p.body) ((zeros (length p.names), (1, 1)) ∷ []) fs bits → ReadsInRound p bits
-    by x = (as_table fs, (x (omega arith, omega arith, tt)).reads)
+module _ (price : Price) (p : SourceProgram) where
+  pub program_costs : (es fs : Entries) (cost : Fraction) → es ≡ (zeros (length p.names), (1, 1)) ∷ [] → ReadsFrom (BlockCosts price p.body) es fs cost → CostsInRound price p cost
+  program_costs es fs cost e x = by (subst (λ z. ReadsFrom (BlockCosts price p.body) z fs cost) e x)
+    where
+      by : ReadsFrom (BlockCosts price p.body) ((zeros (length p.names), (1, 1)) ∷ []) fs cost → CostsInRound price p cost
+      by x = (as_table fs, (x (omega arith, omega arith, tt)).reads)
 
-pub program_stops : (p : SourceProgram) (es : Entries) (s : Stop) → es ≡ (zeros (length p.names), (1, 1)) ∷ [] → StopsFrom (BlockForever p.body) es s → RoundStops p s
-program_stops p es s e x = by (subst (λ z. StopsFrom (BlockForever p.body) z s) e x)
-  where
-    by : StopsFrom (BlockForever p.body) ((zeros (length p.names), (1, 1)) ∷ []) s → RoundStops p s
-    by x = record { forever = λ h. x.forever h (omega arith, omega arith, tt) }
+  pub program_stops : (es : Entries) (s : Stop) → es ≡ (zeros (length p.names), (1, 1)) ∷ [] → StopsFrom (BlockEndless price p.body) es s → RoundStops price p s
+  program_stops es s e x = by (subst (λ z. StopsFrom (BlockEndless price p.body) z s) e x)
+    where
+      by : StopsFrom (BlockEndless price p.body) ((zeros (length p.names), (1, 1)) ∷ []) s → RoundStops price p s
+      by x = record { forever = λ h. x.forever h (omega arith, omega arith, tt) }
 
 -- ---- what is come to, said of an equal fraction
 pub comes_as : (under : Limits → Fraction) (number other : Fraction) → IsEqual other number → 1 ≤ other.1 → ComesTo under number → ComesTo under other
@@ -117,43 +121,43 @@ over_passes read rounds bits failed lost rs ns f l e n b = by read.0 read.1 roun
         cancel (r1 * u) _ _ (product_pos r1 u rs us)
         (let a = ap (λ z. z * (w * u)) b in let c = ap (λ z. x * b1 * w * z) n in let d = ap (λ z. x * b1 * r1 * z) same in omega arith)
 
--- the two laws, as the calls of the law say them
-abbrev pub Tends : Type 0
-Tends = (p : SourceProgram) (J : Table) (read : Fraction) (f : Outflow) → IsChecked p → RoundReads p J read → ProgramSettles p f → IsBelowOne (settled_failed p f) → AreExpected p (bits_in_the_limit p f read)
-
-abbrev pub ReadsNothing : Type 0
-ReadsNothing = (p : SourceProgram) (J : Table) (read : Fraction) (f : Outflow) → IsChecked p → RoundReads p J read → ProgramSettles p f → IsOne (settled_failed p f) → read.0 ≡ 0 → AreExpected p zero_share
-
-module _ (p : SourceProgram) (ok : IsChecked p) (read : Fraction) (r : ReadsInRound p read) (failed : Fraction) (some : 1 ≤ failed.1) (f : FailsWith p failed) where
-  read_some : 0 < read.1
-  read_some = block_some p.body (sure (zeros (length p.names))) r.0 read r.1
-
+-- what a run comes to, by the law of whatever is counted of it
+module _ (under : Limits → Fraction) (p : SourceProgram) (ok : IsChecked p) (cost : Fraction) (cost_some : 0 < cost.1) (failed : Fraction) (some : 1 ≤ failed.1) (f : FailsWith p failed)
+    (tends : IsBelowOne (settled_failed p f.settled) → ComesTo under (price_in_the_limit p f.settled cost)) where
   lost_some : 1 ≤ (settled_failed p f.settled).1
   lost_some = f.fraction
 
-  -- a round reads nothing
-  pub nothing_read : Tends → ReadsNothing → read.0 ≡ 0 → (none : Fraction) → IsEqual none (0, 1) → 1 ≤ none.1 → AreExpected p none
-  nothing_read tends nothing z none e ns =
+  -- a round costs nothing
+  pub nothing_costs : (IsOne (settled_failed p f.settled) → cost.0 ≡ 0 → ComesTo under zero_share) → cost.0 ≡ 0 → (none : Fraction) → IsEqual none (0, 1) → 1 ≤ none.1 → ComesTo under none
+  nothing_costs nothing z none e ns =
       let L = settled_failed p f.settled in
       ⊎_elim
       (λ (less : failed.0 < failed.1).
-      let o = tends p r.0 read f.settled ok r.1 f.settles (some_pass p ok f.settled f.settles failed some lost_some f.fails less) in
-      comes_as (expected_bits p) (bits_in_the_limit p f.settled read) none (zero none.0 none.1 read.0 L.1 (read.1 * (L.1 - L.0)) e z) ns o)
+      let o = tends (some_pass p ok f.settled f.settles failed some lost_some f.fails less) in
+      comes_as under (price_in_the_limit p f.settled cost) none (zero none.0 none.1 cost.0 L.1 (cost.1 * (L.1 - L.0)) e z) ns o)
       (λ (le : failed.1 ≤ failed.0).
-      let o = nothing p r.0 read f.settled ok r.1 f.settles (all_fail p ok f.settled f.settles failed some lost_some f.fails le) z in
-      comes_as (expected_bits p) zero_share none e ns o)
+      let o = nothing (all_fail p ok f.settled f.settles failed some lost_some f.fails le) z in
+      comes_as under zero_share none e ns o)
       (cases_lt failed.0 failed.1)
     where
       zero : (a b x l m : ℕ) → a * 1 ≡ 0 * b → x ≡ 0 → a * m ≡ x * l * b
       zero a b x l m e z = let i : a ≡ 0 = omega arith in let j = ap (λ v. v * m) i in let k = ap (λ v. v * l * b) z in omega arith
 
-  -- a round reads some bits, and may pass
-  pub bits_read : Tends → failed.0 < failed.1 → (rounds bits : Fraction) → IsEqual rounds (failed.1, failed.1 - failed.0) → 1 ≤ rounds.1 → product_of read rounds ≡ Some bits → 1 ≤ bits.1 → AreExpected p bits
-  bits_read tends less rounds bits n ns e bs =
+  -- a round costs something, and may pass
+  pub all_cost : failed.0 < failed.1 → (rounds all : Fraction) → IsEqual rounds (failed.1, failed.1 - failed.0) → 1 ≤ rounds.1 → product_of cost rounds ≡ Some all → 1 ≤ all.1 → ComesTo under all
+  all_cost less rounds all n ns e bs =
       let L = settled_failed p f.settled in
       let below = some_pass p ok f.settled f.settles failed some lost_some f.fails less in
-      let g = product_is read rounds bits read_some (omega arith) e in
-      comes_as (expected_bits p) (bits_in_the_limit p f.settled read) bits (over_passes read rounds bits failed L read_some (omega arith) less below f.fails n g.equal) bs (tends p r.0 read f.settled ok r.1 f.settles below)
+      let g = product_is cost rounds all cost_some (omega arith) e in
+      comes_as under (price_in_the_limit p f.settled cost) all (over_passes cost rounds all failed L cost_some (omega arith) less below f.fails n g.equal) bs (tends below)
+
+pub round_some : (price : Price) (p : SourceProgram) (cost : Fraction) → CostsInRound price p cost → 0 < cost.1
+round_some price p cost r = block_some price p.body (sure (zeros (length p.names))) r.0 cost r.1
+
+-- ---- a program of the same expected costs
+pub same_count : (price : Price) (p q : SourceProgram) → ((l : Limits) → expected_price price q l ≡ expected_price price p l) → (a : Count) → IsCount price q a → IsCount price p a
+same_count price p q e (count.Expected f) h = (comes_alike (expected_price price p) (expected_price price q) e f h.0, h.1)
+same_count price p q e count.Unbounded h = grows_alike (expected_price price p) (expected_price price q) e h
 
 -- ---- a program of the same expected bits
 pub same_answer : (p q : SourceProgram) → ((l : Limits) → expected_bits q l ≡ expected_bits p l) → (a : Bits) → IsAnswer q a → IsAnswer p a

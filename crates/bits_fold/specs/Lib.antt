@@ -1,3 +1,4 @@
+pub mod Counted
 pub mod Expected
 pub mod Refused
 pub mod inner

@@ -1,26 +1,29 @@
-// The bits that the draws of a table's states read, each by as many attempts as it takes.
+// What the draws of a table's states cost, each by as many attempts as it takes, by what is counted.
 
-ghost use Rattle.std.specs.Prelude.{◌≡◌, length, IfSome};
+ghost use Rattle.std.specs.Prelude.{◌≡◌, ◌≤◌, ◌<◌, ◌^◌, None, length, IfSome};
 ghost use Rattle.numbers.specs.Arithmetic.{InLowest};
 ghost use Rattle.numbers.specs.Fraction.{IsEqual};
 ghost use Rattle.gcl_core.specs.meaning.Arms.{parts_of};
 ghost use Rattle.gcl_core.specs.meaning.Bounds.{IsWeight, ExpressionBelow, AreParts};
-ghost use Rattle.gcl_core.specs.meaning.Draw.{choice_ends};
+ghost use Rattle.gcl_core.specs.meaning.Draw.{choice_ends, uniform_ends};
 ghost use Rattle.gcl_core.specs.meaning.Parts.{partial_sums};
 ghost use Rattle.gcl_core.specs.meaning.Value.{value_of};
 ghost use Rattle.gcl_core.specs.meaning.Views.{expression_of, list_of_arms};
 ghost use Rattle.table_flow.specs.Reached.{drawn_each, drawn_bound};
 ghost use Rattle.cost_law.specs.ExpectedBits.{attempt_bits};
-ghost use Rattle.bits_fold.specs.inner.Reading.{bits_of_bound, WeighsTo, DrawsRead};
+ghost use Rattle.bits_law.specs.Price.{price_of_draw};
+ghost use Rattle.bits_fold.specs.Counted.{price_of};
+ghost use Rattle.bits_fold.specs.inner.Reading.{price_of_bound, WeighsTo, DrawsCost};
 
+use crate::counted::Counted;
 use attempt_bits::{arms_bits, choice_bits, uniform_bits};
 use gcl_core::{Arms, Expr, MOST_ARMS, Weight, eval};
 use mass_fold::choosing::total;
 use mass_fold::{State, Table};
 use numbers::Frac;
 
-// The sum of all weights; none where it, or a sum on the way to it, does not fit.
-fn weight_of(table: &Table) -> Option<Frac>
+// The sum of all weights of a table; none where it, or a sum on the way to it, does not fit.
+pub fn weight_of(table: &Table) -> Option<Frac>
     ensures { IfSome result (WeighsTo table.now.states.entries) }
 {
     let mut sum = Frac::of(0, 1);
@@ -30,12 +33,25 @@ fn weight_of(table: &Table) -> Option<Frac>
     Some(sum)
 }
 
-// The bits of the draw of a choice, for each state of a table.
-pub fn bits_of_choice(p: Weight, table: &Table) -> Option<Frac>
+// What one choice costs.
+fn price_of_choice(what: Counted, p: Weight) -> Frac
     requires { IsWeight p }
-    ensures { IfSome result (DrawsRead (drawn_each (choice_ends p)) table.now.states.entries) }
+    ensures equal { IsEqual result (price_of_draw (price_of what) None (choice_ends p)) }
+    ensures lowest { InLowest result }
 {
-    let price = Frac::of(choice_bits(p), u128::from(p.den));
+    match what {
+        Counted::Bits => Frac::of(choice_bits(p), u128::from(p.den)),
+        Counted::Draws => Frac::of(1, 1),
+        Counted::Turns => Frac::of(0, 1),
+    }
+}
+
+// What the draw of a choice costs, for each state of a table.
+pub fn cost_of_choice(what: Counted, p: Weight, table: &Table) -> Option<Frac>
+    requires { IsWeight p }
+    ensures { IfSome result (DrawsCost (price_of what) (drawn_each (choice_ends p)) table.now.states.entries) }
+{
+    let price = price_of_choice(what, p);
     weight_of(table)?.mul(&price)
 }
 
@@ -55,19 +71,46 @@ fn attempt_of(arms: &Arms) -> u128
     arms_bits(&ends[..count])
 }
 
-// The bits of the draw of a choice among several, for each state of a table.
-pub fn bits_of_arms(arms: &Arms, table: &Table) -> Option<Frac>
+// What one choice among several costs.
+fn price_of_arms(what: Counted, arms: &Arms) -> Frac
     requires { AreParts (parts_of (list_of_arms arms.now)) }
-    ensures { IfSome result (DrawsRead (drawn_each (partial_sums (parts_of (list_of_arms arms.now)))) table.now.states.entries) }
+    ensures equal { IsEqual result (price_of_draw (price_of what) None (partial_sums (parts_of (list_of_arms arms.now)))) }
+    ensures lowest { InLowest result }
 {
-    let price = Frac::of(attempt_of(arms), u128::from(total(arms)));
+    match what {
+        Counted::Bits => Frac::of(attempt_of(arms), u128::from(total(arms))),
+        Counted::Draws => Frac::of(1, 1),
+        Counted::Turns => Frac::of(0, 1),
+    }
+}
+
+// What the draw of a choice among several costs, for each state of a table.
+pub fn cost_of_arms(what: Counted, arms: &Arms, table: &Table) -> Option<Frac>
+    requires { AreParts (parts_of (list_of_arms arms.now)) }
+    ensures { IfSome result (DrawsCost (price_of what) (drawn_each (partial_sums (parts_of (list_of_arms arms.now)))) table.now.states.entries) }
+{
+    let price = price_of_arms(what, arms);
     weight_of(table)?.mul(&price)
 }
 
-// The bits of the uniform draw of one state, or 0 where its bound is none.
-fn bits_of_state(e: &Expr, s: &State) -> Frac
+// What one uniform draw below a bound costs.
+fn bound_price(what: Counted, bound: u64) -> Frac
+    requires low { 1 ≤ bound }
+    requires fits { bound < 2 ^ 63 }
+    ensures equal { IsEqual result (price_of_draw (price_of what) None (uniform_ends bound)) }
+    ensures lowest { InLowest result }
+{
+    match what {
+        Counted::Bits => Frac::of(uniform_bits(bound), u128::from(bound)),
+        Counted::Draws => Frac::of(1, 1),
+        Counted::Turns => Frac::of(0, 1),
+    }
+}
+
+// What the uniform draw of one state costs, or 0 where its bound is none.
+fn cost_of_state(what: Counted, e: &Expr, s: &State) -> Frac
     requires { ExpressionBelow (expression_of e.now) (length s.now) }
-    ensures equal { IsEqual result (bits_of_bound (value_of (expression_of e.now) s.now)) }
+    ensures equal { IsEqual result (price_of_bound (price_of what) (value_of (expression_of e.now) s.now)) }
     ensures lowest { InLowest result }
 {
     match eval(e, s.values()) {
@@ -76,20 +119,20 @@ fn bits_of_state(e: &Expr, s: &State) -> Frac
             if v < 1 {
                 return Frac::of(0, 1);
             }
-            Frac::of(uniform_bits(v as u64), u128::from(v as u64))
+            bound_price(what, v as u64)
         }
     }
 }
 
-// The bits of the uniform draw of each state of a table.
-pub fn bits_of_uniform(e: &Expr, table: &Table) -> Option<Frac>
+// What the uniform draw of each state of a table costs.
+pub fn cost_of_uniform(what: Counted, e: &Expr, table: &Table) -> Option<Frac>
     requires { ExpressionBelow (expression_of e.now) table.now.vars }
-    ensures { IfSome result (DrawsRead (drawn_bound (value_of (expression_of e.now))) table.now.states.entries) }
+    ensures { IfSome result (DrawsCost (price_of what) (drawn_bound (value_of (expression_of e.now))) table.now.states.entries) }
 {
     let mut sum = Frac::of(0, 1);
     for (s, f) in &table.states {
-        let bits = f.mul(&bits_of_state(e, s))?;
-        sum = sum.add(&bits)?;
+        let cost = f.mul(&cost_of_state(what, e, s))?;
+        sum = sum.add(&cost)?;
     }
     Some(sum)
 }

@@ -9,6 +9,7 @@ ghost use Rattle.bits_fold.specs.Refused.{BitsRefused};
 ghost use Rattle.bits_fold.specs.inner.AsWritten.{RefusedAsWritten, RoundsBlame};
 ghost use Rattle.bits_fold.specs.inner.Reading.{ReadsInRound};
 
+use crate::counted::Counted;
 use crate::ended::{bits_at, tried};
 use crate::error::BitsError;
 use crate::reading::read_program;
@@ -70,7 +71,7 @@ fn bits_of_loops(alloc: Global, p: &Checked) -> Result<Bits, BitsError>
         Err(SettleError::TooManyStates) => return Err(BitsError::TooManyStates),
         failed => failed,
     };
-    let read = match read_program(alloc, p) {
+    let read = match read_program(alloc, Counted::Bits, p) {
         Err(Stop::ReadsForever) => return Ok(Bits::Unbounded),
         Err(Stop::Refused(error)) => return Err(error),
         Ok(read) => read,

@@ -1,4 +1,4 @@
-// A table through a block, and the bits that are read on the way, where nothing is limited.
+// A table through a block, and what is counted on the way, where nothing is limited: bits, draws or turns of loops.
 
 ghost use Rattle.std.specs.Prelude.{◌≡◌, ◌≤◌, ◌<◌, length, Some, None, IfOk, IfErr, OnOk};
 ghost use Rattle.std.specs.List.{sum};
@@ -12,14 +12,16 @@ ghost use Rattle.gcl_core.specs.meaning.Value.{value_of};
 ghost use Rattle.table_flow.specs.Counts.{all_kept, none_stopped};
 ghost use Rattle.mass_fold.specs.declared.ended.Ended.{Ended};
 ghost use Rattle.mass_fold.specs.inner.Steps.{StepsTo};
-ghost use Rattle.bits_law.specs.Forever.{LoopForever, StatementForever, BlockForever, ArmsForever};
-ghost use Rattle.bits_law.specs.Reading.{AreSilent, LoopReads, StatementReads, BlockReads, ArmsRead};
+ghost use Rattle.bits_law.specs.Forever.{LoopForever, StatementEndless, BlockEndless, ArmsEndless};
+ghost use Rattle.bits_law.specs.Reading.{AreSilent, LoopReads, TurnCosts, StatementCosts, BlockCosts, ArmsCost};
 ghost use Rattle.exact_fold.specs.inner.Turning.{keys_in};
 ghost use Rattle.bits_fold.specs.inner.Forever.{StopsFrom, RoundStops, Rounds, LoopStops};
-ghost use Rattle.bits_fold.specs.inner.Reading.{ReadsFrom, ReadsInRound};
+ghost use Rattle.bits_fold.specs.Counted.{price_of};
+ghost use Rattle.bits_fold.specs.inner.Reading.{ReadsFrom, CostsInRound};
 ghost use Rattle.bits_fold.specs.inner.Turning.{IsSilent, VisitsFrom, MayBegin};
 
-use crate::draws::{bits_of_arms, bits_of_choice, bits_of_uniform};
+use crate::counted::Counted;
+use crate::draws::{cost_of_arms, cost_of_choice, cost_of_uniform, weight_of};
 use crate::error::BitsError;
 use crate::finding::{
     Led, begun_anew, begun_with_more, chain, first_of, one, part_of, rest_of, silent_states,
@@ -101,17 +103,17 @@ fn unlimited(alloc: Global) -> Fold
 
 // The table after a block, and the bits that it reads.
 #[cycle(reading)]
-fn read_block(alloc: Global, b: &Block, table: Table) -> Result<Reached, Stop>
+fn read_block(alloc: Global, what: Counted, b: &Block, table: Table) -> Result<Reached, Stop>
     requires below { BlockBelow table.vars (statements_of b.now) }
     requires weights { BlockIsWeighed (statements_of b.now) }
-    ensures ok { IfOk result (λ r. ReadsFrom (BlockReads (statements_of b.now))
+    ensures ok { IfOk result (λ r. ReadsFrom (BlockCosts (price_of what) (statements_of b.now))
         table.states.entries r.table.states.entries r.bits) }
-    ensures stops { IfErr result (StopsFrom (BlockForever (statements_of b.now)) table.states.entries) }
+    ensures stops { IfErr result (StopsFrom (BlockEndless (price_of what) (statements_of b.now)) table.states.entries) }
     ensures vars { IfOk result (λ r. r.table.vars ≡ table.vars) }
 {
     let mut now = silently(table);
     for s in &b.stmts {
-        let next = read_stmt(alloc, s, now.table)?;
+        let next = read_stmt(alloc, what, s, now.table)?;
         now = with_more(next, &now.bits)?;
     }
     Ok(now)
@@ -119,19 +121,19 @@ fn read_block(alloc: Global, b: &Block, table: Table) -> Result<Reached, Stop>
 
 #[cycle(reading)]
 #[tactic(auto, using(gcl_core::proofs::ViewLemmas::views))]
-fn read_stmt(alloc: Global, s: &Stmt, table: Table) -> Result<Reached, Stop>
+fn read_stmt(alloc: Global, what: Counted, s: &Stmt, table: Table) -> Result<Reached, Stop>
     requires below { StatementBelow table.vars (statement_of s.now) }
     requires weights { StatementIsWeighed (statement_of s.now) }
-    ensures ok { IfOk result (λ r. ReadsFrom (StatementReads (statement_of s.now))
+    ensures ok { IfOk result (λ r. ReadsFrom (StatementCosts (price_of what) (statement_of s.now))
         table.states.entries r.table.states.entries r.bits) }
-    ensures stops { IfErr result (StopsFrom (StatementForever (statement_of s.now)) table.states.entries) }
+    ensures stops { IfErr result (StopsFrom (StatementEndless (price_of what) (statement_of s.now)) table.states.entries) }
     ensures vars { IfOk result (λ r. r.table.vars ≡ table.vars) }
 {
     let mut ended = Ended::none();
     match s {
         Stmt::Skip => Ok(silently(table)),
         Stmt::Set(x, e) => Ok(silently(assign(alloc, *x, e, table, &mut ended)?)),
-        Stmt::Uniform(x, e) => Ok(read_uniform(alloc, *x, e, table)?),
+        Stmt::Uniform(x, e) => Ok(read_uniform(alloc, what, *x, e, table)?),
         Stmt::Observe(e) => {
             let (first, second) = split(alloc, e, table, &mut ended)?;
             end_all(Gone::Failed, second, &mut ended)?;
@@ -139,32 +141,38 @@ fn read_stmt(alloc: Global, s: &Stmt, table: Table) -> Result<Reached, Stop>
         }
         Stmt::If(e, a, c) => {
             let (first, second) = split(alloc, e, table, &mut ended)?;
-            let left = read_block(alloc, a, first)?;
-            let right = read_block(alloc, c, second)?;
+            let left = read_block(alloc, what, a, first)?;
+            let right = read_block(alloc, what, c, second)?;
             Ok(joined(left, right)?)
         }
-        Stmt::While(e, body) => read_loop(alloc, body, e, table),
+        Stmt::While(e, body) => read_loop(alloc, what, body, e, table),
         Stmt::Choice(p, a, c) => {
-            let bits = bits_of_choice(*p, &table).ok_or(BitsError::TooWide)?;
+            let bits = cost_of_choice(what, *p, &table).ok_or(BitsError::TooWide)?;
             let (first, second) = sides(alloc, *p, Attempts { most: None }, &table, &mut ended)?;
-            let left = read_block(alloc, a, first)?;
-            let right = read_block(alloc, c, second)?;
+            let left = read_block(alloc, what, a, first)?;
+            let right = read_block(alloc, what, c, second)?;
             Ok(with_more(joined(left, right)?, &bits)?)
         }
-        Stmt::Choose(arms) => read_choose(alloc, arms, table),
+        Stmt::Choose(arms) => read_choose(alloc, what, arms, table),
     }
 }
 
-fn read_uniform(alloc: Global, x: u32, e: &Expr, table: Table) -> Result<Reached, BitsError>
+fn read_uniform(
+    alloc: Global,
+    what: Counted,
+    x: u32,
+    e: &Expr,
+    table: Table,
+) -> Result<Reached, BitsError>
     requires place { x < table.vars }
     requires reads { ExpressionBelow (expression_of e.now) table.vars }
-    ensures ok { IfOk result (λ r. ReadsFrom (StatementReads (Uniform x (expression_of e.now)))
+    ensures ok { IfOk result (λ r. ReadsFrom (StatementCosts (price_of what) (Uniform x (expression_of e.now)))
         table.states.entries r.table.states.entries r.bits) }
     ensures vars { IfOk result (λ r. r.table.vars ≡ table.vars) }
 {
     let mut ended = Ended::none();
     let _count = table.states.len();
-    let bits = bits_of_uniform(e, &table).ok_or(BitsError::TooWide)?;
+    let bits = cost_of_uniform(what, e, &table).ok_or(BitsError::TooWide)?;
     let table = unlimited(alloc).draw(x, e, table, &mut ended)?;
     Ok(Reached { table, bits })
 }
@@ -179,77 +187,110 @@ fn one_part(count: u64) -> Frac
 }
 
 #[cycle(reading)]
-fn read_choose(alloc: Global, arms: &Arms, table: Table) -> Result<Reached, Stop>
+fn read_choose(alloc: Global, what: Counted, arms: &Arms, table: Table) -> Result<Reached, Stop>
     requires below { ArmsBelow table.vars (list_of_arms arms.now) }
     requires parts { AreParts (parts_of (list_of_arms arms.now)) }
     requires weights { ArmsAreWeighed (list_of_arms arms.now) }
-    ensures ok { IfOk result (λ r. ReadsFrom (StatementReads (Choose (list_of_arms arms.now)))
+    ensures ok { IfOk result (λ r. ReadsFrom (StatementCosts (price_of what) (Choose (list_of_arms arms.now)))
         table.states.entries r.table.states.entries r.bits) }
-    ensures stops { IfErr result (StopsFrom (StatementForever (Choose (list_of_arms arms.now))) table.states.entries) }
+    ensures stops { IfErr result (StopsFrom (StatementEndless (price_of what) (Choose (list_of_arms arms.now))) table.states.entries) }
     ensures vars { IfOk result (λ r. r.table.vars ≡ table.vars) }
 {
-    let bits = bits_of_arms(arms, &table).ok_or(BitsError::TooWide)?;
+    let bits = cost_of_arms(what, arms, &table).ok_or(BitsError::TooWide)?;
     let part = one_part(total(arms));
-    Ok(with_more(read_arms(alloc, arms, &part, &table)?, &bits)?)
+    Ok(with_more(read_arms(alloc, what, arms, &part, &table)?, &bits)?)
 }
 
 // The arms of a choice among several, one after the other, each by its part.
 #[cycle(reading)]
-fn read_arms(alloc: Global, arms: &Arms, part: &Frac, table: &Table) -> Result<Reached, Stop>
+fn read_arms(
+    alloc: Global,
+    what: Counted,
+    arms: &Arms,
+    part: &Frac,
+    table: &Table,
+) -> Result<Reached, Stop>
     requires below { ArmsBelow table.now.vars (list_of_arms arms.now) }
     requires parts { AreParts (parts_of (list_of_arms arms.now)) }
     requires weights { ArmsAreWeighed (list_of_arms arms.now) }
     requires above { 1 ≤ part.now.0 }
     requires equal { IsEqual part.now (1, sum (parts_of (list_of_arms arms.now))) }
     ensures ok { IfOk result (λ r. ReadsFrom
-        (ArmsRead (sum (parts_of (list_of_arms arms.now))) (list_of_arms arms.now))
+        (ArmsCost (price_of what) (sum (parts_of (list_of_arms arms.now))) (list_of_arms arms.now))
         table.now.states.entries r.table.states.entries r.bits) }
     ensures stops { IfErr result (StopsFrom
-        (ArmsForever (sum (parts_of (list_of_arms arms.now))) (list_of_arms arms.now)) table.now.states.entries) }
+        (ArmsEndless (price_of what) (sum (parts_of (list_of_arms arms.now))) (list_of_arms arms.now)) table.now.states.entries) }
     ensures vars { IfOk result (λ r. r.table.vars ≡ table.now.vars) }
 {
     let mut out = silently(Table::new(alloc, table.vars));
     for (count, block) in &arms.arms {
         let side = weighed(alloc, part, *count, table)?;
-        let next = read_block(alloc, block, side)?;
+        let next = read_block(alloc, what, block, side)?;
         out = joined(out, next)?;
     }
     Ok(out)
 }
 
+// One turn of a loop from a table: where turns are counted, each counts besides what the body does.
+#[cycle(reading)]
+fn read_turn(alloc: Global, what: Counted, body: &Block, table: Table) -> Result<Reached, Stop>
+    requires below { BlockBelow table.vars (statements_of body.now) }
+    requires weights { BlockIsWeighed (statements_of body.now) }
+    ensures ok { IfOk result (λ r. ReadsFrom (TurnCosts (price_of what).turns (BlockCosts (price_of what) (statements_of body.now)))
+        table.states.entries r.table.states.entries r.bits) }
+    ensures stops { IfErr result (StopsFrom (BlockEndless (price_of what) (statements_of body.now)) table.states.entries) }
+    ensures vars { IfOk result (λ r. r.table.vars ≡ table.vars) }
+{
+    match what {
+        Counted::Turns => {
+            let turns = weight_of(&table).ok_or(BitsError::TooWide)?;
+            let next = read_block(alloc, what, body, table)?;
+            Ok(with_more(next, &turns)?)
+        }
+        Counted::Bits => read_block(alloc, what, body, table),
+        Counted::Draws => read_block(alloc, what, body, table),
+    }
+}
+
 // A loop: its visits are found, and one turn of its body shows that they are right; the visits of the loop begun with them show
 // that they are no more than what the loop comes to. Where it reads for ever, turns of its body show it.
 #[cycle(reading)]
-fn read_loop(alloc: Global, body: &Block, e: &Expr, table: Table) -> Result<Reached, Stop>
+fn read_loop(
+    alloc: Global,
+    what: Counted,
+    body: &Block,
+    e: &Expr,
+    table: Table,
+) -> Result<Reached, Stop>
     requires reads { ExpressionBelow (expression_of e.now) table.vars }
     requires below { BlockBelow table.vars (statements_of body.now) }
     requires weights { BlockIsWeighed (statements_of body.now) }
     ensures ok { IfOk result (λ r. ReadsFrom
-        (LoopReads (value_of (expression_of e.now)) (BlockReads (statements_of body.now)))
+        (LoopReads (value_of (expression_of e.now)) (TurnCosts (price_of what).turns (BlockCosts (price_of what) (statements_of body.now))))
         table.states.entries r.table.states.entries r.bits) }
     ensures stops { IfErr result (StopsFrom
-        (LoopForever (value_of (expression_of e.now)) (BlockReads (statements_of body.now)) (BlockForever (statements_of body.now)))
+        (LoopForever (value_of (expression_of e.now)) (TurnCosts (price_of what).turns (BlockCosts (price_of what) (statements_of body.now))) (BlockEndless (price_of what) (statements_of body.now)))
         table.states.entries) }
     ensures vars { IfOk result (λ r. r.table.vars ≡ table.vars) }
 {
     let start = start_of(alloc, e, &table)?;
-    let Some(turns) = explored(alloc, body, e, &start)? else {
+    let Some(turns) = explored(alloc, what, body, e, &start)? else {
         let none = Table::new(alloc, table.vars);
-        check_forever(alloc, body, e, &none, table)?;
+        check_forever(alloc, what, body, e, &none, table)?;
         return Err(Stop::ReadsForever);
     };
     let silent = silent_states(alloc, &turns, table.vars)?;
     let seen = chain(alloc, &turns, &silent, &silent)?;
     let found = seen.found(alloc, &leaving(alloc, &silent, start)?)?;
     if found.closed.states.len() != 0 {
-        let class = class_in(alloc, body, e, found.closed)?;
-        check_forever(alloc, body, e, &class, table)?;
+        let class = class_in(alloc, what, body, e, found.closed)?;
+        check_forever(alloc, what, body, e, &class, table)?;
         return Err(Stop::ReadsForever);
     }
-    check_silent(alloc, body, e, &silent)?;
+    check_silent(alloc, what, body, e, &silent)?;
     let again = begun_anew(alloc, &seen, &silent, &found.visits)?;
-    let turned = turn_from(alloc, body, e, &silent, found.visits, table)?;
-    check_visits(alloc, body, e, &silent, again, turned.visits)?;
+    let turned = turn_from(alloc, what, body, e, &silent, found.visits, table)?;
+    check_visits(alloc, what, body, e, &silent, again, turned.visits)?;
     Ok(Reached {
         table: turned.exits,
         bits: turned.bits,
@@ -260,6 +301,7 @@ fn read_loop(alloc: Global, body: &Block, e: &Expr, table: Table) -> Result<Reac
 #[cycle(reading)]
 fn check_visits(
     alloc: Global,
+    what: Counted,
     body: &Block,
     e: &Expr,
     closed: &Table,
@@ -270,17 +312,17 @@ fn check_visits(
     requires below { BlockBelow visits.vars (statements_of body.now) }
     requires weights { BlockIsWeighed (statements_of body.now) }
     requires vars { again.vars ≡ visits.vars }
-    ensures { OnOk result (MayBegin (value_of (expression_of e.now)) (BlockReads (statements_of body.now))
+    ensures { OnOk result (MayBegin (value_of (expression_of e.now)) (TurnCosts (price_of what).turns (BlockCosts (price_of what) (statements_of body.now)))
         closed.now.states.entries visits.states.entries) }
 {
-    let next = read_block(alloc, body, copied(alloc, &again)?)?;
+    let next = read_turn(alloc, what, body, copied(alloc, &again)?)?;
     let more = begun_with_more(alloc, e, closed, &again, &visits, next.table)?;
     if !above(&more) {
         return Err(BitsError::NotFound);
     }
     let mut all = visits;
     merge(&mut all, more)?;
-    turn_from(alloc, body, e, closed, again, all)?;
+    turn_from(alloc, what, body, e, closed, again, all)?;
     Ok(())
 }
 
@@ -288,6 +330,7 @@ fn check_visits(
 #[cycle(reading)]
 fn turn_from(
     alloc: Global,
+    what: Counted,
     body: &Block,
     e: &Expr,
     closed: &Table,
@@ -298,7 +341,7 @@ fn turn_from(
     requires below { BlockBelow table.vars (statements_of body.now) }
     requires weights { BlockIsWeighed (statements_of body.now) }
     requires vars { found.vars ≡ table.vars }
-    ensures ok { IfOk result (λ t. VisitsFrom (value_of (expression_of e.now)) (BlockReads (statements_of body.now))
+    ensures ok { IfOk result (λ t. VisitsFrom (value_of (expression_of e.now)) (TurnCosts (price_of what).turns (BlockCosts (price_of what) (statements_of body.now)))
         closed.now.states.entries table.states.entries t.visits.states.entries t.exits.states.entries t.bits) }
     ensures vars { IfOk result (λ t. t.exits.vars ≡ table.vars) }
     ensures visits { IfOk result (λ t. t.visits.vars ≡ table.vars) }
@@ -307,7 +350,7 @@ fn turn_from(
     if !above(&found) || !same(&found, &copy) {
         return Err(BitsError::NotFound);
     }
-    let next = read_block(alloc, body, found)?;
+    let next = read_turn(alloc, what, body, found)?;
     let mut all = table;
     merge(&mut all, next.table)?;
     let visits = leaving(alloc, closed, all)?;
@@ -344,6 +387,7 @@ fn twin(alloc: Global, table: &Table) -> Result<Table, BitsError>
 #[cycle(reading)]
 fn check_forever(
     alloc: Global,
+    what: Counted,
     body: &Block,
     e: &Expr,
     class: &Table,
@@ -353,19 +397,19 @@ fn check_forever(
     requires below { BlockBelow table.vars (statements_of body.now) }
     requires weights { BlockIsWeighed (statements_of body.now) }
     requires vars { class.now.vars ≡ table.vars }
-    ensures { OnOk result (LoopStops (value_of (expression_of e.now)) (BlockReads (statements_of body.now))
-        (BlockForever (statements_of body.now)) table.states.entries) }
+    ensures { OnOk result (LoopStops (value_of (expression_of e.now)) (TurnCosts (price_of what).turns (BlockCosts (price_of what) (statements_of body.now)))
+        (BlockEndless (price_of what) (statements_of body.now)) table.states.entries) }
 {
     let mut all = twin(alloc, &table)?;
     let mut now = table;
     for _ in 0..MOST_STATES {
         if class.states.len() != 0 && all_stand(&all, class) {
-            check_round(alloc, body, e, class, all)?;
+            check_round(alloc, what, body, e, class, all)?;
             return Ok(());
         }
         let mut none = Ended::none();
         let (on, _) = split(alloc, e, now, &mut none)?;
-        match read_block(alloc, body, on) {
+        match read_turn(alloc, what, body, on) {
             Err(Stop::ReadsForever) => return Ok(()),
             Err(Stop::Refused(error)) => return Err(error),
             Ok(next) => {
@@ -381,6 +425,7 @@ fn check_forever(
 #[cycle(reading)]
 fn check_round(
     alloc: Global,
+    what: Counted,
     body: &Block,
     e: &Expr,
     class: &Table,
@@ -390,7 +435,7 @@ fn check_round(
     requires below { BlockBelow all.vars (statements_of body.now) }
     requires weights { BlockIsWeighed (statements_of body.now) }
     requires vars { class.now.vars ≡ all.vars }
-    ensures { OnOk result (Rounds (value_of (expression_of e.now)) (BlockReads (statements_of body.now)) all.states.entries) }
+    ensures { OnOk result (Rounds (value_of (expression_of e.now)) (TurnCosts (price_of what).turns (BlockCosts (price_of what) (statements_of body.now))) all.states.entries) }
 {
     let part = part_of(alloc, class, &all)?;
     let rest = rest_of(alloc, &all, &part)?;
@@ -405,7 +450,7 @@ fn check_round(
     }
     let mut none = Ended::none();
     let (on, _) = split(alloc, e, part, &mut none)?;
-    let next = read_block(alloc, body, on)?;
+    let next = read_turn(alloc, what, body, on)?;
     if !same(&next.table, &again) || next.bits.num() == 0 {
         return Err(BitsError::NotFound);
     }
@@ -427,6 +472,7 @@ fn start_of(alloc: Global, e: &Expr, table: &Table) -> Result<Table, BitsError>
 #[cycle(reading)]
 fn led(
     alloc: Global,
+    what: Counted,
     body: &Block,
     e: &Expr,
     vars: u32,
@@ -436,7 +482,7 @@ fn led(
     requires below { BlockBelow vars (statements_of body.now) }
     requires weights { BlockIsWeighed (statements_of body.now) }
 {
-    let reached = match read_block(alloc, body, one(alloc, vars, &state)?) {
+    let reached = match read_turn(alloc, what, body, one(alloc, vars, &state)?) {
         Err(Stop::ReadsForever) => return Ok(None),
         Err(Stop::Refused(error)) => return Err(error),
         Ok(reached) => reached,
@@ -454,6 +500,7 @@ fn led(
 #[cycle(reading)]
 fn explored(
     alloc: Global,
+    what: Counted,
     body: &Block,
     e: &Expr,
     start: &Table,
@@ -470,7 +517,7 @@ fn explored(
             return Ok(Some(turns));
         }
         let state = seen.states[i].copy(alloc)?;
-        let Some(turn) = led(alloc, body, e, start.vars, state)? else {
+        let Some(turn) = led(alloc, what, body, e, start.vars, state)? else {
             return Ok(None);
         };
         seen.enlist(alloc, &turn.next)?;
@@ -485,7 +532,13 @@ fn explored(
 // Weights of a class of states, each of which leads to each, and none to others, by one factor: the visits between two of one of
 // them. The states that are handed in are never left.
 #[cycle(reading)]
-fn class_in(alloc: Global, body: &Block, e: &Expr, closed: Table) -> Result<Table, BitsError>
+fn class_in(
+    alloc: Global,
+    what: Counted,
+    body: &Block,
+    e: &Expr,
+    closed: Table,
+) -> Result<Table, BitsError>
     requires reads { ExpressionBelow (expression_of e.now) closed.vars }
     requires below { BlockBelow closed.vars (statements_of body.now) }
     requires weights { BlockIsWeighed (statements_of body.now) }
@@ -495,7 +548,7 @@ fn class_in(alloc: Global, body: &Block, e: &Expr, closed: Table) -> Result<Tabl
     let mut within = closed;
     for _ in 0..MOST_STATES {
         let start = first_of(alloc, &within)?;
-        let Some(turns) = explored(alloc, body, e, &start)? else {
+        let Some(turns) = explored(alloc, what, body, e, &start)? else {
             return Err(BitsError::NotFound);
         };
         let found = chain(alloc, &turns, &none, &start)?.found(alloc, &start)?;
@@ -512,6 +565,7 @@ fn class_in(alloc: Global, body: &Block, e: &Expr, closed: Table) -> Result<Tabl
 #[cycle(reading)]
 fn check_state(
     alloc: Global,
+    what: Counted,
     body: &Block,
     e: &Expr,
     closed: &Table,
@@ -521,14 +575,14 @@ fn check_state(
     requires below { BlockBelow closed.now.vars (statements_of body.now) }
     requires weights { BlockIsWeighed (statements_of body.now) }
     requires sized { length s.now ≡ closed.now.vars }
-    ensures { OnOk result (IsSilent (value_of (expression_of e.now)) (BlockReads (statements_of body.now))
+    ensures { OnOk result (IsSilent (value_of (expression_of e.now)) (TurnCosts (price_of what).turns (BlockCosts (price_of what) (statements_of body.now)))
         (keys_in closed.now.states.entries) s.now) }
 {
     if !passes(e, s) {
         return Err(BitsError::NotFound);
     }
     let one = alone(alloc, closed.vars, s)?;
-    let next = read_block(alloc, body, one)?;
+    let next = read_turn(alloc, what, body, one)?;
     if next.bits.num() != 0 || !all_stand(closed, &next.table) {
         return Err(BitsError::NotFound);
     }
@@ -537,26 +591,32 @@ fn check_state(
 
 // Nothing is read in these states any more, and none of them is ever left.
 #[cycle(reading)]
-fn check_silent(alloc: Global, body: &Block, e: &Expr, closed: &Table) -> Result<(), BitsError>
+fn check_silent(
+    alloc: Global,
+    what: Counted,
+    body: &Block,
+    e: &Expr,
+    closed: &Table,
+) -> Result<(), BitsError>
     requires reads { ExpressionBelow (expression_of e.now) closed.now.vars }
     requires below { BlockBelow closed.now.vars (statements_of body.now) }
     requires weights { BlockIsWeighed (statements_of body.now) }
-    ensures { OnOk result (AreSilent (value_of (expression_of e.now)) (BlockReads (statements_of body.now))
+    ensures { OnOk result (AreSilent (value_of (expression_of e.now)) (TurnCosts (price_of what).turns (BlockCosts (price_of what) (statements_of body.now)))
         (keys_in closed.now.states.entries)) }
 {
     for (s, _) in &closed.states {
-        check_state(alloc, body, e, closed, s)?;
+        check_state(alloc, what, body, e, closed, s)?;
     }
     Ok(())
 }
 
-/// The bits that a round of a program reads.
-pub fn read_program(alloc: Global, p: &Checked) -> Result<Frac, Stop>
-    ensures ok { IfOk result (ReadsInRound (source_of p.now)) }
-    ensures stops { IfErr result (RoundStops (source_of p.now)) }
+/// What a round of a program costs, by what is counted.
+pub fn read_program(alloc: Global, what: Counted, p: &Checked) -> Result<Frac, Stop>
+    ensures ok { IfOk result (CostsInRound (price_of what) (source_of p.now)) }
+    ensures stops { IfErr result (RoundStops (price_of what) (source_of p.now)) }
 {
     let program = p.program();
     let table = Table::start(alloc, program.names.count())?;
-    let reached = read_block(alloc, &program.body, table)?;
+    let reached = read_block(alloc, what, &program.body, table)?;
     Ok(reached.bits)
 }

@@ -82,8 +82,8 @@ fn failed_in_loops(alloc: Global, p: &Checked) -> Result<Frac, BitsError>
     }
 }
 
-// That of any program itself, before anything is forgotten.
-fn failed_as_written(alloc: Global, p: &Checked) -> Result<Frac, BitsError>
+/// That of any program itself, before anything is forgotten.
+pub fn failed_as_written(alloc: Global, p: &Checked) -> Result<Frac, BitsError>
     ensures fails { IfOk result (FailsWith (source_of p.now)) }
     ensures refused { IfErr result (RefusedAsWritten (source_of p.now)) }
 {

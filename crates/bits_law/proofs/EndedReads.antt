@@ -31,6 +31,7 @@ use Rattle.bits_law.proofs.FreeReads.{draws_both, draws_three, comes}
 use Rattle.bits_law.proofs.LimitedDraws.{cost, statement_counted, block_counted, draws_alone}
 use Rattle.bits_law.proofs.Readers.{block_reads}
 use Rattle.bits_law.proofs.TableReads.{Counted, average_some, average_is, each_some, bound_some}
+use Rattle.bits_law.specs.Price.{bits_price}
 
 -- entries that weigh nothing, since none of them is out of turns
 none_counts : (R : State → Rational) (I : Table) → Suffice (all_end (limit Turns) I) → integral R I ≃ nought
@@ -207,7 +208,7 @@ module _ (n : ℕ) where
     statement_ended Skip w I h none = comes _ _ zero_share (p_one n None Skip I w h).next refl (omega arith)
     statement_ended (Set x e) w I h none = comes _ _ zero_share (p_one n None (Set x e) I w h).next refl (omega arith)
     statement_ended (Observe e) w I h none = comes _ _ zero_share (p_one n None (Observe e) I w h).next refl (omega arith)
-    statement_ended (Uniform x e) w I h none = comes _ _ (bits_of_draws (drawn_bound (value_of e) I)) (p_one n None (Uniform x e) I w h).next refl (bound_some (value_of e) I h)
+    statement_ended (Uniform x e) w I h none = comes _ _ (bits_of_draws (drawn_bound (value_of e) I)) (p_one n None (Uniform x e) I w h).next refl (bound_some bits_price (value_of e) I h)
     statement_ended (If e a c) w I h none =
         let A = only (holds (value_of e)) I in
         let C = only (fails (value_of e)) I in
@@ -216,8 +217,8 @@ module _ (n : ℕ) where
         let parts = both_suffice (faults (value_of e) I) (block_flow n None a A).ended (block_flow n None c C).ended none in
         let x = block_ended a w.0 A (p_only (holds (value_of e)) I h) parts.0 in
         let y = block_ended c w.1 C (p_only (fails (value_of e)) I h) parts.1 in
-        let xs = block_some a A (block_flow n None a A).next (bits_of_draws D) x in
-        let ys = block_some c C (block_flow n None c C).next (bits_of_draws E) y in (
+        let xs = block_some bits_price a A (block_flow n None a A).next (bits_of_draws D) x in
+        let ys = block_some bits_price c C (block_flow n None c C).next (bits_of_draws E) y in (
           (block_flow n None a A).next,
           (block_flow n None c C).next,
           bits_of_draws D,
@@ -237,9 +238,9 @@ module _ (n : ℕ) where
         let parts = both_suffice [] (block_flow n None a A).ended (block_flow n None c C).ended none in
         let x = block_ended a w.1 A (p_scaled (class_weight p.den None p.num) I some h) parts.0 in
         let y = block_ended c w.2 C (p_scaled (class_weight p.den None (p.den - p.num)) I some h) parts.1 in
-        let xs = block_some a A (block_flow n None a A).next (bits_of_draws D) x in
-        let ys = block_some c C (block_flow n None c C).next (bits_of_draws E) y in
-        let ms = each_some ends some I h in (
+        let xs = block_some bits_price a A (block_flow n None a A).next (bits_of_draws D) x in
+        let ys = block_some bits_price c C (block_flow n None c C).next (bits_of_draws E) y in
+        let ms = each_some bits_price ends some I h in (
           (block_flow n None a A).next,
           (block_flow n None c C).next,
           bits_of_draws D,
@@ -257,11 +258,11 @@ module _ (n : ℕ) where
         let D = arms_draws n None b arms I in
         let M = drawn_each ends I in
         let x = arms_ended b some arms w.1 I h none in
-        let xs = arms_some b arms I (arms_flow n None b arms I).next (bits_of_draws D) x in (
+        let xs = arms_some bits_price b arms I (arms_flow n None b arms I).next (bits_of_draws D) x in (
           (arms_flow n None b arms I).next,
           bits_of_draws D,
           x,
-          comes _ _ (plus (bits_of_draws M) (bits_of_draws D)) (p_one n None (Choose arms) I w h).next (draws_both M D) (product_pos (bits_of_draws M).1 (bits_of_draws D).1 (each_some ends last I h) xs),
+          comes _ _ (plus (bits_of_draws M) (bits_of_draws D)) (p_one n None (Choose arms) I w h).next (draws_both M D) (product_pos (bits_of_draws M).1 (bits_of_draws D).1 (each_some bits_price ends last I h) xs),
         )
     statement_ended (While e a) w I h none = loop_reads_all e a w (block_ended a w) I h none
 
@@ -275,8 +276,8 @@ module _ (n : ℕ) where
         let parts = both_suffice [] f.ended g.ended none in
         let x = statement_ended st w.0 I h parts.0 in
         let y = block_ended b w.1 f.next (p_one n None st I w.0 h).next parts.1 in
-        let xs = statement_some st I f.next (bits_of_draws D) x in
-        let ys = block_some b f.next g.next (bits_of_draws E) y in (
+        let xs = statement_some bits_price st I f.next (bits_of_draws D) x in
+        let ys = block_some bits_price b f.next g.next (bits_of_draws E) y in (
           f.next,
           g.next,
           bits_of_draws D,
@@ -295,8 +296,8 @@ module _ (n : ℕ) where
         let parts = both_suffice [] (block_flow n None a A).ended (arms_flow n None b arms I).ended none in
         let x = block_ended a w.0 A (p_scaled (class_weight b None p) I some h) parts.0 in
         let y = arms_ended b some arms w.1 I h parts.1 in
-        let xs = block_some a A (block_flow n None a A).next (bits_of_draws D) x in
-        let ys = arms_some b arms I (arms_flow n None b arms I).next (bits_of_draws E) y in (
+        let xs = block_some bits_price a A (block_flow n None a A).next (bits_of_draws D) x in
+        let ys = arms_some bits_price b arms I (arms_flow n None b arms I).next (bits_of_draws E) y in (
           (block_flow n None a A).next,
           (arms_flow n None b arms I).next,
           bits_of_draws D,

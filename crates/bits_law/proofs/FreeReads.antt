@@ -22,6 +22,7 @@ use Rattle.bits_law.specs.Draws.{bits_of_draw, bits_of_draws}
 use Rattle.bits_law.specs.Reading.{Comes, StatementReads, BlockReads, ArmsRead}
 use Rattle.bits_law.proofs.TableReads.{each_some, bound_some}
 use Rattle.bits_law.proofs.BlockTends.{block_some, arms_some, statement_some}
+use Rattle.bits_law.specs.Price.{bits_price}
 
 -- ---- draws together
 pair_is : (a b c d : ℕ) → a ≡ c → b ≡ d → ◌≡◌ {A = Fraction} (a, b) (c, d)
@@ -56,7 +57,7 @@ module _ (n : ℕ) where
     statement_free Skip free w I h = comes _ _ zero_share (p_one n None Skip I w h).next refl (omega arith)
     statement_free (Set x e) free w I h = comes _ _ zero_share (p_one n None (Set x e) I w h).next refl (omega arith)
     statement_free (Observe e) free w I h = comes _ _ zero_share (p_one n None (Observe e) I w h).next refl (omega arith)
-    statement_free (Uniform x e) free w I h = comes _ _ (bits_of_draws (drawn_bound (value_of e) I)) (p_one n None (Uniform x e) I w h).next refl (bound_some (value_of e) I h)
+    statement_free (Uniform x e) free w I h = comes _ _ (bits_of_draws (drawn_bound (value_of e) I)) (p_one n None (Uniform x e) I w h).next refl (bound_some bits_price (value_of e) I h)
     statement_free (If e a c) free w I h =
         let A = only (holds (value_of e)) I in
         let C = only (fails (value_of e)) I in
@@ -64,8 +65,8 @@ module _ (n : ℕ) where
         let E = block_draws n None c C in
         let x = block_free a free.0 w.0 A (p_only (holds (value_of e)) I h) in
         let y = block_free c free.1 w.1 C (p_only (fails (value_of e)) I h) in
-        let xs = block_some a A (block_flow n None a A).next (bits_of_draws D) x in
-        let ys = block_some c C (block_flow n None c C).next (bits_of_draws E) y in (
+        let xs = block_some bits_price a A (block_flow n None a A).next (bits_of_draws D) x in
+        let ys = block_some bits_price c C (block_flow n None c C).next (bits_of_draws E) y in (
           (block_flow n None a A).next,
           (block_flow n None c C).next,
           bits_of_draws D,
@@ -84,9 +85,9 @@ module _ (n : ℕ) where
         let M = drawn_each ends I in
         let x = block_free a free.0 w.1 A (p_scaled (class_weight p.den None p.num) I some h) in
         let y = block_free c free.1 w.2 C (p_scaled (class_weight p.den None (p.den - p.num)) I some h) in
-        let xs = block_some a A (block_flow n None a A).next (bits_of_draws D) x in
-        let ys = block_some c C (block_flow n None c C).next (bits_of_draws E) y in
-        let ms = each_some ends some I h in (
+        let xs = block_some bits_price a A (block_flow n None a A).next (bits_of_draws D) x in
+        let ys = block_some bits_price c C (block_flow n None c C).next (bits_of_draws E) y in
+        let ms = each_some bits_price ends some I h in (
           (block_flow n None a A).next,
           (block_flow n None c C).next,
           bits_of_draws D,
@@ -104,11 +105,11 @@ module _ (n : ℕ) where
         let D = arms_draws n None b arms I in
         let M = drawn_each ends I in
         let x = arms_free b some arms free w.1 I h in
-        let xs = arms_some b arms I (arms_flow n None b arms I).next (bits_of_draws D) x in (
+        let xs = arms_some bits_price b arms I (arms_flow n None b arms I).next (bits_of_draws D) x in (
           (arms_flow n None b arms I).next,
           bits_of_draws D,
           x,
-          comes _ _ (plus (bits_of_draws M) (bits_of_draws D)) (p_one n None (Choose arms) I w h).next (draws_both M D) (product_pos (bits_of_draws M).1 (bits_of_draws D).1 (each_some ends last I h) xs),
+          comes _ _ (plus (bits_of_draws M) (bits_of_draws D)) (p_one n None (Choose arms) I w h).next (draws_both M D) (product_pos (bits_of_draws M).1 (bits_of_draws D).1 (each_some bits_price ends last I h) xs),
         )
     statement_free (While e a) free w I h = absurd free
 
@@ -120,8 +121,8 @@ module _ (n : ℕ) where
         let E = block_draws n None b f.next in
         let x = statement_free st free.0 w.0 I h in
         let y = block_free b free.1 w.1 f.next (p_one n None st I w.0 h).next in
-        let xs = statement_some st I f.next (bits_of_draws D) x in
-        let ys = block_some b f.next (block_flow n None b f.next).next (bits_of_draws E) y in (
+        let xs = statement_some bits_price st I f.next (bits_of_draws D) x in
+        let ys = block_some bits_price b f.next (block_flow n None b f.next).next (bits_of_draws E) y in (
           f.next,
           (block_flow n None b f.next).next,
           bits_of_draws D,
@@ -139,8 +140,8 @@ module _ (n : ℕ) where
         let E = arms_draws n None b arms I in
         let x = block_free a free.0 w.0 A (p_scaled (class_weight b None p) I some h) in
         let y = arms_free b some arms free.1 w.1 I h in
-        let xs = block_some a A (block_flow n None a A).next (bits_of_draws D) x in
-        let ys = arms_some b arms I (arms_flow n None b arms I).next (bits_of_draws E) y in (
+        let xs = block_some bits_price a A (block_flow n None a A).next (bits_of_draws D) x in
+        let ys = arms_some bits_price b arms I (arms_flow n None b arms I).next (bits_of_draws E) y in (
           (block_flow n None a A).next,
           (arms_flow n None b arms I).next,
           bits_of_draws D,

@@ -2,13 +2,16 @@ pub mod Readers
 pub mod Tends
 pub mod TableReads
 pub mod LoopTends
+pub mod TurnTends
 pub mod BlockTends
 pub mod Shares
 pub mod Attempts
+pub mod PricedReads
 pub mod Rounds
 pub mod LimitedReads
 pub mod Unbounded
 pub mod RunCosts
+pub mod PriceLaw
 pub mod BitsLaw
 pub mod RoundsLaw
 pub mod OneFraction

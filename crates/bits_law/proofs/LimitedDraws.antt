@@ -24,6 +24,7 @@ use Rattle.bits_law.specs.Draws.{bits_of_draw, bits_of_draws}
 use Rattle.bits_law.specs.Reading.{Comes}
 use Rattle.bits_law.proofs.Readers.{Reads, end_reads, then_reads, loop_reads, statement_reads, block_reads}
 use Rattle.bits_law.proofs.TableReads.{guard_reads, alone, alone_after, skip_is, set_is, observe_is, Counted, average_is, each_counted, each_is, bound_counted, bound_reads, bound_some, bound_is, uniform_is, sides_are, arms_read, choose_is}
+use Rattle.bits_law.specs.Price.{bits_price}
 
 abbrev pub cost : List ℕ → Rational
 cost ends = of (bits_of_draw None ends)
@@ -50,7 +51,7 @@ module _ (n : ℕ) where
     statement_counted Skip w I h = tt
     statement_counted (Set x e) w I h = tt
     statement_counted (Observe e) w I h = tt
-    statement_counted (Uniform x e) w I h = bound_counted (value_of e) I h
+    statement_counted (Uniform x e) w I h = bound_counted bits_price (value_of e) I h
     statement_counted (If e a c) w I h =
         let A = only (holds (value_of e)) I in
         let C = only (fails (value_of e)) I in
@@ -59,14 +60,14 @@ module _ (n : ℕ) where
         let A = scaled (class_weight p.den None p.num) I in
         let C = scaled (class_weight p.den None (p.den - p.num)) I in
         let some : 0 < p.den = let z = w.0.positive in omega arith in
-        counted_both (drawn_each (choice_ends p) I) (block_draws n None a A ++ block_draws n None c C) (each_counted (choice_ends p) some I h)
+        counted_both (drawn_each (choice_ends p) I) (block_draws n None a A ++ block_draws n None c C) (each_counted bits_price (choice_ends p) some I h)
         (counted_both (block_draws n None a A) (block_draws n None c C) (block_counted a w.1 A (p_scaled (class_weight p.den None p.num) I some h)) (block_counted c w.2 C (p_scaled (class_weight p.den None (p.den - p.num)) I some h)))
     statement_counted (Choose arms) w I h =
         let b = sum (parts_of arms) in
         let ends = partial_sums (parts_of arms) in
         let some : 0 < b = let z = w.0.positive in omega arith in
         let last : 0 < last_end ends = let e = last_is (parts_of arms) in omega arith in
-        counted_both (drawn_each ends I) (arms_draws n None b arms I) (each_counted ends last I h) (arms_counted b some arms w.1 I h)
+        counted_both (drawn_each ends I) (arms_draws n None b arms I) (each_counted bits_price ends last I h) (arms_counted b some arms w.1 I h)
     statement_counted (While e a) w I h = loop_counted (value_of e) a w (block_counted a w) n I h
 
     pub block_counted : (b : Statements) → BlockIsWeighed b → (I : Table) → Positive I → AreCounted (block_draws n None b I)
@@ -123,31 +124,31 @@ module _ (n : ℕ) where
 
   -- the draw of each entry
   first : (ends : List ℕ) → 0 < last_end ends → (I : Table) → Positive I → integral (λ s. cost ends) I ≃ integral cost (drawn_each ends I)
-  first ends some I h = same_trans (same_sym (each_is ends some I h)) (average_is (bits_of_draw None) (drawn_each ends I) (each_counted ends some I h))
+  first ends some I h = same_trans (same_sym (each_is bits_price ends some I h)) (average_is (bits_of_draw None) (drawn_each ends I) (each_counted bits_price ends some I h))
 
   mutual
     statement_is : (st : Statement) → StatementIsWeighed st → (I : Table) → Positive I → ReadsDraws (statement_reads None n st) I (statement_draws n None st I) (statement_flow n None st I).next
     statement_is Skip w I h F =
         let f = statement_flow 0 None Skip I in
-        same_trans (alone (statement_reads None n Skip) (statement_weighted 0 None Skip) I f.next f.next f.ended zero_share (λ F. skip_counted (λ e. end_reads e F) I) (as_it_is f.next zero_share (p_one n None Skip I w h).next (omega arith)) (λ s F. skip_is n s F) F) (nothing_read f.next F)
+        same_trans (alone (statement_reads None n Skip) (statement_weighted 0 None Skip) I f.next f.next f.ended zero_share (λ F. skip_counted (λ e. end_reads e F) I) (as_it_is f.next zero_share (p_one n None Skip I w h).next (omega arith)) (λ s F. skip_is s F) F) (nothing_read f.next F)
     statement_is (Set x e) w I h F =
         let f = statement_flow 0 None (Set x e) I in
         same_trans
-        (alone (statement_reads None n (Set x e)) (statement_weighted 0 None (Set x e)) I f.next f.next f.ended zero_share (λ F. set_counted (λ e. end_reads e F) x (value_of e) I) (as_it_is f.next zero_share (p_one n None (Set x e) I w h).next (omega arith)) (λ s F. set_is n s F x (value_of e s)) F)
+        (alone (statement_reads None n (Set x e)) (statement_weighted 0 None (Set x e)) I f.next f.next f.ended zero_share (λ F. set_counted (λ e. end_reads e F) x (value_of e) I) (as_it_is f.next zero_share (p_one n None (Set x e) I w h).next (omega arith)) (λ s F. set_is s F x (value_of e s)) F)
         (nothing_read f.next F)
     statement_is (Observe e) w I h F =
         let f = statement_flow 0 None (Observe e) I in
         same_trans
-        (alone (statement_reads None n (Observe e)) (statement_weighted 0 None (Observe e)) I f.next f.next f.ended zero_share (λ F. seen_counted (λ e. end_reads e F) (value_of e) I) (as_it_is f.next zero_share (p_one n None (Observe e) I w h).next (omega arith)) (λ s F. observe_is n s F (value_of e s)) F)
+        (alone (statement_reads None n (Observe e)) (statement_weighted 0 None (Observe e)) I f.next f.next f.ended zero_share (λ F. seen_counted (λ e. end_reads e F) (value_of e) I) (as_it_is f.next zero_share (p_one n None (Observe e) I w h).next (omega arith)) (λ s F. observe_is s F (value_of e s)) F)
         (nothing_read f.next F)
     statement_is (Uniform x e) w I h F =
         let f = statement_flow 0 None (Uniform x e) I in
         let D = drawn_bound (value_of e) I in
-        let some = bound_some (value_of e) I h in
+        let some = bound_some bits_price (value_of e) I h in
         same_trans
-        (alone_after (statement_reads None n (Uniform x e)) (statement_weighted 0 None (Uniform x e)) I f.next f.next f.ended (bits_of_draws D) (λ F. drawn_counted (λ e. end_reads e F) x (value_of e) I) D (λ s. bound_reads (value_of e s))
-        some (bound_is (value_of e) I h) (as_it_is f.next (bits_of_draws D) (p_one n None (Uniform x e) I w h).next some) (λ s F. uniform_is x (value_of e s) s F) F)
-        (add_same (average_is (bits_of_draw None) D (bound_counted (value_of e) I h)) (same_refl (integral F f.next)))
+        (alone_after (statement_reads None n (Uniform x e)) (statement_weighted 0 None (Uniform x e)) I f.next f.next f.ended (bits_of_draws D) (λ F. drawn_counted (λ e. end_reads e F) x (value_of e) I) (bits_of_draws D) (λ s. bound_reads bits_price (value_of e s))
+        some (bound_is bits_price (value_of e) I h) (as_it_is f.next (bits_of_draws D) (p_one n None (Uniform x e) I w h).next some) (λ s F. uniform_is bits_price x (value_of e s) s F) F)
+        (add_same (average_is (bits_of_draw None) D (bound_counted bits_price (value_of e) I h)) (same_refl (integral F f.next)))
     statement_is (If e a c) w I h F =
         let A = only (holds (value_of e)) I in
         let C = only (fails (value_of e)) I in
@@ -164,7 +165,7 @@ module _ (n : ℕ) where
         let D = block_draws n None a A in
         let E = block_draws n None c C in
         same_trans
-        (integral_same (λ s. statement_reads None n (Choice p a c) s F) (λ s. cost ends ⊕ (of u ⊗ block_reads None n a s F ⊕ of l ⊗ block_reads None n c s F)) I (λ s. sides_are p (block_reads None n a s) (block_reads None n c s) F))
+        (integral_same (λ s. statement_reads None n (Choice p a c) s F) (λ s. cost ends ⊕ (of u ⊗ block_reads None n a s F ⊕ of l ⊗ block_reads None n c s F)) I (λ s. sides_are bits_price p (block_reads None n a s) (block_reads None n c s) F))
         (same_trans (integral_sum (λ s. cost ends) (λ s. of u ⊗ block_reads None n a s F ⊕ of l ⊗ block_reads None n c s F) I)
         (same_trans
         (add_same (first ends some I h)
@@ -177,8 +178,8 @@ module _ (n : ℕ) where
         let ends = partial_sums (parts_of arms) in
         let some : 0 < b = let z = w.0.positive in omega arith in
         let last : 0 < last_end ends = let e = last_is (parts_of arms) in omega arith in
-        same_trans (integral_same (λ s. statement_reads None n (Choose arms) s F) (λ s. cost ends ⊕ arms_read n F b arms s) I (λ s. choose_is n F arms s))
-        (same_trans (integral_sum (λ s. cost ends) (λ s. arms_read n F b arms s) I)
+        same_trans (integral_same (λ s. statement_reads None n (Choose arms) s F) (λ s. cost ends ⊕ arms_read bits_price n F b arms s) I (λ s. choose_is bits_price n F arms s))
+        (same_trans (integral_sum (λ s. cost ends) (λ s. arms_read bits_price n F b arms s) I)
         (same_trans (add_same (first ends last I h) (arms_are b some arms w.1 I h F)) (draws_before (drawn_each ends I) (arms_draws n None b arms I) (integral F (arms_flow n None b arms I).next))))
     statement_is (While e a) w I h F = loop_is (value_of e) a w (block_is a w) n I h F
 
@@ -190,12 +191,12 @@ module _ (n : ℕ) where
         (same_trans (add_same (same_refl (integral cost (statement_draws n None st I))) (block_is b w.1 f.next (p_one n None st I w.0 h).next F))
         (draws_before (statement_draws n None st I) (block_draws n None b f.next) (integral F (block_flow n None b f.next).next)))
 
-    arms_are : (b : ℕ) → 0 < b → (arms : ArmList) → ArmsAreWeighed arms → (I : Table) → Positive I → ReadsDraws (λ s F. arms_read n F b arms s) I (arms_draws n None b arms I) (arms_flow n None b arms I).next
+    arms_are : (b : ℕ) → 0 < b → (arms : ArmList) → ArmsAreWeighed arms → (I : Table) → Positive I → ReadsDraws (λ s F. arms_read bits_price n F b arms s) I (arms_draws n None b arms I) (arms_flow n None b arms I).next
     arms_are b some no_arm w I h F = same_trans (integral_nought I) (same_sym (nought_add nought))
     arms_are b some (arm p a arms) w I h F =
         let u = class_weight b None p in
         let A = scaled u I in
-        same_trans (integral_sum (λ s. of u ⊗ block_reads None n a s F) (λ s. arms_read n F b arms s) I)
+        same_trans (integral_sum (λ s. of u ⊗ block_reads None n a s F) (λ s. arms_read bits_price n F b arms s) I)
         (same_trans (add_same (same_trans (weighed u (λ s. block_reads None n a s F) I) (block_is a w.0 A (p_scaled u I some h) F)) (arms_are b some arms w.1 I h F))
         (draws_joined (block_draws n None a A) (arms_draws n None b arms I) (block_flow n None a A).next (arms_flow n None b arms I).next F))
 

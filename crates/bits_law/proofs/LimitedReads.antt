@@ -1,82 +1,51 @@
--- What a round reads and fails with under limits, as rational numbers: both rise with the limits to what they come to in the limit.
-use Rattle.std.proofs.Common.{ℕ, suc, ◌+◌, ◌*◌, ◌≤◌, ◌<◌, max, [], ◌∷◌, ◌++◌, List, Option, Some, None, length, refl, sym, subst, arith}
+-- What a round counts and fails with under limits, as rational numbers: both rise with the limits to what they come to in the limit.
+use Rattle.std.proofs.Common.{◌≡◌, ℕ, suc, ◌+◌, ◌*◌, ◌≤◌, ◌<◌, max, Bool, false, List, Option, Some, None, length, refl, sym, ap, ◌∙◌, subst, arith}
+use Rattle.std.proofs.Math.Path.{fun_ext}
 use Rattle.gcl_core.specs.declared.answers.Limit.TheVariants.{Turns, Attempts}
 use Rattle.gcl_core.specs.meaning.Bounds.{BlockIsWeighed}
 use Rattle.gcl_core.specs.meaning.Checked.{IsChecked}
 use Rattle.gcl_core.specs.meaning.Outcomes.{zeros}
-use Rattle.gcl_core.specs.meaning.Syntax.{SourceProgram}
+use Rattle.gcl_core.specs.meaning.Syntax.{Statements, SourceProgram}
 use Rattle.gcl_core.specs.meaning.Value.{State}
 use Rattle.gcl_core.specs.meaning.Blocks.{End, on, failed, fault, limit, by_class}
 use Rattle.gcl_core.specs.meaning.Draw.{last_end}
-use Rattle.gcl_core.specs.weighing.Fractions.{Fraction, zero_share}
-use Rattle.gcl_core.specs.weighing.LongestReading.{longest}
 use Rattle.gcl_core.specs.weighing.Mass.{is_failed, failed_mass}
-use Rattle.gcl_core.specs.weighing.WeightedEnds.{sure, class_weight, no_class_weight, classes_from, weighted_classes, weighted_ends}
+use Rattle.gcl_core.specs.weighing.WeightedEnds.{sure, weighted_classes, weighted_ends}
 use Rattle.gcl_core.proofs.Accepted.{checked_weights}
-use Rattle.gcl_core.proofs.CutPlays.{Cut, IsDraw, block_sound}
-use Rattle.gcl_core.proofs.FittingValues.{zeros_fit}
-use Rattle.gcl_core.proofs.Plays.{Play, ended, drawing, block_play}
-use Rattle.cost_law.specs.ExpectedBits.{draw_bits, block_bits}
-use Rattle.cost_law.proofs.BlockCosts.{play_bits}
-use Rattle.cost_law.proofs.BlockCosts as costs
-use Rattle.cost_law.proofs.DrawBits.{draw_bits_pos}
-use Rattle.table_flow.specs.Tables.{Table}
-use Rattle.table_flow.proofs.Draws.{no_class_pos}
+use Rattle.gcl_core.proofs.Plays.{Play, ended, drawing, with_end, block_play, block_folds}
 use Rattle.table_flow.proofs.Paths.{ends_positive}
-use Rattle.table_flow.proofs.Positive.{p_sure}
-use Rattle.weighing_law.proofs.Shares.{product_pos}
 use Rattle.weighing_law.proofs.WeighedPlays.{weighed, weighed_block}
 use Rattle.unlimited_law.specs.Settling.{Outflow}
 use Rattle.unlimited_law.specs.SettledMasses.{ProgramSettles, settled_failed}
-use Rattle.unlimited_law.proofs.Numbers.{Rational, ◌⊕◌, ◌⊗◌, ◌⊑◌, ◌≃◌, nought, below_refl, same_refl, below_trans, same_sym, same_trans, add_below, add_same, times_nought, nought_add, add_nought}
-use Rattle.unlimited_law.proofs.FractionNumbers.{of, of_plus, of_zero}
-use Rattle.unlimited_law.proofs.Integrals.{integral, integral_same, integral_sure, integral_taken, integral_nought}
+use Rattle.unlimited_law.proofs.Numbers.{Rational, ◌⊕◌, ◌⊗◌, ◌⊑◌, ◌≃◌, nought, below_refl, below_trans, same_sym, same_trans, add_below, times_nought, nought_below, nought_add, add_nought}
+use Rattle.unlimited_law.proofs.FractionNumbers.{of}
+use Rattle.unlimited_law.proofs.Integrals.{integral, integral_same, integral_sure, integral_taken}
 use Rattle.unlimited_law.proofs.Near.{Near, near_same}
 use Rattle.unlimited_law.proofs.Covers.{sign}
 use Rattle.unlimited_law.proofs.SameWeights.{sum_some, sum_is}
 use Rattle.unlimited_law.proofs.BlockLimits.{all_fractions, event_test, settled_some, settled_is, test_near}
-use Rattle.bits_law.specs.InTheLimit.{RoundReads}
-use Rattle.bits_law.proofs.Readers.{quiet, cost_in_bits, block_counts, block_counts_rise}
+use Rattle.bits_law.specs.RunPrice.{block_with}
+use Rattle.bits_law.proofs.Readers.{Reads, end_counts, then_reads, class_counts, block_counts, turn_reads, turn_rises, block_counts_rise, block_plain}
 use Rattle.bits_law.proofs.Tends.{left_max, right_max, two_halves, then_near}
-use Rattle.bits_law.proofs.TableReads.{Counted, average_some, average_is}
 use Rattle.bits_law.proofs.LoopTends.{small_part}
-use Rattle.bits_law.proofs.BlockTends.{block_tends}
-use Rattle.bits_law.proofs.Shares.{share, bits_share}
-use Rattle.bits_law.proofs.Attempts.{play_counts, play_block, no_fewer, below_free, enough_attempts}
+use Rattle.bits_law.proofs.Shares.{share}
+use Rattle.bits_law.proofs.Attempts.{Closes, closes_block}
 
--- ---- bits
-classes_counted : (r : ℕ) (go : Option ℕ → Fraction) → ((o : Option ℕ) → 0 < (go o).1) → (b i c : ℕ) (ends : List ℕ) → Counted go (classes_from (class_weight b (Some r)) i c ends ++ (no_class_weight b (Some r), None) ∷ [])
-classes_counted r go h b i c [] = (no_class_pos b (Some r), h None, tt)
-classes_counted r go h b i c (d ∷ ends) = (no_class_pos b (Some r), h (Some i), classes_counted r go h b (i + 1) d ends)
+-- ---- what a play counts
+module _ (H : End → Rational) (cost : Option ℕ → List ℕ → Rational) where
+  abbrev play_counts : Option ℕ → Play → Reads
+  play_counts r (ended e) = end_counts H e
+  play_counts r (drawing cs k) = class_counts (cost r) r cs (λ i. play_counts r (k i))
 
-abbrev none_after : State → Fraction
-none_after s = zero_share
+  counts_then : (r : Option ℕ) (p : Play) (go : State → Play) (F : State → Rational) → play_counts r (with_end p go) F ≡ then_reads (play_counts r p) (λ s. play_counts r (go s)) F
+  counts_then r (ended (on s)) go F = refl
+  counts_then r (ended failed) go F = refl
+  counts_then r (ended (fault f)) go F = refl
+  counts_then r (ended (limit l)) go F = refl
+  counts_then r (drawing cs k) go F = ap (λ f. cost r cs ⊕ integral f (weighted_classes cs r)) (fun_ext (elim [ None ↦ refl | Some i ↦ counts_then r (k i) go F ]))
 
-abbrev class_bits_of : ℕ → (ℕ → Play) → Option ℕ → Fraction
-class_bits_of r k class = by_class class zero_share (λ i. play_bits r (k i) none_after)
-
-bits_some : (r : ℕ) (p : Play) → 0 < (play_bits r p none_after).1
-bits_some r (ended (on s)) = omega arith
-bits_some r (ended failed) = omega arith
-bits_some r (ended (fault f)) = omega arith
-bits_some r (ended (limit l)) = omega arith
-bits_some r (drawing cs k) =
-    product_pos (draw_bits cs r).1 _ (draw_bits_pos cs r)
-    (average_some (class_bits_of r k) (weighted_classes cs (Some r)) (classes_counted r (class_bits_of r k) (elim [ None ↦ omega arith | Some i ↦ bits_some r (k i) ]) (last_end cs) 0 0 cs))
-
-bits_are : (r : ℕ) (p : Play) → of (play_bits r p none_after) ≃ play_counts quiet cost_in_bits (Some r) p (λ s. nought)
-bits_are r (ended (on s)) = of_zero 1
-bits_are r (ended failed) = of_zero 1
-bits_are r (ended (fault f)) = of_zero 1
-bits_are r (ended (limit l)) = of_zero 1
-bits_are r (drawing cs k) =
-    let m = weighted_classes cs (Some r) in
-    let go = class_bits_of r k in
-    let counted = classes_counted r go (elim [ None ↦ omega arith | Some i ↦ bits_some r (k i) ]) (last_end cs) 0 0 cs in
-    same_trans (of_plus (draw_bits cs r) _ (draw_bits_pos cs r) (average_some go m counted))
-    (add_same (same_refl (of (draw_bits cs r)))
-    (same_trans (average_is go m counted)
-    (integral_same (λ class. of (go class)) (λ class. by_class class nought (λ i. play_counts quiet cost_in_bits (Some r) (k i) (λ s. nought))) m (elim [ None ↦ of_zero 1 | Some i ↦ bits_are r (k i) ]))))
+  play_block : (r : Option ℕ) (n : ℕ) (b : Statements) (s : State) → play_counts r (block_play n b s) ≡ block_counts H (cost r) r n b s
+  play_block r n = block_folds (end_counts H) then_reads (class_counts (cost r) r) (play_counts r) (λ e. refl) (λ cs k. refl) (λ p go. fun_ext (counts_then r p go)) n
 
 -- ---- failed rounds
 abbrev pub fails : End → Rational
@@ -105,91 +74,69 @@ pub record Approached (c : ℕ → ℕ → Rational) (X : Rational) : Type 0 whe
   pub near : (j : ℕ) → 0 < j → (least : ℕ) × ((n r : ℕ) → least ≤ n → least ≤ r → X ⊑ c n r ⊕ of (1, j))
 
 module _ (p : SourceProgram) (ok : IsChecked p) where
-  abbrev start : State
+  abbrev pub start : State
   start = zeros (length p.names)
 
-  abbrev pub play : ℕ → Play
+  abbrev play : ℕ → Play
   play n = block_play n p.body start
 
-  weights : BlockIsWeighed p.body
+  pub weights : BlockIsWeighed p.body
   weights = checked_weights p ok
 
-  pub sound : (n : ℕ) → Cut 1 ⊥ (Unit {0}) (longest n 1 p.body) (play n) (play n)
-  sound n = block_sound n 1 p.body weights ok.numbers.body start (zeros_fit (length p.names))
-
-  abbrev after : State → Rational
+  abbrev pub after : State → Rational
   after s = nought
 
-  module _ (H : End → Rational) (spared : H (limit Turns) ⊑ nought) (cost : Option ℕ → List ℕ → Rational) (cost_share : (cs : List ℕ) (ok : IsDraw cs) (r : ℕ) → cost (Some r) cs ≃ share cs ok r ⊗ cost None cs) where
-    abbrev at : ℕ → ℕ → Rational
-    at n r = play_counts H cost (Some r) (play n) after
+  module _ (H : End → Rational) (spared : H (limit Turns) ⊑ nought) (cost : Option ℕ → List ℕ → Rational)
+      (cost_share : (cs : List ℕ) (some : 0 < last_end cs) (r : ℕ) → cost (Some r) cs ≃ share cs some r ⊗ cost None cs) (turns : Bool) where
+    -- what the body counts by at most so many attempts, or by as many as it takes
+    abbrev pub counted : Option ℕ → ℕ → Rational
+    counted r n = block_with (end_counts H) then_reads (class_counts (cost r) r) (turn_reads turns) n p.body start after
 
-    abbrev free : ℕ → Rational
-    free n = play_counts H cost None (play n) after
+    closes : (n : ℕ) → Closes (λ r. block_with (end_counts H) then_reads (class_counts (cost (Some r)) (Some r)) (turn_reads turns) n p.body start) (block_with (end_counts H) then_reads (class_counts (cost None) None) (turn_reads turns) n p.body start)
+    closes n = closes_block cost cost_share H turns n p.body weights start
 
-    turns_rise : (n m : ℕ) → n ≤ m → (r : Option ℕ) → play_counts H cost r (play n) after ⊑ play_counts H cost r (play m) after
-    turns_rise n m le r =
-        subst (λ x. x after ⊑ play_counts H cost r (play m) after) (sym (play_block H cost r n p.body start))
-        (subst (λ x. block_counts H (cost r) r n p.body start after ⊑ x after) (sym (play_block H cost r m p.body start))
-        (block_counts_rise H spared (cost r) r n m le p.body start after after (λ s. below_refl nought)))
+    same_after : (s : State) → after s ⊑ after s
+    same_after s = below_refl nought
 
-    limits_rise : (n m r t : ℕ) → n ≤ m → r ≤ t → at n r ⊑ at m t
-    limits_rise n m r t a b = below_trans (no_fewer H cost cost_share after r t b _ (play n) (play n) (sound n)) (turns_rise n m a (Some t))
+    more_turns : (n m : ℕ) → n ≤ m → (r : Option ℕ) → counted r n ⊑ counted r m
+    more_turns n m le r = block_counts_rise H spared (cost r) r (turn_reads turns) (turn_rises turns) n m le p.body start after after same_after
 
-    approached : (X : Rational) → ((n : ℕ) → free n ⊑ X) → ((j : ℕ) → 0 < j → (n : ℕ) × (X ⊑ free n ⊕ of (1, j))) → Approached at X
+    pub limits_rise : (n m r t : ℕ) → n ≤ m → r ≤ t → counted (Some r) n ⊑ counted (Some t) m
+    limits_rise n m r t a b = below_trans ((closes n).rises r t b after after same_after) (more_turns n m a (Some t))
+
+    pub enough_attempts : (n j : ℕ) → 0 < j → (r : ℕ) × (counted None n ⊑ counted (Some r) n ⊕ of (1, j))
+    enough_attempts n j pos =
+        (closes n).near after (λ r. after) (λ r t le s. below_refl nought) (λ s k some. (0, below_trans (add_nought _).above (add_below (below_refl nought) (nought_below (of (1, k)))))) j pos
+
+    pub approached : (X : Rational) → ((n : ℕ) → counted None n ⊑ X) → ((j : ℕ) → 0 < j → (n : ℕ) × (X ⊑ counted None n ⊕ of (1, j))) → Approached (λ n r. counted (Some r) n) X
     approached X most near = record {
       rises = limits_rise;
-      most = λ n r. below_trans (below_free H cost cost_share after r _ (play n) (play n) (sound n)) (most n);
+      most = λ n r. below_trans ((closes n).most r after after same_after) (most n);
       near = λ j pos.
           let two : 0 < 2 * j = omega arith in
           let x = near (2 * j) two in
-          let y = enough_attempts H cost cost_share after (2 * j) two _ (play x.0) (play x.0) (sound x.0) in
+          let y = enough_attempts x.0 (2 * j) two in
           let least = max x.0 y.0 in (
             least,
             λ n r a b.
                 let le : x.0 ≤ n = let h = left_max x.0 y.0 in omega arith in
                 let few : y.0 ≤ r = let h = right_max x.0 y.0 in omega arith in
-                then_near X (free x.0) (at n r) (of (1, 2 * j)) (of (1, j)) x.1
-                (below_trans y.1 (add_below (below_trans (no_fewer H cost cost_share after y.0 r few _ (play x.0) (play x.0) (sound x.0)) (turns_rise x.0 n le (Some r))) (below_refl (of (1, 2 * j)))))
-                (two_halves j pos),
+                then_near X (counted None x.0) (counted (Some r) n) (of (1, 2 * j)) (of (1, j)) x.1 (below_trans y.1 (add_below (limits_rise x.0 n y.0 r le few) (below_refl (of (1, 2 * j))))) (two_halves j pos),
           );
     }
 
-  -- ---- the bits of a round
-  abbrev pub round_reads : ℕ → ℕ → Fraction
-  round_reads n r = block_bits n r p.body start none_after
-
-  abbrev pub bits_at : ℕ → ℕ → Rational
-  bits_at = at quiet (below_refl nought) cost_in_bits (λ cs ok r. bits_share cs ok r)
-
-  pub round_some : (n r : ℕ) → 0 < (round_reads n r).1
-  round_some n r = subst (λ m. 0 < (m none_after).1) (costs.play_block r n p.body start) (bits_some r (play n))
-
-  pub round_is : (n r : ℕ) → of (round_reads n r) ≃ bits_at n r
-  round_is n r = subst (λ m. of (m none_after) ≃ bits_at n r) (costs.play_block r n p.body start) (bits_are r (play n))
-
-  pub bits_rise : (n m r t : ℕ) → n ≤ m → r ≤ t → bits_at n r ⊑ bits_at m t
-  bits_rise = limits_rise quiet (below_refl nought) cost_in_bits (λ cs ok r. bits_share cs ok r)
-
-  pub round_approached : (J : Table) (read : Fraction) → RoundReads p J read → Approached bits_at (of read)
-  round_approached J read o =
-      let t = block_tends p.body weights (sure start) J read (p_sure start) o in
-      let same = λ (n : ℕ). play_block quiet cost_in_bits None n p.body start in
-      let whole : of read ⊕ integral after J ≃ of read = same_trans (add_same (same_refl (of read)) (integral_nought J)) (add_nought (of read)) in
-      let alone = λ (n : ℕ). integral_sure (λ s. block_counts quiet (cost_in_bits None) None n p.body s after) start in
-      approached quiet (below_refl nought) cost_in_bits (λ cs ok r. bits_share cs ok r) (of read)
-      (λ n. subst (λ x. x after ⊑ of read) (sym (same n)) (below_trans (alone n).above (below_trans (t.most n after) whole.below)))
-      (λ j pos. let x = t.near after j pos in (x.0, below_trans whole.above (subst (λ y. of read ⊕ integral after J ⊑ y after ⊕ of (1, j)) (sym (same x.0)) (below_trans x.1 (add_below (alone x.0).below (below_refl (of (1, j))))))))
-
   -- ---- what it fails with
-  pub no_share : (cs : List ℕ) (ok : IsDraw cs) (r : ℕ) → no_cost (Some r) cs ≃ share cs ok r ⊗ no_cost None cs
-  no_share cs ok r = same_sym (times_nought (share cs ok r))
+  pub no_share : (cs : List ℕ) (some : 0 < last_end cs) (r : ℕ) → no_cost (Some r) cs ≃ share cs some r ⊗ no_cost None cs
+  no_share cs some r = same_sym (times_nought (share cs some r))
+
+  abbrev failing : Option ℕ → ℕ → Rational
+  failing = counted fails (below_refl nought) no_cost no_share false
 
   abbrev pub fails_at : ℕ → ℕ → Rational
-  fails_at = at fails (below_refl nought) no_cost no_share
+  fails_at n r = failing (Some r) n
 
   pub fails_rise : (n m r t : ℕ) → n ≤ m → r ≤ t → fails_at n r ⊑ fails_at m t
-  fails_rise = limits_rise fails (below_refl nought) no_cost no_share
+  fails_rise = limits_rise fails (below_refl nought) no_cost no_share false
 
   ends_fractions : (n : ℕ) (r : Option ℕ) → 0 < (failed_mass p n r).1
   ends_fractions n r = sum_some is_failed (weighted_ends n r p.body start) (all_fractions (weighted_ends n r p.body start) (ends_positive n r p.body start weights))
@@ -197,10 +144,11 @@ module _ (p : SourceProgram) (ok : IsChecked p) where
   pub failed_some : (n r : ℕ) → 0 < (failed_mass p n (Some r)).1
   failed_some n r = ends_fractions n (Some r)
 
-  failed_of : (n : ℕ) (r : Option ℕ) → of (failed_mass p n r) ≃ play_counts fails no_cost r (play n) after
+  failed_of : (n : ℕ) (r : Option ℕ) → of (failed_mass p n r) ≃ failing r n
   failed_of n r =
       same_trans (sum_is is_failed (weighted_ends n r p.body start) (all_fractions (weighted_ends n r p.body start) (ends_positive n r p.body start weights)))
-      (subst (λ m. integral fails m ≃ play_counts fails no_cost r (play n) after) (weighed_block r n p.body start) (fails_are r (play n)))
+      (subst (λ m. integral fails (weighted_ends n r p.body start) ≃ m after) (play_block fails no_cost r n p.body start ∙ sym (block_plain (end_counts fails) then_reads (class_counts (no_cost r) r) n p.body start))
+      (subst (λ m. integral fails m ≃ play_counts fails no_cost r (play n) after) (weighed_block r n p.body start) (fails_are r (play n))))
 
   pub failed_is : (n r : ℕ) → of (failed_mass p n (Some r)) ≃ fails_at n r
   failed_is n r = failed_of n (Some r)
@@ -216,14 +164,14 @@ module _ (p : SourceProgram) (ok : IsChecked p) where
         (same_sym (integral_sure (λ s. integral fails (weighted_ends n None p.body s)) start)))
         (settled_is p.body (sure start) f weights o is_failed) (test_near p.body (sure start) f weights o n some fails (event_test is_failed refl))
 
-    failed_most : (n : ℕ) → play_counts fails no_cost None (play n) after ⊑ of (settled_failed p f)
+    failed_most : (n : ℕ) → failing None n ⊑ of (settled_failed p f)
     failed_most n =
-        below_trans (turns_rise fails (below_refl nought) no_cost no_share n (suc n) (omega arith) None)
+        below_trans (more_turns fails (below_refl nought) no_cost no_share false n (suc n) (omega arith) None)
         (below_trans (failed_of (suc n) None).above (failed_near (suc n) (omega arith)).low)
 
     pub failed_approached : Approached fails_at (of (settled_failed p f))
     failed_approached =
-        approached fails (below_refl nought) no_cost no_share (of (settled_failed p f)) failed_most
+        approached fails (below_refl nought) no_cost no_share false (of (settled_failed p f)) failed_most
         (λ j pos.
         let n = j * (of f.turns).num + 1 in
         let some : 0 < n = omega arith in

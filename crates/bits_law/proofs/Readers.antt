@@ -1,6 +1,7 @@
 -- What a block counts on average in rational numbers: each draw its cost, each end what is given for it, and each state in which it ends
--- what follows. It rises with what follows and with the limit of turns. Where a draw costs its bits it is what the block reads.
-use Rattle.std.proofs.Common.{ℕ, zero, suc, ◌≤◌, ℤ, pos, negsuc, Bool, true, false, cond, List, Ok, Err, Option, Some, None, arith}
+-- what follows; and what it costs, by the price of draws and turns. It rises with what follows and with the limit of turns.
+use Rattle.std.proofs.Common.{◌≡◌, ℕ, zero, suc, ◌≤◌, ℤ, pos, negsuc, Bool, true, false, cond, List, Ok, Err, Option, Some, None, refl, ap, ◌∙◌, subst, arith}
+use Rattle.std.proofs.Math.Path.{fun_ext}
 use Rattle.std.specs.Prelude.{slice_set}
 use Rattle.gcl_core.specs.declared.answers.Fault.TheVariants.{BadBound}
 use Rattle.gcl_core.specs.declared.answers.Limit.TheVariants.{Turns}
@@ -11,10 +12,11 @@ use Rattle.gcl_core.specs.meaning.Syntax.{Statement, Skip, Set, If, While, Choic
 use Rattle.gcl_core.specs.meaning.Value.{State, Value, value_of, is_zero}
 use Rattle.gcl_core.specs.meaning.Blocks.{End, on, failed, fault, limit, by_truth, by_side, by_class, by_end, value_in, loop_in, uniform_in, statement_in, block_in, arm_in}
 use Rattle.gcl_core.specs.weighing.WeightedEnds.{weighted_classes}
-use Rattle.unlimited_law.proofs.Numbers.{Rational, ◌⊕◌, ◌⊑◌, nought, below_refl, below_trans, add_below, nought_below}
+use Rattle.unlimited_law.proofs.Numbers.{Rational, ◌⊕◌, ◌⊑◌, nought, unit, below_refl, below_trans, add_below, nought_below}
 use Rattle.unlimited_law.proofs.FractionNumbers.{of}
 use Rattle.unlimited_law.proofs.Integrals.{integral, integral_below}
-use Rattle.bits_law.specs.Draws.{bits_of_draw}
+use Rattle.bits_law.specs.Price.{Price, bits_price, price_of_draw}
+use Rattle.bits_law.specs.RunPrice.{statement_with, block_with, arm_with}
 
 abbrev pub Reads : Type 0
 Reads = (State → Rational) → Rational
@@ -32,18 +34,12 @@ class_counts cost r cs go more = cost cs ⊕ integral (λ class. by_class class 
 abbrev pub block_counts : (End → Rational) → (List ℕ → Rational) → Option ℕ → ℕ → Statements → State → Reads
 block_counts H cost r n = block_in (end_counts H) then_reads (class_counts cost r) n
 
--- ---- bits alone
+-- ---- what costs something
 abbrev pub quiet : End → Rational
 quiet e = nought
 
-abbrev pub cost_in_bits : Option ℕ → List ℕ → Rational
-cost_in_bits r cs = of (bits_of_draw r cs)
-
 abbrev pub end_reads : End → Reads
 end_reads = end_counts quiet
-
-abbrev pub class_reads : Option ℕ → List ℕ → (ℕ → Reads) → Reads
-class_reads r = class_counts (cost_in_bits r) r
 
 abbrev pub value_reads : Value → (ℤ → Reads) → Reads
 value_reads = value_in end_reads then_reads
@@ -51,18 +47,36 @@ value_reads = value_in end_reads then_reads
 abbrev pub loop_reads : (State → Value) → (State → Reads) → ℕ → State → Reads
 loop_reads = loop_in end_reads then_reads
 
-abbrev pub uniform_reads : Option ℕ → ℕ → ℤ → State → Reads
-uniform_reads r = uniform_in end_reads then_reads (class_reads r)
+abbrev pub turn_reads : Bool → Reads → Reads
+turn_reads false m = m
+turn_reads true m = λ F. unit ⊕ m F
 
-module _ (r : Option ℕ) (n : ℕ) where
-  abbrev pub statement_reads : Statement → State → Reads
-  statement_reads = statement_in end_reads then_reads (class_reads r) n
+module _ (price : Price) (r : Option ℕ) where
+  abbrev pub cost_of : List ℕ → Rational
+  cost_of cs = of (price_of_draw price r cs)
 
-  abbrev pub block_reads : Statements → State → Reads
-  block_reads = block_in end_reads then_reads (class_reads r) n
+  abbrev pub class_costs : List ℕ → (ℕ → Reads) → Reads
+  class_costs = class_counts cost_of r
 
-  abbrev pub arm_reads : ArmList → ℕ → State → Reads
-  arm_reads = arm_in end_reads then_reads (class_reads r) n
+  abbrev pub uniform_costs : ℕ → ℤ → State → Reads
+  uniform_costs = uniform_in end_reads then_reads class_costs
+
+  module _ (n : ℕ) where
+    abbrev pub statement_costs : Statement → State → Reads
+    statement_costs = statement_with end_reads then_reads class_costs (turn_reads price.turns) n
+
+    abbrev pub block_costs : Statements → State → Reads
+    block_costs = block_with end_reads then_reads class_costs (turn_reads price.turns) n
+
+    abbrev pub arm_costs : ArmList → ℕ → State → Reads
+    arm_costs = arm_with end_reads then_reads class_costs (turn_reads price.turns) n
+
+-- ---- bits
+abbrev pub statement_reads : Option ℕ → ℕ → Statement → State → Reads
+statement_reads = statement_costs bits_price
+
+abbrev pub block_reads : Option ℕ → ℕ → Statements → State → Reads
+block_reads = block_costs bits_price
 
 -- ---- what counts no more, where what follows counts no more
 abbrev pub AtMostReads : Reads → Reads → Type 0
@@ -114,35 +128,76 @@ module _ (H : End → Rational) (spared : H (limit Turns) ⊑ nought) where
     uniform_rises x (pos (suc m)) s =
         class_rises cost r (uniform_ends (suc m)) (λ i. end_counts H (on (slice_set s x (pos i)))) (λ i. end_counts H (on (slice_set s x (pos i)))) (λ i. end_rises (on (slice_set s x (pos i))))
 
-    module _ (n n' : ℕ) (le : n ≤ n') where
-      mutual
-        pub statement_counts_rise : (st : Statement) (s : State) → AtMostReads (statement_in (end_counts H) then_reads (class_counts cost r) n st s) (statement_in (end_counts H) then_reads (class_counts cost r) n' st s)
-        statement_counts_rise Skip s = end_rises (on s)
-        statement_counts_rise (Set x e) s = value_rises (value_of e s) _ _ (λ z. end_rises (on (slice_set s x z)))
-        statement_counts_rise (Observe e) s = value_rises (value_of e s) _ _ (λ z. truth_rises z _ _ _ _ (end_rises (on s)) (end_rises failed))
-        statement_counts_rise (Uniform x e) s = value_rises (value_of e s) _ _ (λ z. uniform_rises x z s)
-        statement_counts_rise (If e a c) s = value_rises (value_of e s) _ _ (λ z. truth_rises z _ _ _ _ (block_counts_rise a s) (block_counts_rise c s))
-        statement_counts_rise (Choice p a c) s = class_rises cost r (choice_ends p) _ _ (λ i. side_rises i _ _ _ _ (block_counts_rise a s) (block_counts_rise c s))
-        statement_counts_rise (Choose arms) s = class_rises cost r (partial_sums (parts_of arms)) _ _ (λ i. arm_counts_rise arms i s)
-        statement_counts_rise (While e a) s = turns_rise (value_of e) (block_counts H cost r n a) (block_counts H cost r n' a) (block_counts_rise a) n n' le s
+    module _ (turn : Reads → Reads) (turn_rises : (m o : Reads) → AtMostReads m o → AtMostReads (turn m) (turn o)) where
+      abbrev blocks : ℕ → Statements → State → Reads
+      blocks n = block_with (end_counts H) then_reads (class_counts cost r) turn n
 
-        pub block_counts_rise : (b : Statements) (s : State) → AtMostReads (block_counts H cost r n b s) (block_counts H cost r n' b s)
-        block_counts_rise done s = end_rises (on s)
-        block_counts_rise (st ▸ b) s =
-            then_rises (statement_in (end_counts H) then_reads (class_counts cost r) n st s) (statement_in (end_counts H) then_reads (class_counts cost r) n' st s) (block_counts H cost r n b) (block_counts H cost r n' b)
-            (statement_counts_rise st s) (block_counts_rise b)
+      module _ (n n' : ℕ) (le : n ≤ n') where
+        mutual
+          pub statement_counts_rise : (st : Statement) (s : State) → AtMostReads (statement_with (end_counts H) then_reads (class_counts cost r) turn n st s) (statement_with (end_counts H) then_reads (class_counts cost r) turn n' st s)
+          statement_counts_rise Skip s = end_rises (on s)
+          statement_counts_rise (Set x e) s = value_rises (value_of e s) _ _ (λ z. end_rises (on (slice_set s x z)))
+          statement_counts_rise (Observe e) s = value_rises (value_of e s) _ _ (λ z. truth_rises z _ _ _ _ (end_rises (on s)) (end_rises failed))
+          statement_counts_rise (Uniform x e) s = value_rises (value_of e s) _ _ (λ z. uniform_rises x z s)
+          statement_counts_rise (If e a c) s = value_rises (value_of e s) _ _ (λ z. truth_rises z _ _ _ _ (block_counts_rise a s) (block_counts_rise c s))
+          statement_counts_rise (Choice p a c) s = class_rises cost r (choice_ends p) _ _ (λ i. side_rises i _ _ _ _ (block_counts_rise a s) (block_counts_rise c s))
+          statement_counts_rise (Choose arms) s = class_rises cost r (partial_sums (parts_of arms)) _ _ (λ i. arm_counts_rise arms i s)
+          statement_counts_rise (While e a) s = turns_rise (value_of e) (λ s. turn (blocks n a s)) (λ s. turn (blocks n' a s)) (λ s. turn_rises (blocks n a s) (blocks n' a s) (block_counts_rise a s)) n n' le s
 
-        arm_counts_rise : (arms : ArmList) (i : ℕ) (s : State) → AtMostReads (arm_in (end_counts H) then_reads (class_counts cost r) n arms i s) (arm_in (end_counts H) then_reads (class_counts cost r) n' arms i s)
-        arm_counts_rise no_arm i s = end_rises (on s)
-        arm_counts_rise (arm p b arms) zero s = block_counts_rise b s
-        arm_counts_rise (arm p b arms) (suc i) s = arm_counts_rise arms i s
+          pub block_counts_rise : (b : Statements) (s : State) → AtMostReads (blocks n b s) (blocks n' b s)
+          block_counts_rise done s = end_rises (on s)
+          block_counts_rise (st ▸ b) s =
+              then_rises (statement_with (end_counts H) then_reads (class_counts cost r) turn n st s) (statement_with (end_counts H) then_reads (class_counts cost r) turn n' st s) (blocks n b) (blocks n' b)
+              (statement_counts_rise st s) (block_counts_rise b)
+
+          arm_counts_rise : (arms : ArmList) (i : ℕ) (s : State) → AtMostReads (arm_with (end_counts H) then_reads (class_counts cost r) turn n arms i s) (arm_with (end_counts H) then_reads (class_counts cost r) turn n' arms i s)
+          arm_counts_rise no_arm i s = end_rises (on s)
+          arm_counts_rise (arm p b arms) zero s = block_counts_rise b s
+          arm_counts_rise (arm p b arms) (suc i) s = arm_counts_rise arms i s
+
+-- a turn that costs nothing besides is the body
+mutual
+  statement_plain : {M : Type 0} (end : End → M) (go_on : M → (State → M) → M) (draw : List ℕ → (ℕ → M) → M) (n : ℕ) (st : Statement) (s : State) → statement_with end go_on draw (λ m. m) n st s ≡ statement_in end go_on draw n st s
+  statement_plain end go_on draw n Skip s = refl
+  statement_plain end go_on draw n (Set x e) s = refl
+  statement_plain end go_on draw n (Observe e) s = refl
+  statement_plain end go_on draw n (Uniform x e) s = refl
+  statement_plain end go_on draw n (If e a c) s =
+      ap (λ z. value_in end go_on (value_of e s) (λ v. by_truth v z (block_with end go_on draw (λ m. m) n c s))) (block_plain end go_on draw n a s)
+      ∙ ap (λ z. value_in end go_on (value_of e s) (λ v. by_truth v (block_in end go_on draw n a s) z)) (block_plain end go_on draw n c s)
+  statement_plain end go_on draw n (Choice p a c) s =
+      ap (λ z. draw (choice_ends p) (λ i. by_side i z (block_with end go_on draw (λ m. m) n c s))) (block_plain end go_on draw n a s)
+      ∙ ap (λ z. draw (choice_ends p) (λ i. by_side i (block_in end go_on draw n a s) z)) (block_plain end go_on draw n c s)
+  statement_plain end go_on draw n (Choose arms) s = ap (λ k. draw (partial_sums (parts_of arms)) k) (fun_ext (λ i. arm_plain end go_on draw n arms i s))
+  statement_plain end go_on draw n (While e a) s = ap (λ body. loop_in end go_on (value_of e) body n s) (fun_ext (block_plain end go_on draw n a))
+
+  pub block_plain : {M : Type 0} (end : End → M) (go_on : M → (State → M) → M) (draw : List ℕ → (ℕ → M) → M) (n : ℕ) (b : Statements) (s : State) → block_with end go_on draw (λ m. m) n b s ≡ block_in end go_on draw n b s
+  block_plain end go_on draw n done s = refl
+  block_plain end go_on draw n (st ▸ b) s =
+      ap (λ z. go_on z (block_with end go_on draw (λ m. m) n b)) (statement_plain end go_on draw n st s) ∙ ap (λ k. go_on (statement_in end go_on draw n st s) k) (fun_ext (block_plain end go_on draw n b))
+
+  arm_plain : {M : Type 0} (end : End → M) (go_on : M → (State → M) → M) (draw : List ℕ → (ℕ → M) → M) (n : ℕ) (arms : ArmList) (i : ℕ) (s : State) → arm_with end go_on draw (λ m. m) n arms i s ≡ arm_in end go_on draw n arms i s
+  arm_plain end go_on draw n no_arm i s = refl
+  arm_plain end go_on draw n (arm p b arms) zero s = block_plain end go_on draw n b s
+  arm_plain end go_on draw n (arm p b arms) (suc i) s = arm_plain end go_on draw n arms i s
+
+-- what counts ends, where no turn costs anything
+pub counts_rise : (H : End → Rational) → H (limit Turns) ⊑ nought → (cost : List ℕ → Rational) (r : Option ℕ) (n n' : ℕ) → n ≤ n' → (b : Statements) (s : State) → AtMostReads (block_counts H cost r n b s) (block_counts H cost r n' b s)
+counts_rise H spared cost r n n' le b s =
+    subst (λ x. AtMostReads x (block_counts H cost r n' b s)) (block_plain (end_counts H) then_reads (class_counts cost r) n b s)
+    (subst (λ x. AtMostReads (block_with (end_counts H) then_reads (class_counts cost r) (λ m. m) n b s) x) (block_plain (end_counts H) then_reads (class_counts cost r) n' b s)
+    (block_counts_rise H spared cost r (λ m. m) (λ m o h. h) n n' le b s))
 
 pub loop_rises : (v : State → Value) (a c : State → Reads) → ((s : State) → AtMostReads (a s) (c s)) → (t u : ℕ) → t ≤ u → (s : State) → AtMostReads (loop_reads v a t s) (loop_reads v c u s)
 loop_rises = turns_rise quiet (below_refl nought)
 
-module _ (r : Option ℕ) (n n' : ℕ) (le : n ≤ n') where
-  pub statement_rises : (st : Statement) (s : State) → AtMostReads (statement_reads r n st s) (statement_reads r n' st s)
-  statement_rises = statement_counts_rise quiet (below_refl nought) (cost_in_bits r) r n n' le
+pub turn_rises : (some : Bool) (m o : Reads) → AtMostReads m o → AtMostReads (turn_reads some m) (turn_reads some o)
+turn_rises false m o h = h
+turn_rises true m o h = λ F G k. add_below (below_refl unit) (h F G k)
 
-  pub block_rises : (b : Statements) (s : State) → AtMostReads (block_reads r n b s) (block_reads r n' b s)
-  block_rises = block_counts_rise quiet (below_refl nought) (cost_in_bits r) r n n' le
+module _ (price : Price) (r : Option ℕ) (n n' : ℕ) (le : n ≤ n') where
+  pub statement_rises : (st : Statement) (s : State) → AtMostReads (statement_costs price r n st s) (statement_costs price r n' st s)
+  statement_rises = statement_counts_rise quiet (below_refl nought) (cost_of price r) r (turn_reads price.turns) (turn_rises price.turns) n n' le
+
+  pub block_rises : (b : Statements) (s : State) → AtMostReads (block_costs price r n b s) (block_costs price r n' b s)
+  block_rises = block_counts_rise quiet (below_refl nought) (cost_of price r) r (turn_reads price.turns) (turn_rises price.turns) n n' le

@@ -1,4 +1,4 @@
--- A draw by at most r attempts gives each class a share of what it has by as many as it takes, and reads the same share of the bits.
+-- A draw by at most r attempts gives each class a share of what it has by as many as it takes, and costs the same share.
 use Rattle.std.proofs.Common.{◌≡◌, ℕ, zero, suc, ◌+◌, ◌-◌, ◌*◌, ◌^◌, ◌≤◌, ◌<◌, List, [], ◌∷◌, Option, Some, None, sym, ap, ◌∙◌, subst, arith}
 use Rattle.std.proofs.lemmas.Nat.{pow-add, pow_pos}
 use Rattle.std.proofs.Math.Nat.{mul-le-mul_left, pow-suc, pow-zero}
@@ -6,16 +6,13 @@ use Rattle.gcl_core.specs.meaning.Draw.{bits_for, last_end, rejected_numbers, st
 use Rattle.gcl_core.specs.weighing.Fractions.{Fraction, power, power_sum}
 use Rattle.gcl_core.specs.weighing.WeightedEnds.{class_weight, no_class_weight, classes_from, weighted_classes}
 use Rattle.gcl_core.proofs.Classes.{bits_enough}
-use Rattle.gcl_core.proofs.CutPlays.{IsDraw}
 use Rattle.gcl_core.proofs.DrawTrees.{parts_all}
-use Rattle.cost_law.specs.ExpectedBits.{attempt_bits, draw_bits}
-use Rattle.cost_law.proofs.DrawBits.{draw_bits_pos}
 use Rattle.weighing_law.proofs.Fractions.{power_below}
-use Rattle.weighing_law.proofs.Shares.{product_pos}
+use Rattle.weighing_law.proofs.Shares.{product_pos, power_sum_pos}
 use Rattle.unlimited_law.proofs.Numbers.{Rational, ◌⊕◌, ◌⊗◌, ◌⊑◌, ◌≃◌, nought, unit, below_refl, same_refl, below_trans, same_sym, same_trans, add_same, times_same, factor_same, times_assoc, times_sum, times_nought, add_nought}
 use Rattle.unlimited_law.proofs.FractionNumbers.{of, of_times, of_plus, of_equal, of_pos}
 use Rattle.unlimited_law.proofs.Integrals.{integral, integral_append}
-use Rattle.bits_law.specs.Draws.{bits_of_draw}
+use Rattle.bits_law.specs.Price.{Price, price_of_draw}
 use Rattle.bits_law.proofs.TableReads.{draw_some}
 
 -- ---- numbers
@@ -40,7 +37,7 @@ series_is k q (suc r) =
     more : (a c S D C q E : ℕ) → E ≡ C * D → a * D ≡ S * C * c → (1 * (C * c) + q * a * 1) * E ≡ (D + q * S) * C * (1 * (C * c))
     more a c S D C q E e h = let x = ap (λ x. q * C * x) h in rw e (omega arith)
 
-module _ (cs : List ℕ) (ok : IsDraw cs) where
+module _ (cs : List ℕ) (some : 0 < last_end cs) where
   abbrev b : ℕ
   b = last_end cs
 
@@ -56,9 +53,6 @@ module _ (cs : List ℕ) (ok : IsDraw cs) where
   -- the share, by at most r attempts
   abbrev pub share : ℕ → Rational
   share r = of (b * S r, 2 ^ (k * r))
-
-  some : 0 < b
-  some = let h = ok.positive in omega arith
 
   parts : b + q ≡ 2 ^ k
   parts = let h = bits_enough b in omega arith
@@ -133,16 +127,16 @@ module _ (cs : List ℕ) (ok : IsDraw cs) where
       (same_trans (add_nought _)
       (times_same (share r) (same_sym (same_trans (integral_append G free ((no_class_weight b None, None) ∷ [])) (same_trans (add_same (same_refl (integral G free)) (no_last (no_class_weight b None) G h)) (add_nought _)))))))
 
-  pub bits_share : (r : ℕ) → of (bits_of_draw (Some r) cs) ≃ share r ⊗ of (bits_of_draw None cs)
-  bits_share r =
-      let U = (attempt_bits cs).0 in
+  pub price_share : (price : Price) (r : ℕ) → of (price_of_draw price (Some r) cs) ≃ share r ⊗ of (price_of_draw price None cs)
+  price_share price r =
+      let U = price.attempt cs in
       let P = power_sum (q, 2 ^ k) r in
       let D = 2 ^ (k * r) in
       let C = 2 ^ k in
       let left : C - q ≡ b = let e = parts in omega arith in
       same_trans
-      (of_equal (draw_bits cs r) (b * S r * (U * C), D * (C * (C - q))) (draw_bits_pos cs r)
-      (product_pos D (C * (C - q)) (pow_pos (k * r)) (draw_some cs some)) (same U P.0 P.1 (S r) D C b (C - q) left (series_is k q r)))
+      (of_equal (price_of_draw price (Some r) cs) (b * S r * (U * C), D * (C * (C - q))) (product_pos C P.1 (pow_pos k) (power_sum_pos (q, 2 ^ k) (pow_pos k) r))
+      (product_pos D (C * (C - q)) (pow_pos (k * r)) (draw_some price cs some)) (same U P.0 P.1 (S r) D C b (C - q) left (series_is k q r)))
       (of_times (b * S r, D) (U * C, C * (C - q)))
     where
       same : (U a c S D C b l : ℕ) → l ≡ b → a * D ≡ S * C * c → U * a * (D * (C * l)) ≡ b * S * (U * C) * (C * c)

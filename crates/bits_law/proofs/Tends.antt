@@ -81,7 +81,7 @@ tends_both X Y T U p q h g = record {
       );
 }
 
-beside : (d t x e : Rational) → t ⊑ x ⊕ e → d ⊕ t ⊑ d ⊕ x ⊕ e
+pub beside : (d t x e : Rational) → t ⊑ x ⊕ e → d ⊕ t ⊑ d ⊕ x ⊕ e
 beside d t x e a = by (together (d ∷ t ∷ x ∷ e ∷ [])).some (together (d ∷ t ∷ x ∷ e ∷ [])).each
   where
     by : {N : ℕ} → 0 < N → Each N (d ∷ t ∷ x ∷ e ∷ []) → d ⊕ t ⊑ d ⊕ x ⊕ e

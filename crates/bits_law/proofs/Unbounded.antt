@@ -20,13 +20,14 @@ use Rattle.unlimited_law.proofs.FractionNumbers.{of, of_join, of_equal, of_pos, 
 use Rattle.unlimited_law.proofs.Integrals.{integral, integral_append, integral_below, integral_same, integral_sum, guarded}
 use Rattle.unlimited_law.proofs.SameWeights.{alike_integral}
 use Rattle.unlimited_law.proofs.BlockLimits.{all_positive}
-use Rattle.bits_law.specs.Draws.{bits_of_draw}
-use Rattle.bits_law.specs.Reading.{StatementReads, BlockReads}
-use Rattle.bits_law.specs.Forever.{ComesBy, GoesRound, LoopForever, StatementForever, BlockForever, ArmsForever}
-use Rattle.bits_law.proofs.Readers.{Reads, AtMostReads, quiet, end_reads, then_reads, loop_reads, loop_rises, statement_reads, block_reads, statement_rises, block_rises}
+use Rattle.bits_law.specs.Price.{Price, price_of_draw}
+use Rattle.bits_law.specs.Reading.{TurnCosts, StatementCosts, BlockCosts}
+use Rattle.bits_law.specs.Forever.{ComesBy, GoesRound, LoopForever, StatementEndless, BlockEndless, ArmsEndless}
+use Rattle.bits_law.proofs.Readers.{Reads, AtMostReads, quiet, end_reads, then_reads, loop_reads, loop_rises, turn_reads, statement_costs, block_costs, statement_rises, block_rises}
 use Rattle.bits_law.proofs.Tends.{Rising, Tends, left_max, right_max}
 use Rattle.bits_law.proofs.TableReads.{guard_at, guarded_parts, guard_reads, sides_are, arms_read, choose_is}
 use Rattle.unlimited_law.proofs.FlowIntegrals.{weighed}
+use Rattle.bits_law.proofs.TurnTends.{turned_rising, turn_above, turn_some, turn_left, turn_tends}
 use Rattle.bits_law.proofs.BlockTends.{statement_tends, block_tends, block_rising, block_some, statement_left}
 
 -- ---- numbers
@@ -207,94 +208,100 @@ module _ (v : State → Value) (B : ℕ → State → Reads) (rising : (s : Stat
 abbrev nothing : State → Rational
 nothing s = nought
 
-abbrev StatementGrows : Statement → Table → Type 0
-StatementGrows st I = Grows (λ n. integral (λ s. statement_reads None n st s nothing) I)
-
-abbrev pub BlockGrows : Statements → Table → Type 0
-BlockGrows b I = Grows (λ n. integral (λ s. block_reads None n b s nothing) I)
-
-block_left : (b : Statements) (I J : Table) (bits : Fraction) → BlockReads b I J bits → Positive J
-block_left done I J bits o = all_positive J o.next.first
-block_left (st ▸ b) I J bits o = all_positive J o.6.next.first
-
 choice_above : (n : ℕ) (u l d : Fraction) (a c : State → Rational) (I : Table) →
     integral a (scaled u I) ⊕ integral c (scaled l I) ⊑ integral (λ s. of d ⊕ (of u ⊗ a s ⊕ of l ⊗ c s)) I
 choice_above n u l d a c I =
     below_trans (add_below (weighed u a I).above (weighed l c I).above)
     (below_trans (integral_sum (λ s. of u ⊗ a s) (λ s. of l ⊗ c s) I).above (integral_below (λ s. of u ⊗ a s ⊕ of l ⊗ c s) (λ s. of d ⊕ (of u ⊗ a s ⊕ of l ⊗ c s)) I (λ s. right_below (of d) _)))
 
-mutual
-  statement_grows : (st : Statement) → StatementIsWeighed st → (I : Table) → Positive I → StatementForever st I → StatementGrows st I
-  statement_grows Skip w I p o = absurd o
-  statement_grows (Set x e) w I p o = absurd o
-  statement_grows (Observe e) w I p o = absurd o
-  statement_grows (Uniform x e) w I p o = absurd o
-  statement_grows (If e a c) w I p o =
-      let A = only (holds (value_of e)) I in
-      let C = only (fails (value_of e)) I in
-      let parts = λ (n : ℕ). (guard_reads (value_of e) (block_reads None n a) (block_reads None n c) nothing I).above in
-      ⊎_elim
-      (λ (h : BlockForever a A). grows_by (λ n. integral (λ s. block_reads None n a s nothing) A) _ (λ n. below_trans (left_below _ (integral (λ s. block_reads None n c s nothing) C)) (parts n))
-      (block_grows a w.0 A (p_only (holds (value_of e)) I p) h))
-      (λ (h : BlockForever c C). grows_by (λ n. integral (λ s. block_reads None n c s nothing) C) _ (λ n. below_trans (right_below (integral (λ s. block_reads None n a s nothing) A) _) (parts n))
-      (block_grows c w.1 C (p_only (fails (value_of e)) I p) h)) o
-  statement_grows (Choice q a c) w I p o =
-      let some : 0 < q.den = let h = w.0.positive in omega arith in
-      let u = class_weight q.den None q.num in
-      let l = class_weight q.den None (q.den - q.num) in
-      let d = bits_of_draw None (choice_ends q) in
-      let A = scaled u I in
-      let C = scaled l I in
-      let parts = λ (n : ℕ). below_trans (choice_above n u l d (λ s. block_reads None n a s nothing) (λ s. block_reads None n c s nothing) I)
-      (integral_same (λ s. of d ⊕ (of u ⊗ block_reads None n a s nothing ⊕ of l ⊗ block_reads None n c s nothing)) (λ s. statement_reads None n (Choice q a c) s nothing) I
-      (λ s. same_sym (sides_are q (block_reads None n a s) (block_reads None n c s) nothing))).below in
-      ⊎_elim
-      (λ (h : BlockForever a A). grows_by (λ n. integral (λ s. block_reads None n a s nothing) A) _ (λ n. below_trans (left_below _ (integral (λ s. block_reads None n c s nothing) C)) (parts n))
-      (block_grows a w.1 A (p_scaled u I some p) h))
-      (λ (h : BlockForever c C). grows_by (λ n. integral (λ s. block_reads None n c s nothing) C) _ (λ n. below_trans (right_below (integral (λ s. block_reads None n a s nothing) A) _) (parts n))
-      (block_grows c w.2 C (p_scaled l I some p) h)) o
-  statement_grows (Choose arms) w I p o =
-      let b = sum (parts_of arms) in
-      let some : 0 < b = let h = w.0.positive in omega arith in
-      let d = bits_of_draw None (partial_sums (parts_of arms)) in
-      grows_by (λ n. integral (λ s. arms_read n nothing b arms s) I) _
-      (λ n. below_trans (integral_below (λ s. arms_read n nothing b arms s) (λ s. of d ⊕ arms_read n nothing b arms s) I (λ s. right_below (of d) _))
-      (integral_same (λ s. of d ⊕ arms_read n nothing b arms s) (λ s. statement_reads None n (Choose arms) s nothing) I (λ s. same_sym (choose_is n nothing arms s))).below)
-      (arms_grow b some arms w.1 I p o)
-  statement_grows (While e a) w I p o =
-      loop_grows (value_of e) (λ n. block_reads None n a) (block_rising a) (BlockReads a) (block_some a) (block_tends a w) (block_left a) (BlockForever a) (block_grows a w) I p o
+module _ (price : Price) where
+  abbrev StatementGrows : Statement → Table → Type 0
+  StatementGrows st I = Grows (λ n. integral (λ s. statement_costs price None n st s nothing) I)
 
-  pub block_grows : (b : Statements) → BlockIsWeighed b → (I : Table) → Positive I → BlockForever b I → BlockGrows b I
-  block_grows done w I p o = absurd o
-  block_grows (st ▸ b) w I p o =
-      ⊎_elim
-      (λ (h : StatementForever st I). grows_by (λ n. integral (λ s. statement_reads None n st s nothing) I) _
-      (λ n. integral_below (λ s. statement_reads None n st s nothing) (λ s. statement_reads None n st s (λ t. block_reads None n b t nothing)) I
-      (λ s. statement_rises None n n (omega arith) st s nothing (λ t. block_reads None n b t nothing) (λ t. nought_below _))) (statement_grows st w.0 I p h))
-      (λ (h : (K : Table) × (read : Fraction) × StatementReads st I K read × BlockForever b K). second h (block_grows b w.1 h.0 (statement_left st I h.0 h.1 h.2) h.3)) o
-    where
-      second : (h : (K : Table) × (read : Fraction) × StatementReads st I K read × BlockForever b K) → BlockGrows b h.0 → BlockGrows (st ▸ b) I
-      second h g M =
-          let one : 0 < 1 = omega arith in
-          let y = g (M + 1) in
-          let F = λ (t : State). block_reads None y.0 b t nothing in
-          let x = (statement_tends st w.0 I h.0 h.1 p h.2).near F 1 one in
-          let n = max x.0 y.0 in (
-            n,
-            below_trans (less_one M (integral F h.0) (integral (λ s. statement_reads None x.0 st s F) I) (of h.1) y.1 x.1)
-                (integral_below (λ s. statement_reads None x.0 st s F) (λ s. statement_reads None n st s (λ t. block_reads None n b t nothing)) I
-                (λ s. statement_rises None x.0 n (left_max x.0 y.0) st s F (λ t. block_reads None n b t nothing) (λ t. block_rises None y.0 n (right_max x.0 y.0) b t nothing nothing (λ s. below_refl nought)))),
-          )
+  abbrev pub BlockGrows : Statements → Table → Type 0
+  BlockGrows b I = Grows (λ n. integral (λ s. block_costs price None n b s nothing) I)
 
-  arms_grow : (b : ℕ) → 0 < b → (arms : ArmList) → ArmsAreWeighed arms → (I : Table) → Positive I → ArmsForever b arms I → Grows (λ n. integral (λ s. arms_read n nothing b arms s) I)
-  arms_grow b some no_arm w I p o = absurd o
-  arms_grow b some (arm q a arms) w I p o =
-      let u = class_weight b None q in
-      let A = scaled u I in
-      let parts = λ (n : ℕ). below_trans (add_below (weighed u (λ s. block_reads None n a s nothing) I).above (below_refl (integral (λ s. arms_read n nothing b arms s) I)))
-      (integral_sum (λ s. of u ⊗ block_reads None n a s nothing) (λ s. arms_read n nothing b arms s) I).above in
-      ⊎_elim
-      (λ (h : BlockForever a A). grows_by (λ n. integral (λ s. block_reads None n a s nothing) A) _ (λ n. below_trans (left_below _ (integral (λ s. arms_read n nothing b arms s) I)) (parts n))
-      (block_grows a w.0 A (p_scaled u I some p) h))
-      (λ (h : ArmsForever b arms I). grows_by (λ n. integral (λ s. arms_read n nothing b arms s) I) _ (λ n. below_trans (right_below (integral (λ s. block_reads None n a s nothing) A) _) (parts n))
-      (arms_grow b some arms w.1 I p h)) o
+  block_left : (b : Statements) (I J : Table) (bits : Fraction) → BlockCosts price b I J bits → Positive J
+  block_left done I J bits o = all_positive J o.next.first
+  block_left (st ▸ b) I J bits o = all_positive J o.6.next.first
+
+  mutual
+    statement_grows : (st : Statement) → StatementIsWeighed st → (I : Table) → Positive I → StatementEndless price st I → StatementGrows st I
+    statement_grows Skip w I p o = absurd o
+    statement_grows (Set x e) w I p o = absurd o
+    statement_grows (Observe e) w I p o = absurd o
+    statement_grows (Uniform x e) w I p o = absurd o
+    statement_grows (If e a c) w I p o =
+        let A = only (holds (value_of e)) I in
+        let C = only (fails (value_of e)) I in
+        let parts = λ (n : ℕ). (guard_reads (value_of e) (block_costs price None n a) (block_costs price None n c) nothing I).above in
+        ⊎_elim
+        (λ (h : BlockEndless price a A). grows_by (λ n. integral (λ s. block_costs price None n a s nothing) A) _ (λ n. below_trans (left_below _ (integral (λ s. block_costs price None n c s nothing) C)) (parts n))
+        (block_grows a w.0 A (p_only (holds (value_of e)) I p) h))
+        (λ (h : BlockEndless price c C). grows_by (λ n. integral (λ s. block_costs price None n c s nothing) C) _ (λ n. below_trans (right_below (integral (λ s. block_costs price None n a s nothing) A) _) (parts n))
+        (block_grows c w.1 C (p_only (fails (value_of e)) I p) h)) o
+    statement_grows (Choice q a c) w I p o =
+        let some : 0 < q.den = let h = w.0.positive in omega arith in
+        let u = class_weight q.den None q.num in
+        let l = class_weight q.den None (q.den - q.num) in
+        let d = price_of_draw price None (choice_ends q) in
+        let A = scaled u I in
+        let C = scaled l I in
+        let parts = λ (n : ℕ). below_trans (choice_above n u l d (λ s. block_costs price None n a s nothing) (λ s. block_costs price None n c s nothing) I)
+        (integral_same (λ s. of d ⊕ (of u ⊗ block_costs price None n a s nothing ⊕ of l ⊗ block_costs price None n c s nothing)) (λ s. statement_costs price None n (Choice q a c) s nothing) I
+        (λ s. same_sym (sides_are price q (block_costs price None n a s) (block_costs price None n c s) nothing))).below in
+        ⊎_elim
+        (λ (h : BlockEndless price a A). grows_by (λ n. integral (λ s. block_costs price None n a s nothing) A) _ (λ n. below_trans (left_below _ (integral (λ s. block_costs price None n c s nothing) C)) (parts n))
+        (block_grows a w.1 A (p_scaled u I some p) h))
+        (λ (h : BlockEndless price c C). grows_by (λ n. integral (λ s. block_costs price None n c s nothing) C) _ (λ n. below_trans (right_below (integral (λ s. block_costs price None n a s nothing) A) _) (parts n))
+        (block_grows c w.2 C (p_scaled l I some p) h)) o
+    statement_grows (Choose arms) w I p o =
+        let b = sum (parts_of arms) in
+        let some : 0 < b = let h = w.0.positive in omega arith in
+        let d = price_of_draw price None (partial_sums (parts_of arms)) in
+        grows_by (λ n. integral (λ s. arms_read price n nothing b arms s) I) _
+        (λ n. below_trans (integral_below (λ s. arms_read price n nothing b arms s) (λ s. of d ⊕ arms_read price n nothing b arms s) I (λ s. right_below (of d) _))
+        (integral_same (λ s. of d ⊕ arms_read price n nothing b arms s) (λ s. statement_costs price None n (Choose arms) s nothing) I (λ s. same_sym (choose_is price n nothing arms s))).below)
+        (arms_grow b some arms w.1 I p o)
+    statement_grows (While e a) w I p o =
+        let turns = price.turns in
+        let B = λ (n : ℕ). block_costs price None n a in
+        let Body = BlockCosts price a in
+        loop_grows (value_of e) (λ n s. turn_reads turns (B n s)) (turned_rising turns B (block_rising price a)) (TurnCosts turns Body) (turn_some Body turns (block_some price a)) (turn_tends Body B (block_some price a) (block_tends price a w) turns)
+        (turn_left Body turns (block_left a)) (BlockEndless price a)
+        (λ J q h. grows_by (λ n. integral (λ s. B n s nothing) J) _ (λ n. integral_below (λ s. B n s nothing) (λ s. turn_reads turns (B n s) nothing) J (λ s. turn_above turns (B n s) nothing)) (block_grows a w J q h)) I p o
+
+    pub block_grows : (b : Statements) → BlockIsWeighed b → (I : Table) → Positive I → BlockEndless price b I → BlockGrows b I
+    block_grows done w I p o = absurd o
+    block_grows (st ▸ b) w I p o =
+        ⊎_elim
+        (λ (h : StatementEndless price st I). grows_by (λ n. integral (λ s. statement_costs price None n st s nothing) I) _
+        (λ n. integral_below (λ s. statement_costs price None n st s nothing) (λ s. statement_costs price None n st s (λ t. block_costs price None n b t nothing)) I
+        (λ s. statement_rises price None n n (omega arith) st s nothing (λ t. block_costs price None n b t nothing) (λ t. nought_below _))) (statement_grows st w.0 I p h))
+        (λ (h : (K : Table) × (read : Fraction) × StatementCosts price st I K read × BlockEndless price b K). second h (block_grows b w.1 h.0 (statement_left price st I h.0 h.1 h.2) h.3)) o
+      where
+        second : (h : (K : Table) × (read : Fraction) × StatementCosts price st I K read × BlockEndless price b K) → BlockGrows b h.0 → BlockGrows (st ▸ b) I
+        second h g M =
+            let one : 0 < 1 = omega arith in
+            let y = g (M + 1) in
+            let F = λ (t : State). block_costs price None y.0 b t nothing in
+            let x = (statement_tends price st w.0 I h.0 h.1 p h.2).near F 1 one in
+            let n = max x.0 y.0 in (
+              n,
+              below_trans (less_one M (integral F h.0) (integral (λ s. statement_costs price None x.0 st s F) I) (of h.1) y.1 x.1)
+                  (integral_below (λ s. statement_costs price None x.0 st s F) (λ s. statement_costs price None n st s (λ t. block_costs price None n b t nothing)) I
+                  (λ s. statement_rises price None x.0 n (left_max x.0 y.0) st s F (λ t. block_costs price None n b t nothing) (λ t. block_rises price None y.0 n (right_max x.0 y.0) b t nothing nothing (λ s. below_refl nought)))),
+            )
+
+    arms_grow : (b : ℕ) → 0 < b → (arms : ArmList) → ArmsAreWeighed arms → (I : Table) → Positive I → ArmsEndless price b arms I → Grows (λ n. integral (λ s. arms_read price n nothing b arms s) I)
+    arms_grow b some no_arm w I p o = absurd o
+    arms_grow b some (arm q a arms) w I p o =
+        let u = class_weight b None q in
+        let A = scaled u I in
+        let parts = λ (n : ℕ). below_trans (add_below (weighed u (λ s. block_costs price None n a s nothing) I).above (below_refl (integral (λ s. arms_read price n nothing b arms s) I)))
+        (integral_sum (λ s. of u ⊗ block_costs price None n a s nothing) (λ s. arms_read price n nothing b arms s) I).above in
+        ⊎_elim
+        (λ (h : BlockEndless price a A). grows_by (λ n. integral (λ s. block_costs price None n a s nothing) A) _ (λ n. below_trans (left_below _ (integral (λ s. arms_read price n nothing b arms s) I)) (parts n))
+        (block_grows a w.0 A (p_scaled u I some p) h))
+        (λ (h : ArmsEndless price b arms I). grows_by (λ n. integral (λ s. arms_read price n nothing b arms s) I) _ (λ n. below_trans (right_below (integral (λ s. block_costs price None n a s nothing) A) _) (parts n))
+        (arms_grow b some arms w.1 I p h)) o

@@ -1,5 +1,5 @@
--- Tables from which a block reads bits for ever with some weight, so that what it reads on average has no bound: a loop comes to a table
--- that its body leads back, reading some, or to one from which its body reads for ever. This project's own rule.
+-- Tables from which a block goes on to cost something for ever with some weight, as reading bits does, so that what it costs on average has no
+-- bound: a loop comes to a table that its body leads back, at some cost, or to one from which its body goes on so. This project's own rule.
 use Rattle.std.specs.Prelude.{◌⊎◌, ℕ, zero, suc, ◌-◌, ◌<◌, ◌++◌, None, length}
 use Rattle.std.specs.List.{sum}
 use Rattle.gcl_core.specs.meaning.Arms.{parts_of}
@@ -10,7 +10,8 @@ use Rattle.gcl_core.specs.weighing.Fractions.{Fraction}
 use Rattle.gcl_core.specs.weighing.WeightedEnds.{sure, scaled, class_weight}
 use Rattle.table_flow.specs.Tables.{Table, holds, fails, only}
 use Rattle.unlimited_law.specs.Alike.{Alike}
-use Rattle.bits_law.specs.Reading.{StatementReads, BlockReads}
+use Rattle.bits_law.specs.Price.{Price, bits_price}
+use Rattle.bits_law.specs.Reading.{TurnCosts, StatementCosts, BlockCosts}
 
 module _ (guard : State → Value) (Body : Table → Table → Fraction → Type 0) where
   -- the tables to which m turns of a loop come from I, together
@@ -38,25 +39,38 @@ module _ (guard : State → Value) (Body : Table → Table → Fraction → Type
       × (GoesRound S ⊎ BodyForever (only (holds guard) S))
 
 abbrev mutual
-  pub StatementForever : Statement → Table → Type 0
-  StatementForever Skip I = ⊥
-  StatementForever (Set x e) I = ⊥
-  StatementForever (Observe e) I = ⊥
-  StatementForever (Uniform x e) I = ⊥
-  StatementForever (If e a c) I = BlockForever a (only (holds (value_of e)) I) ⊎ BlockForever c (only (fails (value_of e)) I)
-  StatementForever (Choice p a c) I =
-      BlockForever a (scaled (class_weight p.den None p.num) I) ⊎ BlockForever c (scaled (class_weight p.den None (p.den - p.num)) I)
-  StatementForever (Choose arms) I = ArmsForever (sum (parts_of arms)) arms I
-  StatementForever (While e a) I = LoopForever (value_of e) (BlockReads a) (BlockForever a) I
+  pub StatementEndless : Price → Statement → Table → Type 0
+  StatementEndless price Skip I = ⊥
+  StatementEndless price (Set x e) I = ⊥
+  StatementEndless price (Observe e) I = ⊥
+  StatementEndless price (Uniform x e) I = ⊥
+  StatementEndless price (If e a c) I = BlockEndless price a (only (holds (value_of e)) I) ⊎ BlockEndless price c (only (fails (value_of e)) I)
+  StatementEndless price (Choice p a c) I =
+      BlockEndless price a (scaled (class_weight p.den None p.num) I) ⊎ BlockEndless price c (scaled (class_weight p.den None (p.den - p.num)) I)
+  StatementEndless price (Choose arms) I = ArmsEndless price (sum (parts_of arms)) arms I
+  StatementEndless price (While e a) I = LoopForever (value_of e) (TurnCosts price.turns (BlockCosts price a)) (BlockEndless price a) I
 
-  pub BlockForever : Statements → Table → Type 0
-  BlockForever done I = ⊥
-  BlockForever (st ▸ b) I = StatementForever st I ⊎ ((K : Table) × (read : Fraction) × StatementReads st I K read × BlockForever b K)
+  pub BlockEndless : Price → Statements → Table → Type 0
+  BlockEndless price done I = ⊥
+  BlockEndless price (st ▸ b) I = StatementEndless price st I ⊎ ((K : Table) × (cost : Fraction) × StatementCosts price st I K cost × BlockEndless price b K)
 
-  pub ArmsForever : ℕ → ArmList → Table → Type 0
-  ArmsForever b no_arm I = ⊥
-  ArmsForever b (arm p a arms) I = BlockForever a (scaled (class_weight b None p) I) ⊎ ArmsForever b arms I
+  pub ArmsEndless : Price → ℕ → ArmList → Table → Type 0
+  ArmsEndless price b no_arm I = ⊥
+  ArmsEndless price b (arm p a arms) I = BlockEndless price a (scaled (class_weight b None p) I) ⊎ ArmsEndless price b arms I
 
--- the body of a program does
+-- ---- bits
+abbrev pub StatementForever : Statement → Table → Type 0
+StatementForever = StatementEndless bits_price
+
+abbrev pub BlockForever : Statements → Table → Type 0
+BlockForever = BlockEndless bits_price
+
+abbrev pub ArmsForever : ℕ → ArmList → Table → Type 0
+ArmsForever = ArmsEndless bits_price
+
+-- ---- the body of a program
+abbrev pub CostsForever : Price → SourceProgram → Type 0
+CostsForever price p = BlockEndless price p.body (sure (zeros (length p.names)))
+
 abbrev pub ReadsForever : SourceProgram → Type 0
-ReadsForever p = BlockForever p.body (sure (zeros (length p.names)))
+ReadsForever = CostsForever bits_price

@@ -11,7 +11,8 @@ use Rattle.table_flow.specs.Tables.{Table, tables_of}
 use Rattle.unlimited_law.specs.LoopFree.{flowed_out}
 use Rattle.unlimited_law.specs.Settling.{Outflow}
 use Rattle.unlimited_law.specs.SettledMasses.{settled_failed}
-use Rattle.bits_law.specs.Reading.{BlockReads}
+use Rattle.bits_law.specs.Price.{Price, bits_price}
+use Rattle.bits_law.specs.Reading.{BlockCosts}
 
 -- each limit is at least so much
 pub record AtLeast (least : ℕ) (l : Limits) : Type 0 where
@@ -35,6 +36,15 @@ pub record ComesTo (under : Limits → Fraction) (number : Fraction) : Type 0 wh
 abbrev pub HasNoBound : (Limits → Fraction) → Type 0
 HasNoBound under = (k : ℕ) → (least : ℕ) × ((l : Limits) → AtLeast least l → AtMost (k, 1) (under l))
 
+-- ---- whatever a run costs
+-- the body of a program costs so much in a round
+abbrev pub RoundCosts : Price → SourceProgram → Table → Fraction → Type 0
+RoundCosts price p J cost = BlockCosts price p.body (sure (zeros (length p.names))) J cost
+
+-- what a round costs, over the probability that it does not fail
+abbrev pub price_in_the_limit : SourceProgram → Outflow → Fraction → Fraction
+price_in_the_limit p f cost = divided_by_rest cost (settled_failed p f)
+
 -- ---- bits
 abbrev pub AreExpected : SourceProgram → Fraction → Type 0
 AreExpected p bits = ComesTo (expected_bits p) bits
@@ -44,11 +54,11 @@ AreUnbounded p = HasNoBound (expected_bits p)
 
 -- the body of a program reads so many bits in a round
 abbrev pub RoundReads : SourceProgram → Table → Fraction → Type 0
-RoundReads p J bits = BlockReads p.body (sure (zeros (length p.names))) J bits
+RoundReads = RoundCosts bits_price
 
 -- what a round reads, over the probability that it does not fail
 abbrev pub bits_in_the_limit : SourceProgram → Outflow → Fraction → Fraction
-bits_in_the_limit p f read = divided_by_rest read (settled_failed p f)
+bits_in_the_limit = price_in_the_limit
 
 -- ---- rounds
 -- one, over the probability that it does not fail

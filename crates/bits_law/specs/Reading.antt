@@ -1,6 +1,7 @@
--- What a table reads in a block on average, where nothing is limited, and the table that the block leaves. For each loop its expected
--- visits are given, as where masses are settled; its body reads what it reads from the visits. This project's own rule.
-use Rattle.std.specs.Prelude.{◌≡◌, ℕ, ◌-◌, ◌≤◌, true, List, [], ◌++◌, None}
+-- What a table costs in a block on average, where nothing is limited, and the table that the block leaves, by what is counted; as bits, what
+-- it reads. For each loop its expected visits are given, as where masses are settled; its body costs what it costs from the visits. This
+-- project's own rule.
+use Rattle.std.specs.Prelude.{◌≡◌, ℕ, ◌-◌, ◌≤◌, Bool, true, false, List, [], ◌++◌, None}
 use Rattle.std.specs.List.{sum}
 use Rattle.numbers.specs.Fraction.{IsEqual}
 use Rattle.gcl_core.specs.meaning.Arms.{parts_of}
@@ -13,8 +14,8 @@ use Rattle.gcl_core.specs.weighing.WeightedEnds.{sure, scaled, class_weight}
 use Rattle.table_flow.specs.Tables.{Table, holds, fails, only, statement_flow}
 use Rattle.table_flow.specs.Reached.{drawn_each, drawn_bound}
 use Rattle.unlimited_law.specs.Alike.{Alike}
-use Rattle.unlimited_law.specs.Settling.{EachState, Within}
-use Rattle.bits_law.specs.Draws.{bits_of_draws}
+use Rattle.unlimited_law.specs.Settling.{total, EachState, Within}
+use Rattle.bits_law.specs.Price.{Price, bits_price, price_of_draws}
 
 -- the table J weighs what this one does, and so many bits are read
 pub record Comes (J : Table) (bits : Fraction) (after : Table) (read : Fraction) : Type 0 where
@@ -50,42 +51,57 @@ module _ (guard : State → Value) (Body : Table → Table → Fraction → Type
       × ((more : Table) × (again : Table) × (most : Fraction) × AreVisits D (visits ++ more) again most)
       × Comes J bits (only (fails guard) visits) read
 
-abbrev mutual
-  pub StatementReads : Statement → Table → Table → Fraction → Type 0
-  StatementReads Skip I J bits = ReadsNothing Skip I J bits
-  StatementReads (Set x e) I J bits = ReadsNothing (Set x e) I J bits
-  StatementReads (Observe e) I J bits = ReadsNothing (Observe e) I J bits
-  StatementReads (Uniform x e) I J bits =
-      Comes J bits (statement_flow 0 None (Uniform x e) I).next (bits_of_draws (drawn_bound (value_of e) I))
-  StatementReads (If e a c) I J bits =
-      (K : Table) × (L : Table) × (y : Fraction) × (z : Fraction)
-      × BlockReads a (only (holds (value_of e)) I) K y
-      × BlockReads c (only (fails (value_of e)) I) L z
-      × Comes J bits (K ++ L) (plus y z)
-  StatementReads (Choice p a c) I J bits =
-      (K : Table) × (L : Table) × (y : Fraction) × (z : Fraction)
-      × BlockReads a (scaled (class_weight p.den None p.num) I) K y
-      × BlockReads c (scaled (class_weight p.den None (p.den - p.num)) I) L z
-      × Comes J bits (K ++ L) (plus (bits_of_draws (drawn_each (choice_ends p) I)) (plus y z))
-  StatementReads (Choose arms) I J bits =
-      (K : Table) × (y : Fraction)
-      × ArmsRead (sum (parts_of arms)) arms I K y
-      × Comes J bits K (plus (bits_of_draws (drawn_each (partial_sums (parts_of arms)) I)) y)
-  StatementReads (While e a) I J bits = LoopReads (value_of e) (BlockReads a) I J bits
+-- One turn of a loop from a table: where each turn costs 1, that of each state besides what the body costs.
+abbrev pub TurnCosts : Bool → (Table → Table → Fraction → Type 0) → Table → Table → Fraction → Type 0
+TurnCosts false Body I J cost = Body I J cost
+TurnCosts true Body I J cost = (within : Fraction) × Body I J within × IsEqual cost (plus (total I) within) × (1 ≤ cost.1)
 
-  pub BlockReads : Statements → Table → Table → Fraction → Type 0
-  BlockReads done I J bits = Comes J bits I zero_share
-  BlockReads (st ▸ b) I J bits =
+abbrev mutual
+  pub StatementCosts : Price → Statement → Table → Table → Fraction → Type 0
+  StatementCosts price Skip I J cost = ReadsNothing Skip I J cost
+  StatementCosts price (Set x e) I J cost = ReadsNothing (Set x e) I J cost
+  StatementCosts price (Observe e) I J cost = ReadsNothing (Observe e) I J cost
+  StatementCosts price (Uniform x e) I J cost =
+      Comes J cost (statement_flow 0 None (Uniform x e) I).next (price_of_draws price (drawn_bound (value_of e) I))
+  StatementCosts price (If e a c) I J cost =
       (K : Table) × (L : Table) × (y : Fraction) × (z : Fraction)
-      × StatementReads st I K y
-      × BlockReads b K L z
-      × Comes J bits L (plus y z)
+      × BlockCosts price a (only (holds (value_of e)) I) K y
+      × BlockCosts price c (only (fails (value_of e)) I) L z
+      × Comes J cost (K ++ L) (plus y z)
+  StatementCosts price (Choice p a c) I J cost =
+      (K : Table) × (L : Table) × (y : Fraction) × (z : Fraction)
+      × BlockCosts price a (scaled (class_weight p.den None p.num) I) K y
+      × BlockCosts price c (scaled (class_weight p.den None (p.den - p.num)) I) L z
+      × Comes J cost (K ++ L) (plus (price_of_draws price (drawn_each (choice_ends p) I)) (plus y z))
+  StatementCosts price (Choose arms) I J cost =
+      (K : Table) × (y : Fraction)
+      × ArmsCost price (sum (parts_of arms)) arms I K y
+      × Comes J cost K (plus (price_of_draws price (drawn_each (partial_sums (parts_of arms)) I)) y)
+  StatementCosts price (While e a) I J cost = LoopReads (value_of e) (TurnCosts price.turns (BlockCosts price a)) I J cost
+
+  pub BlockCosts : Price → Statements → Table → Table → Fraction → Type 0
+  BlockCosts price done I J cost = Comes J cost I zero_share
+  BlockCosts price (st ▸ b) I J cost =
+      (K : Table) × (L : Table) × (y : Fraction) × (z : Fraction)
+      × StatementCosts price st I K y
+      × BlockCosts price b K L z
+      × Comes J cost L (plus y z)
 
   -- the arms of a draw with b parts, one after the other
-  pub ArmsRead : ℕ → ArmList → Table → Table → Fraction → Type 0
-  ArmsRead b no_arm I J bits = Comes J bits [] zero_share
-  ArmsRead b (arm p a arms) I J bits =
+  pub ArmsCost : Price → ℕ → ArmList → Table → Table → Fraction → Type 0
+  ArmsCost price b no_arm I J cost = Comes J cost [] zero_share
+  ArmsCost price b (arm p a arms) I J cost =
       (K : Table) × (L : Table) × (y : Fraction) × (z : Fraction)
-      × BlockReads a (scaled (class_weight b None p) I) K y
-      × ArmsRead b arms I L z
-      × Comes J bits (K ++ L) (plus y z)
+      × BlockCosts price a (scaled (class_weight b None p) I) K y
+      × ArmsCost price b arms I L z
+      × Comes J cost (K ++ L) (plus y z)
+
+-- ---- bits
+abbrev pub StatementReads : Statement → Table → Table → Fraction → Type 0
+StatementReads = StatementCosts bits_price
+
+abbrev pub BlockReads : Statements → Table → Table → Fraction → Type 0
+BlockReads = BlockCosts bits_price
+
+abbrev pub ArmsRead : ℕ → ArmList → Table → Table → Fraction → Type 0
+ArmsRead = ArmsCost bits_price

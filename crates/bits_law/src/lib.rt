@@ -1,5 +1,6 @@
-//! Laws of how many bits a program's runs read on average, and how many rounds they begin, where nothing is limited: neither the turns
-//! of loops, nor the attempts of draws, nor the rounds. The functions do nothing: their clauses are theorems about definitions.
+//! Laws of how many bits a program's runs read on average, how many draws and turns of loops they make, and how many rounds they begin,
+//! where nothing is limited: neither the turns of loops, nor the attempts of draws, nor the rounds. The functions do nothing: their clauses
+//! are theorems about definitions.
 //!
 //! Proved, for every checked program: the expected bits rise with the limits (`expected_bits_rise_with_limits`), and what they come
 //! to is one fraction (`expected_bits_are_one_fraction`). Where the body settles and reads a number of bits, it is that number over
@@ -7,6 +8,10 @@
 //! (`programs_without_loops_read_their_draws`). Where a round reads for ever with some weight there is no bound
 //! (`bits_that_are_read_for_ever_have_no_bound`), nor where in the limit every round fails and reads some bits
 //! (`rounds_that_all_fail_read_nothing_or_have_no_bound`).
+//!
+//! The same is proved of whatever is counted of draws and of turns of loops, by its price (`costs_rise_with_limits`,
+//! `costs_tend_to_their_limit`, `costs_are_one_fraction`): draws, each of which costs 1 when it is decided, and turns of loops, each of which
+//! costs 1. Bits are what is counted where an attempt costs what it reads (`bits_are_a_price`).
 //!
 //! The expected number of rounds is the same with a price of 1 for each: what a run costs by what a round costs is said once
 //! (`expected_cost`), and its law is proved once. It rises with the limits (`expected_rounds_rise_with_limits`), to one over what does
@@ -30,8 +35,10 @@ ghost use Rattle.unlimited_law.specs.LoopFree.{BlockFree};
 ghost use Rattle.unlimited_law.specs.Settling.{Outflow};
 ghost use Rattle.unlimited_law.specs.SettledMasses.{ProgramSettles, settled_failed};
 ghost use Rattle.bits_law.specs.Draws.{bits_of_draws};
-ghost use Rattle.bits_law.specs.InTheLimit.{NoLess, ComesTo, HasNoBound, AreExpected, AreUnbounded, RoundReads, bits_in_the_limit, rounds_in_the_limit, free_outflow};
-ghost use Rattle.bits_law.specs.Forever.{ReadsForever};
+ghost use Rattle.bits_law.specs.InTheLimit.{NoLess, ComesTo, HasNoBound, AreExpected, AreUnbounded, RoundCosts, RoundReads, price_in_the_limit, bits_in_the_limit, rounds_in_the_limit, free_outflow};
+ghost use Rattle.bits_law.specs.Forever.{CostsForever, ReadsForever};
+ghost use Rattle.bits_law.specs.Price.{Price, bits_price};
+ghost use Rattle.bits_law.specs.RunPrice.{expected_price};
 ghost use Rattle.bits_law.specs.Rounds.{expected_cost, expected_rounds};
 
 /// It does nothing: its clause says that the expected bits of a checked program rise with its limits, with each of the three.
@@ -103,4 +110,40 @@ pub fn rounds_tend_to_their_limit()
 pub fn expected_rounds_are_one_fraction()
     ensures { (p : SourceProgram) (rounds other : Fraction) → IsChecked p → ComesTo (expected_rounds p) rounds →
         ComesTo (expected_rounds p) other → IsEqual rounds other }
+{}
+
+/// It does nothing: its clause says that the expected bits are what a run costs by the price of bits.
+pub fn bits_are_a_price()
+    ensures { (p : SourceProgram) (l : Limits) → expected_price bits_price p l ≡ expected_bits p l }
+{}
+
+/// It does nothing: its clause says that what a run of a checked program costs on average, by whatever price of draws and turns of loops,
+/// rises with its limits, with each of the three.
+pub fn costs_rise_with_limits()
+    ensures { (price : Price) (p : SourceProgram) (l m : Limits) → IsChecked p → NoLess l m →
+        AtMost (expected_price price p l) (expected_price price p m) }
+{}
+
+/// It does nothing: its clauses are the law of what a run costs without limits, by whatever price of draws and turns of loops, for a checked
+/// program. Where the body settles and a round fails with less than all weight in the limit, it is what a round costs over what
+/// does not fail. Where every round fails it is nothing if a round costs nothing, and else there is no bound; nor is there one
+/// where a round costs something for ever with some weight.
+pub fn costs_tend_to_their_limit()
+    ensures passes { (price : Price) (p : SourceProgram) (J : Table) (cost : Fraction) (f : Outflow) → IsChecked p →
+        RoundCosts price p J cost → ProgramSettles p f → IsBelowOne (settled_failed p f) →
+        ComesTo (expected_price price p) (price_in_the_limit p f cost) }
+    ensures nothing { (price : Price) (p : SourceProgram) (J : Table) (cost : Fraction) (f : Outflow) → IsChecked p →
+        RoundCosts price p J cost → ProgramSettles p f → IsOne (settled_failed p f) → cost.0 ≡ 0 →
+        ComesTo (expected_price price p) zero_share }
+    ensures unbounded { (price : Price) (p : SourceProgram) (J : Table) (cost : Fraction) (f : Outflow) → IsChecked p →
+        RoundCosts price p J cost → ProgramSettles p f → IsOne (settled_failed p f) → 0 < cost.0 →
+        HasNoBound (expected_price price p) }
+    ensures forever { (price : Price) (p : SourceProgram) → IsChecked p → CostsForever price p →
+        HasNoBound (expected_price price p) }
+{}
+
+/// It does nothing: its clause says that what a run of a program costs in the limit is one fraction.
+pub fn costs_are_one_fraction()
+    ensures { (price : Price) (p : SourceProgram) (cost other : Fraction) → IsChecked p → ComesTo (expected_price price p) cost →
+        ComesTo (expected_price price p) other → IsEqual cost other }
 {}

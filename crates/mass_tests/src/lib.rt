@@ -1,10 +1,10 @@
 //! The tests of fractions, narrow fractions, units, rounds over pairs of them, visits of loops, draws' bits, masses, expected bits
-//! under limits and without, expected rounds, bounds, enclosed and exact masses, and what programs settle to in wide fractions.
+//! under limits and without, expected rounds, draws and turns of loops, bounds, enclosed and exact masses, and what programs settle to in wide fractions.
 //!
 //! They stand in a crate of their own and go by public calls, so none of the crates that they test is proved once more with its
 //! tests. They promise nothing: the fractions that are expected are written out in them, worked by hand or by another program.
 //! They show what no clause says: that programs have an answer and are not refused, above all those with loops by `exact` and by
-//! `cost_in_the_limit` and `rounds_in_the_limit`.
+//! `cost_in_the_limit`, `rounds_in_the_limit` and `count_in_the_limit`.
 #![tactic(auto)]
 
 #[cfg(test)]
@@ -33,6 +33,8 @@ mod undecided_bits;
 mod units;
 #[cfg(test)]
 mod unlimited_bits;
+#[cfg(test)]
+mod unlimited_counts;
 #[cfg(test)]
 mod unlimited_rounds;
 #[cfg(test)]

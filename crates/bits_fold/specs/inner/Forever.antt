@@ -7,17 +7,18 @@ use Rattle.table_flow.specs.Tables.{Table}
 use Rattle.mass_fold.specs.inner.Amounts.{Entries}
 use Rattle.unlimited_law.specs.Alike.{Alike}
 use Rattle.exact_fold.specs.inner.Settled.{as_table, AreAbove}
-use Rattle.bits_law.specs.Forever.{GoesRound, LoopForever, ReadsForever}
+use Rattle.bits_law.specs.Forever.{GoesRound, LoopForever, CostsForever}
+use Rattle.bits_law.specs.Price.{Price}
 use Rattle.bits_fold.specs.declared.stop.Stop.{Stop}
 use Rattle.bits_fold.specs.declared.stop.Stop.TheVariants as stop
 
--- where it says that it reads for ever, it does
+-- where it says that it costs something for ever, it does
 pub record StopsFrom (Forever : Table → Type 0) (es : Entries) (s : Stop) : Type 0 where
   pub forever : s ≡ stop.ReadsForever → AreAbove es → Forever (as_table es)
 
 -- so does a round of a program
-pub record RoundStops (p : SourceProgram) (s : Stop) : Type 0 where
-  pub forever : s ≡ stop.ReadsForever → ReadsForever p
+pub record RoundStops (price : Price) (p : SourceProgram) (s : Stop) : Type 0 where
+  pub forever : s ≡ stop.ReadsForever → CostsForever price p
 
 module _ (guard : State → Value) (Body : Table → Table → Fraction → Type 0) where
   -- a part of the table goes round
