@@ -1,5 +1,6 @@
 //! The tests of fractions, narrow fractions, units, rounds over pairs of them, visits of loops, draws' bits, masses, expected bits
-//! under limits and without, expected rounds, draws and turns of loops, bounds, enclosed and exact masses, and what programs settle to in wide fractions.
+//! under limits and without, expected rounds, draws and turns of loops, bounds, enclosed and exact masses, and what programs settle to
+//! and their exact masses in wide fractions.
 //!
 //! They stand in a crate of their own and go by public calls, so none of the crates that they test is proved once more with its
 //! tests. They promise nothing: the fractions that are expected are written out in them, worked by hand or by another program.
@@ -39,5 +40,7 @@ mod unlimited_counts;
 mod unlimited_rounds;
 #[cfg(test)]
 mod visits;
+#[cfg(test)]
+mod wide_exact;
 #[cfg(test)]
 mod wide_masses;

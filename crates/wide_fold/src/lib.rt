@@ -9,7 +9,7 @@
 //! No clause says that there is an answer: what comes of one state alone may be wider than 128 bits, as where a loop stands in a
 //! choice or in another loop, and a loop whose guard is a fault in a state that it comes to is refused. Nothing is promised of the
 //! visits that are looked for or handed in, only of what passed the check. No clause says that memory or the stack suffices, or how
-//! long a call takes. No crate calls it yet.
+//! long a call takes.
 #![tactic(auto)]
 
 mod blocks;
