@@ -380,16 +380,9 @@ JUMPS = {
 }
 
 
-def snakes_and_ladders(square, last=100):
-    """The board as far as a square; what leads beyond, or from the last, is left out."""
-    jumps = {it: to for it, to in JUMPS.items() if it < last and to <= last}
-    ends = [square + die if square + die <= last else square for die in range(1, 7)]
-    return counted(jumps.get(it, it) for it in ends)
-
-
-def snakes_time(last):
-    step = lambda square: added((End(1) if it == last else it, weight) for it, weight in snakes_and_ladders(square, last).items())
-    return cost_of_turns(paid(0, step, lambda _: 1), 6)
+def snakes_and_ladders(square):
+    ends = [square + die if square + die <= 100 else square for die in range(1, 7)]
+    return counted(JUMPS.get(it, it) for it in ends)
 
 
 def ehrenfest(first):
@@ -473,5 +466,4 @@ COSTS = {
     "coupons_ten": cost_of_turns(paid(0, lambda n: {n: F(n, 10), End(1) if n == 9 else n + 1: F(10 - n, 10)}, lambda _: 1), 10),
     "herman_time": herman_time(5),
     "leader_time": cost_of_turns(1 / counted(map(leader, itertools.product(range(3), repeat=4)))[True], 3, draws=4),
-    "snakes_time": snakes_time(62),
 }
