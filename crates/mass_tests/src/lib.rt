@@ -43,4 +43,4 @@ mod visits;
 #[cfg(test)]
 mod wide_exact;
 #[cfg(test)]
-mod wide_masses;
+mod wide_settling;
