@@ -108,7 +108,7 @@ def of_page(zar, path, turns):
     name = path.name
     streams = f"--seed 1 --from 0 --to 1000 --turns {turns} --rounds 1000000 --budget 1000000"
     for call in (f"show {name}", f"mass {name} --turns {turns}", f"tally {name} {streams}", f"posterior {name} --turns {turns}",
-                 f"audit {name} --depth 0 .. 12 --turns {turns}", f"cost {name} --attempts 1 --rounds 1 --turns {turns}", f"code {name}"):
+                 f"audit {name} --depth 0 .. 12 --turns {turns}", f"cost {name}", f"code {name}"):
         yield f"names {call}", f"zar {call}" in tags.said
     for command in ("show", "code"):
         yield f"has what {command} prints", said(zar, command, path) in tags.said
@@ -127,7 +127,10 @@ def of_refused(zar, folder):
     yield "and stand there once", part_of(craps, "Masses without a limit") == ""
     its_bounds = Tags(part_of(craps, "Bounds")).said
     yield "bounds that are enclosed", "zar posterior craps.gcl --turns 30 is refused: error E13 fraction too wide." in its_bounds and "zar enclose craps.gcl --turns 30 --all-turns" in its_bounds
-    yield "bits without an average", "zar cost craps.gcl --attempts 1 --rounds 1 --turns 30 is refused: error E13 fraction too wide." in Tags(part_of(craps, "Bits")).said
+    yield "bits with no limit", "With no limit a run reads 1114/45 bits on average" in Tags(part_of(craps, "Bits")).said
+    geometric = Tags(part_of(report(zar, EXAMPLES / "geometric.gcl"), "Bits")).said
+    for what in ("zar cost geometric.gcl is refused: error E14 too many states.", "With one attempt at each draw and one round a run reads"):
+        yield f"bits under limits: {what}", what in geometric
     for name, text in (("wide.gcl", WIDE), ("states.gcl", MANY_STATES)):
         (folder / name).write_text(text, encoding="utf-8")
     wide = Tags(part_of(report(zar, folder / "wide.gcl"), "Masses and counts"))
