@@ -215,8 +215,8 @@ def of_server(zar):
         begun = time.monotonic()
         status, page = asked(address, "/page", LONG_FORM)
         yield "three seconds are all", status == 200 and time.monotonic() - begun < 15
-        late = [title for title in ("Masses and counts", "Bounds", "Bits", "Code") if "no answer within 3 seconds" in part_of(page, title)]
-        yield "but for what is late a page is whole", late == ["Masses and counts"]
+        late = [title for title in ("Masses and counts", "Bounds", "Code") if "no answer within 3 seconds" in part_of(page, title)]
+        yield "but for what is late a page is whole", late == ["Masses and counts"] and "a run reads 1 bits on average" in part_of(page, "Bits")
         yield "as is a GiB", resource.prlimit(server.pid, resource.RLIMIT_AS) == (2**30, 2**30)
         port = address.partition(":")[2]
         for taken, why in ((port, "Address already in use"), ("99999", "port must be 0-65535.")):

@@ -210,17 +210,26 @@ def read_on_average(told):
     return f"{limits} a run reads {average} bits on average, {float(average):.4g} in decimals."
 
 
+def bits_read(zar, *calls):
+    """The last of these calls that tells how many bits a run reads, if any does, and what is said of them, with why later ones do not."""
+    answered, note = [], ""
+    for call in calls:
+        try:
+            answered, note = [call], read_on_average(zar.told(call))
+        except Refused as why:
+            note = f"{why} {note}"
+        except Silent as why:
+            note = f"{zar.typed(*call)}: {why}. {note}"
+    return answered, note.strip()
+
+
 def reading(zar, asked):
     turns = turns_of(asked)
     audit, limited = ("audit", "--depth", f"0 .. {asked.depth}", *turns), ("cost", *"--attempts 1 --rounds 1".split(), *turns)
     body = div("columns", "".join(column(bits, decided(zar, bits, asked.turns)) for bits in range(asked.depth + 1)))
-    calls, note = [audit], "Of all strings of so many bits, how many in a hundred end the run."
-    try:
-        told = zar.told(("cost",), limited)
-        calls, note = [*calls, told.call], f"{note} {told.refused} {read_on_average(told)}"
-    except Refused as why:
-        note += f" {why}"
-    return figure("Bits", body, [zar.typed(*it) for it in calls], note.replace("  ", " "))
+    # What has no limit may take long, so it is asked last.
+    answered, note = bits_read(zar, limited, ("cost",))
+    return figure("Bits", body, [zar.typed(*it) for it in (audit, *answered)], f"Of all strings of so many bits, how many in a hundred end the run. {note}")
 
 
 def code(zar, _):
