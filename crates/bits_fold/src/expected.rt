@@ -1,23 +1,23 @@
 // The expected bits of a program where nothing is limited.
 
 ghost use Rattle.std.specs.Prelude.{◌≡◌, true, IfOk, IfErr, IfSome, IfNone};
+ghost use Rattle.gcl_core.specs.meaning.Syntax.{SourceProgram};
 ghost use Rattle.gcl_core.specs.meaning.Views.{source_of};
+ghost use Rattle.bits_law.specs.Price.{bits_price};
 ghost use Rattle.exact_fold.specs.Exact.{FailsWith};
 ghost use Rattle.exact_fold.specs.Refused.{HasNoLoop, HasLoops};
-ghost use Rattle.bits_fold.specs.Expected.{IsAnswer};
+ghost use Rattle.bits_fold.specs.Expected.{IsAnswer, IsCount};
 ghost use Rattle.bits_fold.specs.Refused.{BitsRefused};
 ghost use Rattle.bits_fold.specs.inner.AsWritten.{RefusedAsWritten, RoundsBlame};
 ghost use Rattle.bits_fold.specs.inner.Reading.{ReadsInRound};
 
 use crate::counted::Counted;
+use crate::counts::{Count, count_over_rounds};
 use crate::ended::{bits_at, tried};
 use crate::error::BitsError;
 use crate::reading::read_program;
 use crate::stop::Stop;
-use bits_law::{
-    bits_tend_to_their_limit, bits_that_are_read_for_ever_have_no_bound,
-    rounds_that_all_fail_read_nothing_or_have_no_bound,
-};
+use bits_law::bits_that_are_read_for_ever_have_no_bound;
 use exact_fold::{SettleError, block_loops, failed_in_the_limit};
 use forgetting::{forgetful, forgetting_costs_nothing};
 use gcl_core::Checked;
@@ -33,30 +33,26 @@ pub enum Bits {
     Unbounded,
 }
 
-// What is expected of rounds that read so many bits each and fail with this weight; none where it does not fit.
+// A count of bits.
+fn of_count(count: Count) -> Bits
+    ensures { (p : SourceProgram) → IsCount bits_price p count → IsAnswer p result }
+{
+    match count {
+        Count::Expected(bits) => Bits::Expected(bits),
+        Count::Unbounded => Bits::Unbounded,
+    }
+}
+
+/// What is expected of rounds that read so many bits each and fail with this weight; none where it does not fit.
 pub fn over_rounds(p: &Checked, read: &Frac, failed: &Frac) -> Option<Bits>
     requires reads { ReadsInRound (source_of p.now) read.now }
     requires fails { FailsWith (source_of p.now) failed.now }
     ensures answer { IfSome result (IsAnswer (source_of p.now)) }
     ensures cause { IfNone result (RoundsBlame read.now failed.now) }
 {
-    p.is_kept();
-    bits_tend_to_their_limit();
-    rounds_that_all_fail_read_nothing_or_have_no_bound();
-    failed.is_lowest();
-    if read.num() == 0 {
-        return Some(Bits::Expected(Frac::of(0, 1)));
-    }
-    if failed.num() >= failed.den() {
-        return Some(Bits::Unbounded);
-    }
-    let rounds = Frac::of(failed.den(), failed.den() - failed.num());
-    match read.mul(&rounds) {
+    match count_over_rounds(Counted::Bits, p, read, failed) {
         None => None,
-        Some(bits) => {
-            bits.is_lowest();
-            Some(Bits::Expected(bits))
-        }
+        Some(count) => Some(of_count(count)),
     }
 }
 

@@ -21,6 +21,17 @@ pub struct Led {
     pub reads: bool,
 }
 
+/// The entries where the guard holds.
+pub fn start_of(alloc: Global, e: &Expr, table: &Table) -> Result<Table, BitsError>
+    requires { ExpressionBelow (expression_of e.now) table.now.vars }
+    ensures { IfOk result (λ t. t.vars ≡ table.now.vars) }
+{
+    let copy = copied(alloc, table)?;
+    let mut none = Ended::none();
+    let (first, _) = split(alloc, e, copy, &mut none)?;
+    Ok(first)
+}
+
 /// One state with all weight, where it has as many variables.
 pub fn one(alloc: Global, vars: u32, state: &State) -> Result<Table, BitsError>
     ensures { IfOk result (λ t. t.vars ≡ vars) }

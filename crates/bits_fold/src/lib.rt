@@ -19,6 +19,7 @@ mod ended;
 mod error;
 mod expected;
 mod finding;
+mod reached;
 mod reading;
 mod rounds;
 mod stop;

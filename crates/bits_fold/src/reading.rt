@@ -1,17 +1,13 @@
 // A table through a block, and what is counted on the way, where nothing is limited: bits, draws or turns of loops.
 
-ghost use Rattle.std.specs.Prelude.{◌≡◌, ◌≤◌, ◌<◌, length, Some, None, IfOk, IfErr, OnOk};
+ghost use Rattle.std.specs.Prelude.{◌≡◌, ◌≤◌, ◌<◌, length, None, IfOk, IfErr, OnOk};
 ghost use Rattle.std.specs.List.{sum};
-ghost use Rattle.numbers.specs.Arithmetic.{sum_of};
 ghost use Rattle.numbers.specs.Fraction.{IsEqual};
 ghost use Rattle.gcl_core.specs.meaning.Arms.{parts_of};
 ghost use Rattle.gcl_core.specs.meaning.Bounds.{StatementIsWeighed, BlockIsWeighed, ArmsAreWeighed, StatementBelow, BlockBelow, ArmsBelow, ExpressionBelow, AreParts};
 ghost use Rattle.gcl_core.specs.meaning.Syntax.{Choose, Uniform};
 ghost use Rattle.gcl_core.specs.meaning.Views.{source_of, expression_of, statement_of, statements_of, list_of_arms};
 ghost use Rattle.gcl_core.specs.meaning.Value.{value_of};
-ghost use Rattle.table_flow.specs.Counts.{all_kept, none_stopped};
-ghost use Rattle.mass_fold.specs.declared.ended.Ended.{Ended};
-ghost use Rattle.mass_fold.specs.inner.Steps.{StepsTo};
 ghost use Rattle.bits_law.specs.Forever.{LoopForever, StatementEndless, BlockEndless, ArmsEndless};
 ghost use Rattle.bits_law.specs.Reading.{AreSilent, LoopReads, TurnCosts, StatementCosts, BlockCosts, ArmsCost};
 ghost use Rattle.exact_fold.specs.inner.Turning.{keys_in};
@@ -25,7 +21,9 @@ use crate::draws::{cost_of_arms, cost_of_choice, cost_of_uniform, weight_of};
 use crate::error::BitsError;
 use crate::finding::{
     Led, begun_anew, begun_with_more, chain, first_of, one, part_of, rest_of, silent_states,
+    start_of,
 };
+use crate::reached::{Reached, joined, silently, twin, with_more};
 use crate::stop::Stop;
 use exact_fold::finding::{Seen, copied};
 use exact_fold::turning::{above, all_stand, alone, leaving, passes, same};
@@ -37,57 +35,12 @@ use mass_fold::{
 use numbers::Frac;
 use std::alloc::Global;
 
-// The table behind a block, and the bits that were read on the way.
-#[derive(Drop)]
-struct Reached {
-    table: Table,
-    bits: Frac,
-}
-
 // The visits of a loop, the entries with which it is left, and the bits that its body reads from the visits.
 #[derive(Drop)]
 struct Turn {
     visits: Table,
     exits: Table,
     bits: Frac,
-}
-
-// Both tables in one, and the sum of both bits.
-fn joined(left: Reached, right: Reached) -> Result<Reached, BitsError>
-    requires { right.table.vars ≡ left.table.vars }
-    ensures table { IfOk result (λ r. (E : Ended) → StepsTo all_kept none_stopped
-        left.table.states.entries right.table.states.entries E r.table.states.entries E) }
-    ensures bits { IfOk result (λ r. sum_of left.bits right.bits ≡ Some r.bits) }
-    ensures vars { IfOk result (λ r. r.table.vars ≡ left.table.vars) }
-{
-    let mut table = left.table;
-    merge(&mut table, right.table)?;
-    let bits = left.bits.add(&right.bits).ok_or(BitsError::TooWide)?;
-    Ok(Reached { table, bits })
-}
-
-// Some bits more.
-fn with_more(reached: Reached, more: &Frac) -> Result<Reached, BitsError>
-    ensures table { IfOk result (λ r. r.table.states.entries ≡ reached.table.states.entries) }
-    ensures bits { IfOk result (λ r. sum_of more.now reached.bits ≡ Some r.bits) }
-    ensures vars { IfOk result (λ r. r.table.vars ≡ reached.table.vars) }
-{
-    let bits = more.add(&reached.bits).ok_or(BitsError::TooWide)?;
-    Ok(Reached {
-        table: reached.table,
-        bits,
-    })
-}
-
-// No bit was read.
-fn silently(table: Table) -> Reached
-    ensures table { result.table ≡ table }
-    ensures bits { result.bits ≡ (0, 1) }
-{
-    Reached {
-        table,
-        bits: Frac::of(0, 1),
-    }
 }
 
 // A fold in which draws take as many attempts as it takes.
@@ -370,18 +323,6 @@ fn turn_from(
     })
 }
 
-// The table once more, with the same entries.
-fn twin(alloc: Global, table: &Table) -> Result<Table, BitsError>
-    ensures same { IfOk result (λ t. t.states.entries ≡ table.now.states.entries) }
-    ensures vars { IfOk result (λ t. t.vars ≡ table.now.vars) }
-{
-    let copy = copied(alloc, table)?;
-    if !same(&copy, table) {
-        return Err(BitsError::NotFound);
-    }
-    Ok(copy)
-}
-
 // The loop reads for ever: turns from the table come to one from which its body does, or to all states of a class that is never
 // left, which weigh as what one turn leads back to itself.
 #[cycle(reading)]
@@ -455,17 +396,6 @@ fn check_round(
         return Err(BitsError::NotFound);
     }
     Ok(())
-}
-
-// The entries where the guard holds.
-fn start_of(alloc: Global, e: &Expr, table: &Table) -> Result<Table, BitsError>
-    requires { ExpressionBelow (expression_of e.now) table.now.vars }
-    ensures { IfOk result (λ t. t.vars ≡ table.now.vars) }
-{
-    let copy = copied(alloc, table)?;
-    let mut none = Ended::none();
-    let (first, _) = split(alloc, e, copy, &mut none)?;
-    Ok(first)
 }
 
 // One turn from a state; none where the body reads for ever.
