@@ -380,9 +380,16 @@ JUMPS = {
 }
 
 
-def snakes_and_ladders(square):
-    ends = [square + die if square + die <= 100 else square for die in range(1, 7)]
-    return counted(JUMPS.get(it, it) for it in ends)
+def snakes_and_ladders(square, last=100):
+    """A throw beyond the last square does not count, nor does a jump from it or beyond it."""
+    ends = [square + die if square + die <= last else square for die in range(1, 7)]
+    return counted(JUMPS[it] if it < last and JUMPS.get(it, last + 1) <= last else it for it in ends)
+
+
+def throws(last):
+    """In how many throws the last square is come to."""
+    turn = lambda square: {End(1) if it == last else it: weight for it, weight in snakes_and_ladders(square, last).items()}
+    return paid(0, turn, lambda _: 1)
 
 
 def ehrenfest(first):
@@ -466,4 +473,5 @@ COSTS = {
     "coupons_ten": cost_of_turns(paid(0, lambda n: {n: F(n, 10), End(1) if n == 9 else n + 1: F(10 - n, 10)}, lambda _: 1), 10),
     "herman_time": herman_time(5),
     "leader_time": cost_of_turns(1 / counted(map(leader, itertools.product(range(3), repeat=4)))[True], 3, draws=4),
+    "snakes_time": cost_of_turns(throws(62), 6),
 }

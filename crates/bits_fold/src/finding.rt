@@ -1,7 +1,7 @@
 // The states of a loop that read no more, those from which it reads for ever, and visits of the loop begun with its visits. Nothing is
 // promised of what is found: it is checked by one turn of the loop.
 
-ghost use Rattle.std.specs.Prelude.{◌≡◌, IfOk};
+ghost use Rattle.std.specs.Prelude.{◌≡◌, ◌≤◌, IfOk};
 ghost use Rattle.gcl_core.specs.meaning.Bounds.{ExpressionBelow};
 ghost use Rattle.gcl_core.specs.meaning.Views.{expression_of};
 
@@ -12,6 +12,9 @@ use gcl_core::Expr;
 use mass_fold::{Ended, State, Table, merge, split};
 use numbers::Frac;
 use std::alloc::Global;
+
+// How many parts of a whole weight are told apart where what leads to a state is summed.
+const PARTS: u128 = 1_024;
 
 /// Where one turn of a loop leads from a state, as far as the guard holds there again, and whether it reads some bits.
 #[derive(Drop)]
@@ -100,44 +103,75 @@ fn ceiling(f: &Frac) -> u128 {
     }
 }
 
-// The greatest weight, as a whole number.
-fn greatest(table: &Table) -> u128 {
-    let mut most = 0;
-    for (_, f) in &table.states {
-        most = most.max(ceiling(f));
+// Each weight of a table in 1,024ths, rounded up; one that does not fit is a whole.
+fn in_parts(alloc: Global, table: &Table) -> Result<Table, BitsError>
+    ensures { IfOk result (λ t. t.vars ≡ table.now.vars) }
+{
+    let mut parts = Table::new(alloc, table.vars);
+    for (s, f) in &table.states {
+        let many = match f.mul(&Frac::of(PARTS, 1)) {
+            Some(all) => ceiling(&all),
+            None => PARTS,
+        };
+        put(&mut parts, s.copy(alloc)?, Frac::of(many, 1))?;
     }
-    most
+    Ok(parts)
 }
 
-// The visits of the loop begun once in each state that may be left.
-fn once(alloc: Global, seen: &Seen, closed: &Table, vars: u32) -> Result<Table, BitsError> {
-    let mut each = Table::new(alloc, vars);
-    for s in &seen.states {
-        if !stands(closed, s) {
-            put(&mut each, s.copy(alloc)?, Frac::of(1, 1))?;
+// What one turn from each state that may be left leads to, in such parts.
+fn led_to(alloc: Global, turns: &Vec<Led>, closed: &Table, vars: u32) -> Result<Table, BitsError> {
+    let mut all = Table::new(alloc, vars);
+    for led in turns {
+        if !stands(closed, &led.state) && led.next.vars == vars {
+            merge(&mut all, in_parts(alloc, &led.next)?)?;
         }
     }
-    Ok(seen.found(alloc, &each)?.visits)
+    Ok(all)
 }
 
-/// Whole numbers that are visits of the loop begun with the visits, and with more: the visits of the loop begun in each state, as
-/// often as the most visits and what is rounded up take.
+// A weight of a state over a scale, rounded up.
+fn weight_in(table: &Table, s: &State, scale: u128) -> u128
+    requires { 1 ≤ scale }
+{
+    match table.states.get(s) {
+        Some(f) => ceiling(f).div_ceil(scale),
+        None => 0,
+    }
+}
+
+// In each state that may be left as many visits as were found, and as what is rounded up leads there, as whole numbers.
+fn enough(
+    alloc: Global,
+    seen: &Seen,
+    closed: &Table,
+    visits: &Table,
+    led: &Table,
+) -> Result<Table, BitsError> {
+    let mut each = Table::new(alloc, visits.vars);
+    for s in &seen.states {
+        if !stands(closed, s) {
+            let many = weight_in(visits, s, 1).saturating_add(weight_in(led, s, PARTS));
+            put(&mut each, s.copy(alloc)?, Frac::of(many, 1))?;
+        }
+    }
+    Ok(each)
+}
+
+/// Whole numbers that are visits of the loop begun with the visits, and with more.
 pub fn begun_anew(
     alloc: Global,
     seen: &Seen,
+    turns: &Vec<Led>,
     closed: &Table,
     visits: &Table,
 ) -> Result<Table, BitsError>
     ensures { IfOk result (λ t. t.vars ≡ visits.now.vars) }
 {
-    let count = greatest(visits)
-        .saturating_add(seen.states.len() as u128)
-        .saturating_add(1);
-    let factor = Frac::of(count, 1);
+    let led = led_to(alloc, turns, closed, visits.vars)?;
+    let each = enough(alloc, seen, closed, visits, &led)?;
     let mut again = Table::new(alloc, visits.vars);
-    for (s, f) in &once(alloc, seen, closed, visits.vars)?.states {
-        let many = f.mul(&factor).ok_or(BitsError::TooWide)?;
-        put(&mut again, s.copy(alloc)?, Frac::of(ceiling(&many), 1))?;
+    for (s, f) in &seen.found(alloc, &each)?.visits.states {
+        put(&mut again, s.copy(alloc)?, Frac::of(ceiling(f), 1))?;
     }
     Ok(again)
 }

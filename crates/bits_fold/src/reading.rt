@@ -241,7 +241,7 @@ fn read_loop(
         return Err(Stop::ReadsForever);
     }
     check_silent(alloc, what, body, e, &silent)?;
-    let again = begun_anew(alloc, &seen, &silent, &found.visits)?;
+    let again = begun_anew(alloc, &seen, &turns, &silent, &found.visits)?;
     let turned = turn_from(alloc, what, body, e, &silent, found.visits, table)?;
     check_visits(alloc, what, body, e, &silent, again, turned.visits)?;
     Ok(Reached {

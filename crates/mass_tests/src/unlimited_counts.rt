@@ -23,6 +23,10 @@ const NESTED: &str = "while i < 3 { j := 0; while j < 3 { j := j + 1; } i := i +
 const THREE_HEADS: &str =
     "quarters ~ uniform(3); quarters := quarters + 1; while tosses < 3 { tosses := tosses + 1; heads ~ uniform(4); observe heads < quarters; } return quarters;";
 
+// Throws of a die until the last of 62 squares: linear equations, solved in fractions.
+const SNAKES_AND_LADDERS: &str =
+    "while square < 62 { die ~ uniform(6); if square + die + 1 <= 62 { square := square + die + 1; } die := 0; if square = 1 { square := 38; } if square = 4 { square := 14; } if square = 9 { square := 31; } if square = 16 { square := 6; } if square = 21 { square := 42; } if square = 36 { square := 44; } if square = 47 { square := 26; } if square = 49 { square := 11; } if square = 56 { square := 53; } } return square;";
+
 // Nothing is drawn in a loop that goes on for ever with 1/2: a round in which it does fails no more, so 2 rounds are begun.
 const HALF_FOREVER: &str = "x ~ uniform(2); while x = 1 { skip; } observe false; return x;";
 
@@ -38,7 +42,7 @@ struct Case {
     turns: Pair,
 }
 
-const CASES: [Case; 5] = [
+const CASES: [Case; 6] = [
     Case {
         text: EVEN_DIE,
         draws: (2, 1),
@@ -63,6 +67,17 @@ const CASES: [Case; 5] = [
         text: THREE_HEADS,
         draws: (134, 9),
         turns: (86, 9),
+    },
+    Case {
+        text: SNAKES_AND_LADDERS,
+        draws: (
+            1024124749239263525911039673187893747,
+            39484396786960194023358762331511664,
+        ),
+        turns: (
+            1024124749239263525911039673187893747,
+            39484396786960194023358762331511664,
+        ),
     },
 ];
 
