@@ -13,7 +13,6 @@ use Rattle.gcl_core.specs.weighing.Fractions.{Fraction, zero_share, one, plus, t
 use Rattle.gcl_core.specs.weighing.Mass.{is_failed}
 use Rattle.gcl_core.specs.weighing.WeightedEnds.{sure, weighted_ends}
 use Rattle.gcl_core.proofs.Accepted.{checked_weights}
-use Rattle.cost_law.specs.ExpectedBits.{expected_bits}
 use Rattle.mass_fold.specs.inner.Amounts.{Entries}
 use Rattle.weighing_law.proofs.Fractions.{at_most_then}
 use Rattle.unlimited_law.specs.Settling.{Outflow}
@@ -28,17 +27,14 @@ use Rattle.unlimited_law.proofs.OneLimit.{parts_vanish}
 use Rattle.exact_fold.specs.Exact.{FailsWith}
 use Rattle.exact_fold.specs.inner.Settled.{as_table}
 use Rattle.bits_law.specs.Price.{Price}
-use Rattle.bits_law.specs.RunPrice.{expected_price}
 use Rattle.bits_law.specs.InTheLimit.{ComesTo, HasNoBound, price_in_the_limit}
 use Rattle.bits_law.specs.Forever.{BlockEndless}
 use Rattle.bits_law.specs.Reading.{BlockCosts}
 use Rattle.bits_fold.specs.declared.counts.Count.{Count}
-use Rattle.bits_fold.specs.declared.counts.Count.TheVariants as count
+use Rattle.bits_fold.specs.declared.counts.Count.TheVariants.{Expected, Unbounded}
 use Rattle.bits_law.proofs.BlockTends.{block_some}
-use Rattle.bits_fold.specs.declared.expected.Bits.{Bits}
-use Rattle.bits_fold.specs.declared.expected.Bits.TheVariants as bits
 use Rattle.bits_fold.specs.declared.stop.Stop.{Stop}
-use Rattle.bits_fold.specs.Expected.{IsAnswer, IsCount}
+use Rattle.bits_fold.specs.Expected.{IsCount}
 use Rattle.bits_fold.specs.inner.Forever.{StopsFrom, RoundStops}
 use Rattle.bits_fold.specs.inner.Reading.{ReadsFrom, CostsInRound}
 use Rattle.bits_fold.proofs.Sums.{product_is}
@@ -68,15 +64,19 @@ comes_as under number other e some h =
 
 -- ---- and of what is the same under all limits
 module _ (under other : Limits → Fraction) (same : (l : Limits) → other l ≡ under l) where
-  pub comes_alike : (number : Fraction) → ComesTo other number → ComesTo under number
+  comes_alike : (number : Fraction) → ComesTo other number → ComesTo under number
   comes_alike number h = record {
     within = λ l. subst (λ z. AtMost z number) (same l) (h.within l);
     near = λ k some. let x = h.near k some in (x.0, λ l g. subst (λ z. AtMost number (plus z (1, k))) (same l) (x.1 l g));
     fraction = h.fraction;
   }
 
-  pub grows_alike : HasNoBound other → HasNoBound under
+  grows_alike : HasNoBound other → HasNoBound under
   grows_alike h = λ k. let x = h k in (x.0, λ l g. subst (λ z. AtMost (k, 1) z) (same l) (x.1 l g))
+
+  pub counts_alike : (a : Count) → IsCount other a → IsCount under a
+  counts_alike (Expected f) h = (comes_alike f h.0, h.1)
+  counts_alike Unbounded h = grows_alike h
 
 -- ---- what fails
 module _ (p : SourceProgram) (ok : IsChecked p) (f : Outflow) (s : ProgramSettles p f) where
@@ -153,13 +153,3 @@ module _ (under : Limits → Fraction) (p : SourceProgram) (ok : IsChecked p) (c
 
 pub round_some : (price : Price) (p : SourceProgram) (cost : Fraction) → CostsInRound price p cost → 0 < cost.1
 round_some price p cost r = block_some price p.body (sure (zeros (length p.names))) r.0 cost r.1
-
--- ---- a program of the same expected costs
-pub same_count : (price : Price) (p q : SourceProgram) → ((l : Limits) → expected_price price q l ≡ expected_price price p l) → (a : Count) → IsCount price q a → IsCount price p a
-same_count price p q e (count.Expected f) h = (comes_alike (expected_price price p) (expected_price price q) e f h.0, h.1)
-same_count price p q e count.Unbounded h = grows_alike (expected_price price p) (expected_price price q) e h
-
--- ---- a program of the same expected bits
-pub same_answer : (p q : SourceProgram) → ((l : Limits) → expected_bits q l ≡ expected_bits p l) → (a : Bits) → IsAnswer q a → IsAnswer p a
-same_answer p q e (bits.Expected f) h = (comes_alike (expected_bits p) (expected_bits q) e f h.0, h.1)
-same_answer p q e bits.Unbounded h = grows_alike (expected_bits p) (expected_bits q) e h

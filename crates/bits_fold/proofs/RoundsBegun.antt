@@ -11,10 +11,7 @@ use Rattle.unlimited_law.specs.SettledMasses.{ProgramSettles, settled_failed}
 use Rattle.exact_fold.specs.Exact.{FailsWith}
 use Rattle.bits_law.specs.InTheLimit.{ComesTo, rounds_in_the_limit}
 use Rattle.bits_law.specs.Rounds.{expected_rounds}
-use Rattle.bits_fold.specs.declared.rounds.Rounds.{Rounds}
-use Rattle.bits_fold.specs.declared.rounds.Rounds.TheVariants as rounds
-use Rattle.bits_fold.specs.Expected.{IsRoundsAnswer}
-use Rattle.bits_fold.proofs.Programs.{comes_as, comes_alike, grows_alike, some_pass, over_passes}
+use Rattle.bits_fold.proofs.Programs.{comes_as, some_pass, over_passes}
 
 -- the law, as its call says it
 abbrev pub Tends : Type 0
@@ -28,9 +25,5 @@ module _ (p : SourceProgram) (ok : IsChecked p) (failed : Fraction) (some : 1 �
       comes_as (expected_rounds p) (rounds_in_the_limit p f.settled) number (over_passes one number number failed (settled_failed p f.settled) (omega arith) (omega arith) less below f.fails e same) n (tends p f.settled ok f.settles below)
 
 -- ---- a program of the same failed masses
-equal : (p q : SourceProgram) → SameMeaning p q → (l : Limits) → expected_rounds q l ≡ expected_rounds p l
-equal p q m l = ap (λ f. times one (power_sum f l.rounds)) (m.failed l.turns (Some l.attempts))
-
-pub same_rounds : (p q : SourceProgram) → SameMeaning p q → (a : Rounds) → IsRoundsAnswer q a → IsRoundsAnswer p a
-same_rounds p q m (rounds.Expected f) h = (comes_alike (expected_rounds p) (expected_rounds q) (equal p q m) f h.0, h.1)
-same_rounds p q m rounds.Unbounded h = grows_alike (expected_rounds p) (expected_rounds q) (equal p q m) h
+pub same_rounds : (p q : SourceProgram) → SameMeaning p q → (l : Limits) → expected_rounds q l ≡ expected_rounds p l
+same_rounds p q m l = ap (λ f. times one (power_sum f l.rounds)) (m.failed l.turns (Some l.attempts))

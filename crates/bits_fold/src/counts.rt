@@ -3,6 +3,7 @@
 ghost use Rattle.std.specs.Prelude.{IfOk, IfSome, IfNone};
 ghost use Rattle.gcl_core.specs.meaning.Views.{source_of};
 ghost use Rattle.exact_fold.specs.Exact.{FailsWith};
+ghost use Rattle.bits_law.specs.RunPrice.{expected_price};
 ghost use Rattle.bits_fold.specs.Counted.{price_of};
 ghost use Rattle.bits_fold.specs.Expected.{IsCount};
 ghost use Rattle.bits_fold.specs.inner.AsWritten.{RoundsBlame};
@@ -32,7 +33,7 @@ pub enum Count {
 pub fn count_over_rounds(what: Counted, p: &Checked, cost: &Frac, failed: &Frac) -> Option<Count>
     requires costs { CostsInRound (price_of what) (source_of p.now) cost.now }
     requires fails { FailsWith (source_of p.now) failed.now }
-    ensures answer { IfSome result (IsCount (price_of what) (source_of p.now)) }
+    ensures answer { IfSome result (IsCount (expected_price (price_of what) (source_of p.now))) }
     ensures cause { IfNone result (RoundsBlame cost.now failed.now) }
 {
     p.is_kept();
@@ -56,7 +57,7 @@ pub fn count_over_rounds(what: Counted, p: &Checked, cost: &Frac, failed: &Frac)
 
 // What is counted of the program itself, before anything is forgotten.
 fn count_as_written(alloc: Global, what: Counted, p: &Checked) -> Result<Count, BitsError>
-    ensures { IfOk result (IsCount (price_of what) (source_of p.now)) }
+    ensures { IfOk result (IsCount (expected_price (price_of what) (source_of p.now))) }
 {
     p.is_kept();
     costs_tend_to_their_limit();
@@ -82,7 +83,7 @@ fn count_as_written(alloc: Global, what: Counted, p: &Checked) -> Result<Count, 
 /// It may be refused where a fraction does not fit, or there are too many states, or what was found of a loop is refused by its
 /// check: no clause says which programs have an answer.
 pub fn count_in_the_limit(alloc: Global, what: Counted, p: &Checked) -> Result<Count, BitsError>
-    ensures { IfOk result (IsCount (price_of what) (source_of p.now)) }
+    ensures answer { IfOk result (IsCount (expected_price (price_of what) (source_of p.now))) }
 {
     forgetting_changes_no_meaning();
     let q = forgetful(alloc, p)?;

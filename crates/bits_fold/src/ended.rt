@@ -10,29 +10,31 @@ ghost use Rattle.table_flow.specs.Tables.{tables_of};
 ghost use Rattle.mass_fold.specs.Refused.{RoundRefused};
 ghost use Rattle.unlimited_law.specs.Ended.{TurnsSuffice};
 ghost use Rattle.exact_fold.specs.declared.program.TheConstants.{TURNS_TRIED};
-ghost use Rattle.bits_fold.specs.Expected.{IsAnswer};
+ghost use Rattle.cost_law.specs.ExpectedBits.{expected_bits};
+ghost use Rattle.bits_fold.specs.Expected.{IsCount};
 ghost use Rattle.bits_fold.specs.Refused.{ReadsBeyond};
 ghost use Rattle.bits_fold.specs.inner.AsWritten.{RefusedAsWritten, RefusedAt};
 
+use crate::counted::Counted;
+use crate::counts::{Count, count_over_rounds};
 use crate::error::BitsError;
-use crate::expected::{Bits, over_rounds};
 use exact_fold::{TURNS_TRIED, weight_of};
 use gcl_core::{Checked, Limit, Outcome};
 use mass_fold::{MassError, round, round_bits};
 use std::alloc::Global;
 
 /// The bits of a program in which every run has ended by so many turns: what its body reads there.
-pub fn bits_at(alloc: Global, p: &Checked, turns: u64) -> Result<Bits, BitsError>
+pub fn bits_at(alloc: Global, p: &Checked, turns: u64) -> Result<Count, BitsError>
     requires turns { turns ≤ MOST_LIMIT }
     requires ended { TurnsSuffice (tables_of (source_of p.now) turns None).ended }
-    ensures answer { IfOk result (IsAnswer (source_of p.now)) }
+    ensures answer { IfOk result (IsCount (expected_bits (source_of p.now))) }
     ensures refused { IfErr result (RefusedAt (source_of p.now) turns) }
 {
     p.is_kept();
     let (read, failed) = round_bits(alloc, p, turns, None)?;
     match read {
         None => Err(BitsError::TooWide),
-        Some(read) => match over_rounds(p, &read, &failed) {
+        Some(read) => match count_over_rounds(Counted::Bits, p, &read, &failed) {
             None => Err(BitsError::TooWide),
             Some(bits) => Ok(bits),
         },
@@ -70,9 +72,9 @@ pub fn all_end(alloc: Global, p: &Checked, refusal: BitsError) -> Result<(), Bit
 }
 
 /// A program whose loops are not read: its bits at a limit of turns, where every run has ended by then.
-pub fn tried(alloc: Global, p: &Checked, refusal: BitsError) -> Result<Bits, BitsError>
+pub fn tried(alloc: Global, p: &Checked, refusal: BitsError) -> Result<Count, BitsError>
     requires { ReadsBeyond (source_of p.now) → RefusedAsWritten (source_of p.now) refusal }
-    ensures answer { IfOk result (IsAnswer (source_of p.now)) }
+    ensures answer { IfOk result (IsCount (expected_bits (source_of p.now))) }
     ensures refused { IfErr result (RefusedAsWritten (source_of p.now)) }
 {
     all_end(alloc, p, refusal)?;

@@ -1,12 +1,11 @@
 // The expected bits of a program where nothing is limited.
 
 ghost use Rattle.std.specs.Prelude.{◌≡◌, true, IfOk, IfErr, IfSome, IfNone};
-ghost use Rattle.gcl_core.specs.meaning.Syntax.{SourceProgram};
 ghost use Rattle.gcl_core.specs.meaning.Views.{source_of};
-ghost use Rattle.bits_law.specs.Price.{bits_price};
+ghost use Rattle.cost_law.specs.ExpectedBits.{expected_bits};
 ghost use Rattle.exact_fold.specs.Exact.{FailsWith};
 ghost use Rattle.exact_fold.specs.Refused.{HasNoLoop, HasLoops};
-ghost use Rattle.bits_fold.specs.Expected.{IsAnswer, IsCount};
+ghost use Rattle.bits_fold.specs.Expected.{IsCount};
 ghost use Rattle.bits_fold.specs.Refused.{BitsRefused};
 ghost use Rattle.bits_fold.specs.inner.AsWritten.{RefusedAsWritten, RoundsBlame};
 ghost use Rattle.bits_fold.specs.inner.Reading.{ReadsInRound};
@@ -24,42 +23,10 @@ use gcl_core::Checked;
 use numbers::Frac;
 use std::alloc::Global;
 
-/// What a run reads on average where nothing is limited.
-#[derive(Clone, Copy, PartialEq, Eq, Debug)]
-pub enum Bits {
-    /// So many bits.
-    Expected(Frac),
-    /// More than any number.
-    Unbounded,
-}
-
-// A count of bits.
-fn of_count(count: Count) -> Bits
-    ensures { (p : SourceProgram) → IsCount bits_price p count → IsAnswer p result }
-{
-    match count {
-        Count::Expected(bits) => Bits::Expected(bits),
-        Count::Unbounded => Bits::Unbounded,
-    }
-}
-
-/// What is expected of rounds that read so many bits each and fail with this weight; none where it does not fit.
-pub fn over_rounds(p: &Checked, read: &Frac, failed: &Frac) -> Option<Bits>
-    requires reads { ReadsInRound (source_of p.now) read.now }
-    requires fails { FailsWith (source_of p.now) failed.now }
-    ensures answer { IfSome result (IsAnswer (source_of p.now)) }
-    ensures cause { IfNone result (RoundsBlame read.now failed.now) }
-{
-    match count_over_rounds(Counted::Bits, p, read, failed) {
-        None => None,
-        Some(count) => Some(of_count(count)),
-    }
-}
-
 // A program with a loop: what its body reads is looked for, but where the turns of its loops have too many parts or states, which is
 // seen sooner where masses are settled.
-fn bits_of_loops(alloc: Global, p: &Checked) -> Result<Bits, BitsError>
-    ensures { IfOk result (IsAnswer (source_of p.now)) }
+fn bits_of_loops(alloc: Global, p: &Checked) -> Result<Count, BitsError>
+    ensures { IfOk result (IsCount (expected_bits (source_of p.now))) }
 {
     p.is_kept();
     bits_that_are_read_for_ever_have_no_bound();
@@ -68,21 +35,21 @@ fn bits_of_loops(alloc: Global, p: &Checked) -> Result<Bits, BitsError>
         failed => failed,
     };
     let read = match read_program(alloc, Counted::Bits, p) {
-        Err(Stop::ReadsForever) => return Ok(Bits::Unbounded),
+        Err(Stop::ReadsForever) => return Ok(Count::Unbounded),
         Err(Stop::Refused(error)) => return Err(error),
         Ok(read) => read,
     };
     let failed = failed?;
-    match over_rounds(p, &read, &failed) {
+    match count_over_rounds(Counted::Bits, p, &read, &failed) {
         None => Err(BitsError::TooWide),
         Some(bits) => Ok(bits),
     }
 }
 
 // A program with a loop.
-fn bits_in_loops(alloc: Global, p: &Checked) -> Result<Bits, BitsError>
+fn bits_in_loops(alloc: Global, p: &Checked) -> Result<Count, BitsError>
     requires { HasLoops (source_of p.now) }
-    ensures answer { IfOk result (IsAnswer (source_of p.now)) }
+    ensures answer { IfOk result (IsCount (expected_bits (source_of p.now))) }
     ensures refused { IfErr result (RefusedAsWritten (source_of p.now)) }
 {
     match bits_of_loops(alloc, p) {
@@ -95,17 +62,17 @@ fn bits_in_loops(alloc: Global, p: &Checked) -> Result<Bits, BitsError>
 }
 
 // A program without a loop: what its body reads at one turn.
-fn bits_at_once(alloc: Global, p: &Checked) -> Result<Bits, BitsError>
+fn bits_at_once(alloc: Global, p: &Checked) -> Result<Count, BitsError>
     requires { HasNoLoop (source_of p.now) }
-    ensures answer { IfOk result (IsAnswer (source_of p.now)) }
+    ensures answer { IfOk result (IsCount (expected_bits (source_of p.now))) }
     ensures refused { IfErr result (RefusedAsWritten (source_of p.now)) }
 {
     bits_at(alloc, p, 1)
 }
 
 // The bits that a run of the program itself reads, before anything is forgotten.
-fn bits_as_written(alloc: Global, p: &Checked) -> Result<Bits, BitsError>
-    ensures answer { IfOk result (IsAnswer (source_of p.now)) }
+fn bits_as_written(alloc: Global, p: &Checked) -> Result<Count, BitsError>
+    ensures answer { IfOk result (IsCount (expected_bits (source_of p.now))) }
     ensures refused { IfErr result (RefusedAsWritten (source_of p.now)) }
 {
     if block_loops(&p.program().body) {
@@ -130,8 +97,8 @@ fn bits_as_written(alloc: Global, p: &Checked) -> Result<Bits, BitsError>
 /// if every run has ended by then. So a program with a loop is refused only where at so many turns bits are too wide, or of too many
 /// states, or some run goes on. No clause says that loops which go on longer have an answer: what is tried is a table of programs, in
 /// the tests.
-pub fn cost_in_the_limit(alloc: Global, p: &Checked) -> Result<Bits, BitsError>
-    ensures answer { IfOk result (IsAnswer (source_of p.now)) }
+pub fn cost_in_the_limit(alloc: Global, p: &Checked) -> Result<Count, BitsError>
+    ensures answer { IfOk result (IsCount (expected_bits (source_of p.now))) }
     ensures refused { IfErr result (BitsRefused (source_of p.now)) }
 {
     forgetting_costs_nothing();

@@ -27,5 +27,5 @@ mod stop;
 pub use counted::Counted;
 pub use counts::{Count, count_in_the_limit};
 pub use error::BitsError;
-pub use expected::{Bits, cost_in_the_limit};
-pub use rounds::{Rounds, rounds_in_the_limit};
+pub use expected::cost_in_the_limit;
+pub use rounds::rounds_in_the_limit;

@@ -7,10 +7,12 @@ ghost use Rattle.exact_fold.specs.Exact.{FailsWith};
 ghost use Rattle.exact_fold.specs.Refused.{HasNoLoop, HasLoops};
 ghost use Rattle.table_flow.specs.Tables.{tables_of};
 ghost use Rattle.unlimited_law.specs.Ended.{TurnsSuffice};
-ghost use Rattle.bits_fold.specs.Expected.{IsRoundsAnswer};
+ghost use Rattle.bits_law.specs.Rounds.{expected_rounds};
+ghost use Rattle.bits_fold.specs.Expected.{IsCount};
 ghost use Rattle.bits_fold.specs.Refused.{BitsRefused, ReadsBeyond};
 ghost use Rattle.bits_fold.specs.inner.AsWritten.{RefusedAsWritten, RefusedAt};
 
+use crate::counts::Count;
 use crate::ended::all_end;
 use crate::error::BitsError;
 use bits_law::rounds_tend_to_their_limit;
@@ -20,15 +22,6 @@ use gcl_core::Checked;
 use mass_fold::round_bits;
 use numbers::Frac;
 use std::alloc::Global;
-
-/// How many rounds a run begins on average where nothing is limited.
-#[derive(Clone, Copy, PartialEq, Eq, Debug)]
-pub enum Rounds {
-    /// So many rounds.
-    Expected(Frac),
-    /// More than any number.
-    Unbounded,
-}
 
 // The weight with which a round fails, of a program in which every run has ended by so many turns.
 fn failed_at(alloc: Global, p: &Checked, turns: u64) -> Result<Frac, BitsError>
@@ -95,22 +88,22 @@ pub fn failed_as_written(alloc: Global, p: &Checked) -> Result<Frac, BitsError>
 }
 
 // One over what does not fail.
-fn over_passes(p: &Checked, failed: &Frac) -> Rounds
+fn over_passes(p: &Checked, failed: &Frac) -> Count
     requires { FailsWith (source_of p.now) failed.now }
-    ensures { IsRoundsAnswer (source_of p.now) result }
+    ensures { IsCount (expected_rounds (source_of p.now)) result }
 {
     p.is_kept();
     rounds_tend_to_their_limit();
     failed.is_lowest();
     if failed.num() >= failed.den() {
-        return Rounds::Unbounded;
+        return Count::Unbounded;
     }
-    Rounds::Expected(Frac::of(failed.den(), failed.den() - failed.num()))
+    Count::Expected(Frac::of(failed.den(), failed.den() - failed.num()))
 }
 
 // The rounds of the program itself.
-fn rounds_as_written(alloc: Global, p: &Checked) -> Result<Rounds, BitsError>
-    ensures answer { IfOk result (IsRoundsAnswer (source_of p.now)) }
+fn rounds_as_written(alloc: Global, p: &Checked) -> Result<Count, BitsError>
+    ensures answer { IfOk result (IsCount (expected_rounds (source_of p.now))) }
     ensures refused { IfErr result (RefusedAsWritten (source_of p.now)) }
 {
     let failed = failed_as_written(alloc, p)?;
@@ -125,8 +118,8 @@ fn rounds_as_written(alloc: Global, p: &Checked) -> Result<Rounds, BitsError>
 /// whose rounds fail as often.
 ///
 /// It is refused only for a cause for which [`crate::cost_in_the_limit`] is.
-pub fn rounds_in_the_limit(alloc: Global, p: &Checked) -> Result<Rounds, BitsError>
-    ensures answer { IfOk result (IsRoundsAnswer (source_of p.now)) }
+pub fn rounds_in_the_limit(alloc: Global, p: &Checked) -> Result<Count, BitsError>
+    ensures answer { IfOk result (IsCount (expected_rounds (source_of p.now))) }
     ensures refused { IfErr result (BitsRefused (source_of p.now)) }
 {
     forgetting_changes_no_meaning();

@@ -19,7 +19,7 @@ use crate::rows::{
     bit_line, bound_lines, exact_lines, mass_rows_text, round_line, unbounded_bit_line,
     unbounded_round_line,
 };
-use bits_fold::{Bits, Rounds, cost_in_the_limit, rounds_in_the_limit};
+use bits_fold::{Count, cost_in_the_limit, rounds_in_the_limit};
 use cost_fold::cost;
 use enclose_fold::enclose;
 use exact_fold::exact;
@@ -115,8 +115,8 @@ pub fn expected_text(alloc: Global, program: &Checked, decimals: Decimals) -> Re
     ensures refused { IfErr result (IsReason (WhyNotExpected (source_of program.now))) }
 {
     match cost_in_the_limit(alloc, program)? {
-        Bits::Expected(bits) => Ok(bit_line(alloc, &bits, decimals)?),
-        Bits::Unbounded => Ok(unbounded_bit_line(alloc)?),
+        Count::Expected(bits) => Ok(bit_line(alloc, &bits, decimals)?),
+        Count::Unbounded => Ok(unbounded_bit_line(alloc)?),
     }
 }
 
@@ -126,8 +126,8 @@ pub fn rounds_text(alloc: Global, program: &Checked, decimals: Decimals) -> Resu
     ensures refused { IfErr result (IsReason (WhyNotExpected (source_of program.now))) }
 {
     match rounds_in_the_limit(alloc, program)? {
-        Rounds::Expected(rounds) => Ok(round_line(alloc, &rounds, decimals)?),
-        Rounds::Unbounded => Ok(unbounded_round_line(alloc)?),
+        Count::Expected(rounds) => Ok(round_line(alloc, &rounds, decimals)?),
+        Count::Unbounded => Ok(unbounded_round_line(alloc)?),
     }
 }
 

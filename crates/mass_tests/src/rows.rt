@@ -1,5 +1,6 @@
-// Fractions and rows of masses, beside those that are wanted.
+// Fractions, counts and rows of masses, beside those that are wanted.
 
+use bits_fold::{BitsError, Count};
 use gcl_core::Outcome;
 use mass_fold::FracRows;
 use numbers::Frac;
@@ -11,6 +12,21 @@ pub(crate) type Rows = &'static [(Outcome, Pair)];
 
 pub(crate) fn is(f: &Frac, pair: Pair) -> bool {
     f.num() == pair.0 && f.den() == pair.1
+}
+
+// Whether so many are expected.
+pub(crate) fn comes_to(count: &Result<Count, BitsError>, want: Pair) -> bool {
+    match count {
+        Ok(Count::Expected(count)) => is(count, want),
+        _ => false,
+    }
+}
+
+pub(crate) fn has_no_bound(count: &Result<Count, BitsError>) -> bool {
+    match count {
+        Ok(Count::Unbounded) => true,
+        _ => false,
+    }
 }
 
 pub(crate) fn has_rows(rows: &FracRows, want: Rows) -> bool {

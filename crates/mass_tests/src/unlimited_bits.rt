@@ -1,8 +1,8 @@
 // The expected bits of programs where nothing is limited.
 
 use crate::programs::program;
-use crate::rows::{Pair, is};
-use bits_fold::{Bits, BitsError, cost_in_the_limit};
+use crate::rows::{Pair, comes_to, has_no_bound};
+use bits_fold::{BitsError, Count, cost_in_the_limit};
 use std::alloc::Global;
 use std::test::Fail;
 
@@ -218,21 +218,21 @@ const ONE_STATE_TOO_MANY: &str = "x ~ uniform(65537); return x % 2;";
 
 const AS_MANY_STATES_AS_MAY_BE: &str = "x ~ uniform(65536); return x % 2;";
 
-fn bits_of(alloc: Global, text: &str) -> Option<Result<Bits, BitsError>> {
+fn bits_of(alloc: Global, text: &str) -> Option<Result<Count, BitsError>> {
     Some(cost_in_the_limit(alloc, &program(alloc, text)?))
 }
 
 fn has_bits(alloc: Global, text: &str, want: Pair) -> bool {
     match &bits_of(alloc, text) {
-        Some(Ok(Bits::Expected(bits))) => is(bits, want),
-        _ => false,
+        Some(count) => comes_to(count, want),
+        None => false,
     }
 }
 
-fn has_no_bound(alloc: Global, text: &str) -> bool {
-    match bits_of(alloc, text) {
-        Some(Ok(Bits::Unbounded)) => true,
-        _ => false,
+fn is_unbounded(alloc: Global, text: &str) -> bool {
+    match &bits_of(alloc, text) {
+        Some(count) => has_no_bound(count),
+        None => false,
     }
 }
 
@@ -264,12 +264,12 @@ fn expected_bits_of_programs_of_the_gallery(rt: HostRuntime) -> Result<(), Fail>
 #[test]
 fn rounds_and_loops_without_end(rt: HostRuntime) -> Result<(), Fail> {
     assert!(rt; has_bits(rt.alloc(), NOTHING, (0, 1)));
-    assert!(rt; has_no_bound(rt.alloc(), NEVER));
-    assert!(rt; has_no_bound(rt.alloc(), FOREVER));
-    assert!(rt; has_no_bound(rt.alloc(), LATER));
-    assert!(rt; has_no_bound(rt.alloc(), INSIDE));
-    assert!(rt; has_no_bound(rt.alloc(), TO_AND_FRO));
-    assert!(rt; has_no_bound(rt.alloc(), PASSED_BY));
+    assert!(rt; is_unbounded(rt.alloc(), NEVER));
+    assert!(rt; is_unbounded(rt.alloc(), FOREVER));
+    assert!(rt; is_unbounded(rt.alloc(), LATER));
+    assert!(rt; is_unbounded(rt.alloc(), INSIDE));
+    assert!(rt; is_unbounded(rt.alloc(), TO_AND_FRO));
+    assert!(rt; is_unbounded(rt.alloc(), PASSED_BY));
     assert!(rt; has_bits(rt.alloc(), SILENT, (1, 1)));
     assert!(rt; has_bits(rt.alloc(), FALLS_SILENT, (2, 1)));
     Ok(())

@@ -1,7 +1,7 @@
 // How many draws and turns of loops programs make on average where nothing is limited, worked by hand.
 
 use crate::programs::program;
-use crate::rows::{Pair, is};
+use crate::rows::{Pair, comes_to, has_no_bound};
 use bits_fold::{BitsError, Count, Counted, count_in_the_limit};
 use std::alloc::Global;
 use std::test::Fail;
@@ -87,15 +87,15 @@ fn count_of(alloc: Global, what: Counted, text: &str) -> Option<Result<Count, Bi
 
 fn counts(alloc: Global, what: Counted, text: &str, want: Pair) -> bool {
     match &count_of(alloc, what, text) {
-        Some(Ok(Count::Expected(count))) => is(count, want),
-        _ => false,
+        Some(count) => comes_to(count, want),
+        None => false,
     }
 }
 
-fn has_no_bound(alloc: Global, what: Counted, text: &str) -> bool {
-    match count_of(alloc, what, text) {
-        Some(Ok(Count::Unbounded)) => true,
-        _ => false,
+fn is_unbounded(alloc: Global, what: Counted, text: &str) -> bool {
+    match &count_of(alloc, what, text) {
+        Some(count) => has_no_bound(count),
+        None => false,
     }
 }
 
@@ -110,10 +110,10 @@ fn expected_draws_and_turns(rt: HostRuntime) -> Result<(), Fail> {
 
 #[test]
 fn turns_without_bound(rt: HostRuntime) -> Result<(), Fail> {
-    assert!(rt; has_no_bound(rt.alloc(), Counted::Turns, HALF_FOREVER));
-    assert!(rt; has_no_bound(rt.alloc(), Counted::Turns, FOREVER));
-    assert!(rt; has_no_bound(rt.alloc(), Counted::Draws, FOREVER));
-    assert!(rt; has_no_bound(rt.alloc(), Counted::Draws, NEVER));
+    assert!(rt; is_unbounded(rt.alloc(), Counted::Turns, HALF_FOREVER));
+    assert!(rt; is_unbounded(rt.alloc(), Counted::Turns, FOREVER));
+    assert!(rt; is_unbounded(rt.alloc(), Counted::Draws, FOREVER));
+    assert!(rt; is_unbounded(rt.alloc(), Counted::Draws, NEVER));
     assert!(rt; counts(rt.alloc(), Counted::Turns, NEVER, (0, 1)));
     assert!(rt; counts(rt.alloc(), Counted::Draws, HALF_FOREVER, (2, 1)));
     Ok(())

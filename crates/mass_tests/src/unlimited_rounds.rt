@@ -1,8 +1,8 @@
 // How many rounds programs begin on average where nothing is limited, worked by hand.
 
 use crate::programs::program;
-use crate::rows::{Pair, is};
-use bits_fold::{BitsError, Rounds, rounds_in_the_limit};
+use crate::rows::{Pair, comes_to, has_no_bound};
+use bits_fold::{BitsError, Count, rounds_in_the_limit};
 use std::alloc::Global;
 use std::test::Fail;
 
@@ -76,21 +76,21 @@ const CASES: [Case; 8] = [
     },
 ];
 
-fn rounds_of(alloc: Global, text: &str) -> Option<Result<Rounds, BitsError>> {
+fn rounds_of(alloc: Global, text: &str) -> Option<Result<Count, BitsError>> {
     Some(rounds_in_the_limit(alloc, &program(alloc, text)?))
 }
 
 fn has_rounds(alloc: Global, text: &str, want: Pair) -> bool {
     match &rounds_of(alloc, text) {
-        Some(Ok(Rounds::Expected(rounds))) => is(rounds, want),
-        _ => false,
+        Some(count) => comes_to(count, want),
+        None => false,
     }
 }
 
-fn has_no_bound(alloc: Global, text: &str) -> bool {
-    match rounds_of(alloc, text) {
-        Some(Ok(Rounds::Unbounded)) => true,
-        _ => false,
+fn is_unbounded(alloc: Global, text: &str) -> bool {
+    match &rounds_of(alloc, text) {
+        Some(count) => has_no_bound(count),
+        None => false,
     }
 }
 
@@ -104,7 +104,7 @@ fn expected_rounds(rt: HostRuntime) -> Result<(), Fail> {
 
 #[test]
 fn rounds_that_all_fail(rt: HostRuntime) -> Result<(), Fail> {
-    assert!(rt; has_no_bound(rt.alloc(), NEVER));
-    assert!(rt; has_no_bound(rt.alloc(), NOTHING));
+    assert!(rt; is_unbounded(rt.alloc(), NEVER));
+    assert!(rt; is_unbounded(rt.alloc(), NOTHING));
     Ok(())
 }

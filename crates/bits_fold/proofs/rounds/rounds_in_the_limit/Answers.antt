@@ -3,9 +3,11 @@ use Rattle.std.proofs.lemmas.Result.{IfOk-weaker, IfErr-weaker}
 use Rattle.gcl_core.specs.meaning.Syntax.{SourceProgram}
 use Rattle.gcl_core.specs.meaning.Views.{source_of}
 use Rattle.forgetting.specs.Forgetful.{forgetful_of}
-use Rattle.bits_fold.specs.Expected.{IsRoundsAnswer}
+use Rattle.bits_law.specs.Rounds.{expected_rounds}
+use Rattle.bits_fold.specs.Expected.{IsCount}
 use Rattle.bits_fold.specs.inner.AsWritten.{RefusedAsWritten}
 use Rattle.bits_fold.proofs.NoLoops.{refused_holds}
+use Rattle.bits_fold.proofs.Programs.{counts_alike}
 use Rattle.bits_fold.proofs.RoundsBegun.{same_rounds}
 use Rattle.bits_fold.proofs.rounds.rounds_in_the_limit.Goals as goal
 
@@ -13,7 +15,7 @@ pub returns-clause-answer : goal.returns-clause-answer
 returns-clause-answer c =
     let p = source_of c.args.p.now in
     let same = c.in_ok-q.ensures in
-    IfOk-weaker c.rounds_as_written.result _ _ (λ a h. same_rounds p (forgetful_of p) (c.forgetting_changes_no_meaning.ensures p) a (subst (λ (q : SourceProgram). IsRoundsAnswer q a) same h)) c.rounds_as_written.ensures.answer
+    IfOk-weaker c.rounds_as_written.result _ _ (λ a h. counts_alike (expected_rounds p) (expected_rounds (forgetful_of p)) (same_rounds p (forgetful_of p) (c.forgetting_changes_no_meaning.ensures p)) a (subst (λ (q : SourceProgram). IsCount (expected_rounds q) a) same h)) c.rounds_as_written.ensures.answer
 
 pub returns-clause-refused : goal.returns-clause-refused
 returns-clause-refused c =
