@@ -5,7 +5,7 @@ ghost use Rattle.report_text.specs.Lines.{cost_text, unbounded_text};
 ghost use Rattle.mass_lines.specs.Narrow.{IsNarrow};
 ghost use Rattle.mass_lines.specs.BoundLines.{bound_rows_text, bound_lines};
 ghost use Rattle.mass_lines.specs.ExactLines.{exact_lines};
-ghost use Rattle.mass_lines.specs.HowLongLines.{rounds_text, unbounded_rounds_text};
+ghost use Rattle.mass_lines.specs.HowLongLines.{count_text, unbounded_count_text, unknown_count_text};
 ghost use Rattle.mass_lines.specs.MassLines.{mass_rows_text};
 
 use crate::narrow::is_narrow;
@@ -20,7 +20,7 @@ use report_text::{
 use std::alloc::{AllocError, Global};
 
 // The word in front of an expected number of bits.
-const BITS: &[u8] = b"bits ";
+const BITS: &[u8] = b"bits";
 
 // The lines of masses. An error comes only where memory runs out.
 #[tactic(auto, using(report_text::proofs::RowByRow::rows_end, crate::proofs::NarrowRows::all_narrow))]
@@ -115,29 +115,41 @@ pub(crate) fn unbounded_bit_line(alloc: Global) -> Result<Text, AllocError>
     Ok(text)
 }
 
-// The line of an expected number of rounds: that of as many bits, with another word in front. An error comes only where memory runs
+// The line of an expected number of something: that of as many bits, with another word in front. An error comes only where memory runs
 // out.
-pub(crate) fn round_line(
+pub(crate) fn count_line(
     alloc: Global,
-    rounds: &Frac,
+    word: &[u8],
+    number: &Frac,
     decimals: Decimals,
 ) -> Result<Text, AllocError>
-    ensures line { IfOk result (λ text. text ≡ rounds_text decimals rounds.now) }
-    ensures narrow { IsNarrow rounds.now }
+    ensures line { IfOk result (λ text. text ≡ count_text word.now decimals number.now) }
+    ensures narrow { IsNarrow number.now }
 {
-    is_narrow(rounds);
-    let line = cost_line(rounds, decimals);
+    is_narrow(number);
+    let line = cost_line(number, decimals);
     let mut text = Text::new(alloc);
-    text.push(b"rounds ")?;
+    text.push(word)?;
     text.push(&line.bytes()[BITS.len()..])?;
     Ok(text)
 }
 
-// The line of an expected number of rounds that has no bound. An error comes only where memory runs out.
-pub(crate) fn unbounded_round_line(alloc: Global) -> Result<Text, AllocError>
-    ensures { IfOk result (λ text. text ≡ unbounded_rounds_text) }
+// The line of an expected number that has no bound. An error comes only where memory runs out.
+pub(crate) fn unbounded_count_line(alloc: Global, word: &[u8]) -> Result<Text, AllocError>
+    ensures { IfOk result (λ text. text ≡ unbounded_count_text word.now) }
 {
     let mut text = Text::new(alloc);
-    text.push(b"rounds unbounded\n")?;
+    text.push(word)?;
+    text.push(b" unbounded\n")?;
+    Ok(text)
+}
+
+// The line of an expected number of which nothing is said. An error comes only where memory runs out.
+pub(crate) fn unknown_count_line(alloc: Global, word: &[u8]) -> Result<Text, AllocError>
+    ensures { IfOk result (λ text. text ≡ unknown_count_text word.now) }
+{
+    let mut text = Text::new(alloc);
+    text.push(word)?;
+    text.push(b" unknown\n")?;
     Ok(text)
 }
