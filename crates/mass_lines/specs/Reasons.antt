@@ -79,6 +79,10 @@ WhyNotEnclosed p turns attempts rounds = IsCause enclose_reason (λ e. EncloseRe
 abbrev pub WhyNotExact : SourceProgram → ℕ → Type 0
 WhyNotExact p = IsCause exact_reason (WhyRefused p)
 
+-- lines that no code refuses
+abbrev pub NoCode : ℕ → Type 0
+NoCode code = ⊥
+
 -- lines are refused for such a cause of their code, or where memory runs out
 abbrev pub IsReason : (ℕ → Type 0) → Reason → Type 0
 IsReason Cause (Coded code) = Cause code

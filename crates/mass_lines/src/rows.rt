@@ -1,14 +1,19 @@
 // The lines of rows, one for each.
 
 ghost use Rattle.std.specs.Prelude.{◌≡◌, All, IfOk};
-ghost use Rattle.report_text.specs.Lines.{cost_text, unbounded_text};
+ghost use Rattle.bits_fold.specs.Expected.{IsCount};
+ghost use Rattle.gcl_core.specs.declared.answers.Limits.{Limits};
+ghost use Rattle.gcl_core.specs.weighing.Fractions.{Fraction};
+ghost use Rattle.report_text.specs.Lines.{cost_text};
 ghost use Rattle.mass_lines.specs.Narrow.{IsNarrow};
 ghost use Rattle.mass_lines.specs.BoundLines.{bound_rows_text, bound_lines};
 ghost use Rattle.mass_lines.specs.ExactLines.{exact_lines};
-ghost use Rattle.mass_lines.specs.HowLongLines.{rounds_text, unbounded_rounds_text};
+ghost use Rattle.mass_lines.specs.ExpectedLines.{IsCountLine, count_text, unbounded_count_text};
+ghost use Rattle.mass_lines.specs.HowLongLines.{unknown_count_text};
 ghost use Rattle.mass_lines.specs.MassLines.{mass_rows_text};
 
 use crate::narrow::is_narrow;
+use bits_fold::Count;
 use bounds_law::{BoundRows, Bounds};
 use exact_fold::ExactMasses;
 use gcl_print::Text;
@@ -20,7 +25,7 @@ use report_text::{
 use std::alloc::{AllocError, Global};
 
 // The word in front of an expected number of bits.
-const BITS: &[u8] = b"bits ";
+pub(crate) const BITS: &[u8] = b"bits";
 
 // The lines of masses. An error comes only where memory runs out.
 #[tactic(auto, using(report_text::proofs::RowByRow::rows_end, crate::proofs::NarrowRows::all_narrow))]
@@ -106,38 +111,56 @@ pub(crate) fn bit_line(alloc: Global, bits: &Frac, decimals: Decimals) -> Result
     Ok(text)
 }
 
-// The line of an expected number of bits that has no bound. An error comes only where memory runs out.
-pub(crate) fn unbounded_bit_line(alloc: Global) -> Result<Text, AllocError>
-    ensures { IfOk result (λ text. text ≡ unbounded_text) }
-{
-    let mut text = Text::new(alloc);
-    text.push(unbounded_line().bytes())?;
-    Ok(text)
-}
-
-// The line of an expected number of rounds: that of as many bits, with another word in front. An error comes only where memory runs
-// out.
-pub(crate) fn round_line(
+// The line of an expected number: that of as many bits, with another word in front. An error comes only where memory runs out.
+fn number_line(
     alloc: Global,
-    rounds: &Frac,
+    word: &[u8],
+    number: &Frac,
     decimals: Decimals,
 ) -> Result<Text, AllocError>
-    ensures line { IfOk result (λ text. text ≡ rounds_text decimals rounds.now) }
-    ensures narrow { IsNarrow rounds.now }
+    ensures line { IfOk result (λ text. text ≡ count_text word.now decimals number.now) }
+    ensures narrow { IsNarrow number.now }
 {
-    is_narrow(rounds);
-    let line = cost_line(rounds, decimals);
+    is_narrow(number);
+    let line = cost_line(number, decimals);
     let mut text = Text::new(alloc);
-    text.push(b"rounds ")?;
+    text.push(word)?;
     text.push(&line.bytes()[BITS.len()..])?;
     Ok(text)
 }
 
-// The line of an expected number of rounds that has no bound. An error comes only where memory runs out.
-pub(crate) fn unbounded_round_line(alloc: Global) -> Result<Text, AllocError>
-    ensures { IfOk result (λ text. text ≡ unbounded_rounds_text) }
+// That it has no bound, likewise.
+fn unbounded_number_line(alloc: Global, word: &[u8]) -> Result<Text, AllocError>
+    ensures { IfOk result (λ text. text ≡ unbounded_count_text word.now) }
+{
+    let line = unbounded_line();
+    let mut text = Text::new(alloc);
+    text.push(word)?;
+    text.push(&line.bytes()[BITS.len()..])?;
+    Ok(text)
+}
+
+// The line of a count. An error comes only where memory runs out.
+pub(crate) fn count_line(
+    alloc: Global,
+    word: &[u8],
+    count: Count,
+    decimals: Decimals,
+) -> Result<Text, AllocError>
+    ensures { (under : Limits → Fraction) → IsCount under count → IfOk result (IsCountLine word.now under decimals) }
+{
+    match count {
+        Count::Expected(number) => number_line(alloc, word, &number, decimals),
+        Count::Unbounded => unbounded_number_line(alloc, word),
+    }
+}
+
+// The line of a count of which nothing is said. An error comes only where memory runs out.
+pub(crate) fn unknown_count_line(alloc: Global, word: &[u8]) -> Result<Text, AllocError>
+    ensures { IfOk result (λ text. text ≡ unknown_count_text word.now) }
 {
     let mut text = Text::new(alloc);
-    text.push(b"rounds unbounded\n")?;
+    text.push(word)?;
+    text.push(b" unknown\n")?;
     Ok(text)
 }

@@ -1,6 +1,8 @@
 // What is told of a program, as lines.
 
 ghost use Rattle.std.specs.Prelude.{◌≤◌, IfOk, IfErr, IfSome};
+ghost use Rattle.bits_fold.specs.Counted.{price_of};
+ghost use Rattle.bits_law.specs.RunPrice.{expected_price};
 ghost use Rattle.gcl_core.specs.declared.rules.TheConstants.{MOST_LIMIT};
 ghost use Rattle.gcl_core.specs.meaning.LimitRange.{InRange};
 ghost use Rattle.gcl_core.specs.meaning.Views.{source_of};
@@ -10,16 +12,15 @@ ghost use Rattle.mass_lines.specs.BoundLines.{AreBoundLines};
 ghost use Rattle.mass_lines.specs.EnclosedLines.{AreEnclosedLines};
 ghost use Rattle.mass_lines.specs.ExactLines.{AreExactLines};
 ghost use Rattle.mass_lines.specs.ExpectedLines.{IsExpectedLine};
-ghost use Rattle.mass_lines.specs.HowLongLines.{IsRoundsLine, AreHowLongLines};
+ghost use Rattle.mass_lines.specs.HowLongLines.{MayBeCountLine, IsRoundsLine, IsDrawsLine, IsTurnsLine, AreHowLongLines};
 ghost use Rattle.mass_lines.specs.MassLines.{AreMassLines};
-ghost use Rattle.mass_lines.specs.Reasons.{IsReason, WhyNoBits, WhyNoBounds, WhyNoMasses, WhyNotEnclosed, WhyNotExact, WhyNotExpected};
+ghost use Rattle.mass_lines.specs.Reasons.{IsReason, NoCode, WhyNoBits, WhyNoBounds, WhyNoMasses, WhyNotEnclosed, WhyNotExact, WhyNotExpected};
 
 use crate::reasons::Reason;
 use crate::rows::{
-    bit_line, bound_lines, exact_lines, mass_rows_text, round_line, unbounded_bit_line,
-    unbounded_round_line,
+    BITS, bit_line, bound_lines, count_line, exact_lines, mass_rows_text, unknown_count_line,
 };
-use bits_fold::{Count, cost_in_the_limit, rounds_in_the_limit};
+use bits_fold::{BitsError, Counted, cost_in_the_limit, count_in_the_limit, rounds_in_the_limit};
 use cost_fold::cost;
 use enclose_fold::enclose;
 use exact_fold::exact;
@@ -29,6 +30,13 @@ use mass_fold::mass;
 use posterior_bounds::bounds;
 use report_text::Decimals;
 use std::alloc::Global;
+
+// The words in front of what else is counted.
+const ROUNDS: &[u8] = b"rounds";
+
+const DRAWS: &[u8] = b"draws";
+
+const TURNS: &[u8] = b"turns";
 
 /// The lines of a program's masses, outcomes ascending, each with so many decimals, as all lines here.
 pub fn masses_text(
@@ -114,10 +122,8 @@ pub fn expected_text(alloc: Global, program: &Checked, decimals: Decimals) -> Re
     ensures line { IfOk result (IsExpectedLine (source_of program.now) decimals) }
     ensures refused { IfErr result (IsReason (WhyNotExpected (source_of program.now))) }
 {
-    match cost_in_the_limit(alloc, program)? {
-        Count::Expected(bits) => Ok(bit_line(alloc, &bits, decimals)?),
-        Count::Unbounded => Ok(unbounded_bit_line(alloc)?),
-    }
+    let bits = cost_in_the_limit(alloc, program)?;
+    Ok(count_line(alloc, BITS, bits, decimals)?)
 }
 
 /// The line of the rounds that a run of a program begins on average where nothing is limited, or of there being no bound.
@@ -125,19 +131,59 @@ pub fn rounds_text(alloc: Global, program: &Checked, decimals: Decimals) -> Resu
     ensures line { IfOk result (IsRoundsLine (source_of program.now) decimals) }
     ensures refused { IfErr result (IsReason (WhyNotExpected (source_of program.now))) }
 {
-    match rounds_in_the_limit(alloc, program)? {
-        Count::Expected(rounds) => Ok(round_line(alloc, &rounds, decimals)?),
-        Count::Unbounded => Ok(unbounded_round_line(alloc)?),
+    let rounds = rounds_in_the_limit(alloc, program)?;
+    Ok(count_line(alloc, ROUNDS, rounds, decimals)?)
+}
+
+// The line of what is counted of a run of a program where nothing is limited, behind this word. Where the count is not found it is unknown.
+fn count_text(
+    alloc: Global,
+    what: Counted,
+    word: &[u8],
+    program: &Checked,
+    decimals: Decimals,
+) -> Result<Text, Reason>
+    ensures line { IfOk result (MayBeCountLine word.now (expected_price (price_of what) (source_of program.now)) decimals) }
+    ensures refused { IfErr result (IsReason NoCode) }
+{
+    match count_in_the_limit(alloc, what, program) {
+        Ok(count) => Ok(count_line(alloc, word, count, decimals)?),
+        Err(BitsError::OutOfMemory) => Err(Reason::Memory),
+        Err(BitsError::TooWide | BitsError::TooManyStates | BitsError::NotFound) => {
+            Ok(unknown_count_line(alloc, word)?)
+        }
     }
 }
 
-/// The lines of how long a run of a program takes where nothing is limited: of the bits that it reads, and of the rounds that it begins.
+/// The line of the draws that a run of a program makes on average where nothing is limited, or of there being no bound; or `draws unknown`,
+/// which comes where the count is not found, and says nothing of the program. An error comes only where memory runs out.
+pub fn draws_text(alloc: Global, program: &Checked, decimals: Decimals) -> Result<Text, Reason>
+    ensures line { IfOk result (IsDrawsLine (source_of program.now) decimals) }
+    ensures refused { IfErr result (IsReason NoCode) }
+{
+    count_text(alloc, Counted::Draws, DRAWS, program, decimals)
+}
+
+/// The line of the turns of loops that it makes, likewise.
+pub fn turns_text(alloc: Global, program: &Checked, decimals: Decimals) -> Result<Text, Reason>
+    ensures line { IfOk result (IsTurnsLine (source_of program.now) decimals) }
+    ensures refused { IfErr result (IsReason NoCode) }
+{
+    count_text(alloc, Counted::Turns, TURNS, program, decimals)
+}
+
+/// The lines of how long a run of a program takes where nothing is limited: of the bits that it reads, of the rounds that it begins, and of
+/// the draws and the turns of loops that it makes.
 pub fn how_long_text(alloc: Global, program: &Checked, decimals: Decimals) -> Result<Text, Reason>
     ensures lines { IfOk result (AreHowLongLines (source_of program.now) decimals) }
     ensures refused { IfErr result (IsReason (WhyNotExpected (source_of program.now))) }
 {
     let mut text = expected_text(alloc, program, decimals)?;
     let rounds = rounds_text(alloc, program, decimals)?;
+    let draws = draws_text(alloc, program, decimals)?;
+    let turns = turns_text(alloc, program, decimals)?;
     text.push(rounds.bytes())?;
+    text.push(draws.bytes())?;
+    text.push(turns.bytes())?;
     Ok(text)
 }
