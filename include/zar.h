@@ -192,6 +192,12 @@ zar_said zar_cost_in_the_limit(const uint8_t *text, size_t text_length, uint8_t 
  * is no bound. The codes of ZAR_MASS_REFUSED are those of zar_cost_in_the_limit. */
 zar_said zar_rounds_in_the_limit(const uint8_t *text, size_t text_length, uint8_t *lines, size_t capacity);
 
+/* The lines of draws and of turns of loops of `zar cost --how-long`: `draws P/Q` and `turns P/Q`, how many a run makes on average where nothing is
+ * limited, or `draws unbounded` and `turns unbounded` where there is no bound. Where the number is not found they are `draws unknown` and
+ * `turns unknown`, which says nothing of the program. The status is never ZAR_MASS_REFUSED. */
+zar_said zar_draws_in_the_limit(const uint8_t *text, size_t text_length, uint8_t *lines, size_t capacity);
+zar_said zar_turns_in_the_limit(const uint8_t *text, size_t text_length, uint8_t *lines, size_t capacity);
+
 /* The lines of `zar audit`: for each outcome the share of all strings of `depth` bits, 0 to 20, on which the run ends in it, and the share
  * of those on which it needs more. The limits have the ranges of `zar_limits`. The time may double with each bit. */
 zar_said zar_audit(const uint8_t *text, size_t text_length, uint32_t depth, uint64_t turns, uint64_t attempts, uint64_t rounds,

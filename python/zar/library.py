@@ -73,6 +73,8 @@ CALLS = {
     "zar_cost": (*TEXT, NUMBER, NUMBER, NUMBER, *ARRAY),
     "zar_cost_in_the_limit": (*TEXT, *ARRAY),
     "zar_rounds_in_the_limit": (*TEXT, *ARRAY),
+    "zar_draws_in_the_limit": (*TEXT, *ARRAY),
+    "zar_turns_in_the_limit": (*TEXT, *ARRAY),
     "zar_draws": (*TEXT, NUMBER, NUMBER, ctypes.POINTER(Limits), *ARRAY, *ARRAY),
     "zar_tally": (*TEXT, NUMBER, NUMBER, NUMBER, ctypes.POINTER(Limits), *ARRAY),
     "zar_hunt": (*TEXT, NUMBER, NUMBER, NUMBER, ctypes.POINTER(Limits), ctypes.c_int64, ctypes.c_uint8, ctypes.POINTER(Found)),

@@ -52,6 +52,7 @@ KINDS = {
 BOUNDS = re.compile(rf"(.*) from ({FRACTION}) to ({FRACTION})\n")
 BITS = re.compile(rf"bits (?:({FRACTION})|unbounded)\n")
 ROUNDS = re.compile(rf"rounds (?:({FRACTION})|unbounded)\n")
+COUNTS = {word: re.compile(rf"{word} (?:({FRACTION})|(unbounded)|unknown)\n") for word in ("draws", "turns")}
 
 
 # The most characters of a text that a message quotes.
@@ -135,3 +136,9 @@ def rounds(text: str) -> Fraction | float:
     """The number of rounds in such a line, likewise."""
     number = told(ROUNDS, text)[1]
     return Fraction(number) if number else math.inf
+
+
+def counts(text: str, word: str) -> Fraction | float | None:
+    """The number of draws, or of turns of loops, in such a line, by its word: likewise, or None where it is unknown."""
+    number, without_bound = told(COUNTS[word], text).groups()
+    return Fraction(number) if number else math.inf if without_bound else None

@@ -133,6 +133,18 @@ class Program:
         """
         return printed.rounds(library.lines("zar_rounds_in_the_limit", self._text))
 
+    def expected_draws(self) -> Fraction | float | None:
+        """How many draws a run makes on average where nothing is limited: a Fraction, math.inf where there is no bound, or None where the
+        number is not found, which says nothing of the program. It is never refused.
+
+        A draw counts 1 once it is decided, whatever attempts it takes, one of `choice` or of `choose`, too.
+        """
+        return printed.counts(library.lines("zar_draws_in_the_limit", self._text), "draws")
+
+    def expected_turns(self) -> Fraction | float | None:
+        """How many turns of loops it makes on average, likewise. A turn counts 1 when its guard is found true."""
+        return printed.counts(library.lines("zar_turns_in_the_limit", self._text), "turns")
+
     def sample(
         self, bits: Bits | None = None, *, budget: int = BUDGET, turns: int = TURNS, attempts: int = ATTEMPTS, rounds: int = ROUNDS
     ) -> Sample:

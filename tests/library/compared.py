@@ -140,13 +140,15 @@ def rolls_of(zar, weights, seed, streams, budget, flips):
     return [re.match(r"more bits|.*(?= bits)", line)[0] for line in said]
 
 
-def rounds_are_told_alike(zar, library, folder, text):
-    """What differs between the rounds of a text and the last line of `cost --how-long`, unless its bits are refused."""
+def counts_are_told_alike(zar, library, folder, text):
+    """What differs between the rounds, the draws and the turns of a text and the lines of `cost --how-long` behind the first, unless it is refused."""
     status, code, place, out = commanded(zar, folder, ["cost", "p.gcl", "--how-long"])
-    line = b"".join(out.splitlines(keepends=True)[1:])
-    said = lined(library.zar_rounds_in_the_limit, text, len(text))
-    if status != 6 and said != (status, code, place, line):
-        yield f"zar_rounds_in_the_limit: {said}, not {status, code, place, line}"
+    lines = out.splitlines(keepends=True)[1:] or [b"", b"", b""]
+    calls = (library.zar_rounds_in_the_limit, library.zar_draws_in_the_limit, library.zar_turns_in_the_limit)
+    for call, line in zip(calls, lines) if status != 6 else ():
+        said = lined(call, text, len(text))
+        if said != (status, code, place, line):
+            yield f"{call.__name__}: {said}, not {status, code, place, line}"
 
 
 def hunts_are_told_alike(zar, library, folder, text, rng, checked):
@@ -268,7 +270,7 @@ def text_is_told_alike(zar, library, text, rng):
         if not said.status and draws.outcomes() != outcomes_of(zar, folder, seed, first, count, limits):
             wrong.append(f"zar_draws from {first} of {seed}: {draws.outcomes()}")
         wrong += bits_are_told_alike(zar, library, folder, text, rng, checked)
-        wrong += rounds_are_told_alike(zar, library, folder, text)
+        wrong += counts_are_told_alike(zar, library, folder, text)
         wrong += hunts_are_told_alike(zar, library, folder, text, rng, checked)
     return [f"{it}, of {text[:400]!r}" for it in wrong]
 

@@ -36,7 +36,8 @@ static const char TEXT[] = "n := 0; go := 1; while go = 1 { choice 1/3 { n := (n
                            "choose { 1: { x ~ uniform(6); } | 2: { x := 1; } } if x < 2 { observe n < 2; } return n + x;";
 static const char *const NAMES[] = {"zar_check", "zar_show",  "zar_code", "zar_mass",           "zar_posterior", "zar_cost",   "zar_exact",
                                     "zar_draws", "zar_run", "zar_draws_in_a_row", "zar_enclose",   "zar_explain", "zar_tally",
-                                    "zar_hunt",  "zar_audit", "zar_cost_in_the_limit", "zar_roll"};
+                                    "zar_hunt",  "zar_audit", "zar_cost_in_the_limit", "zar_draws_in_the_limit",
+                                    "zar_turns_in_the_limit", "zar_roll"};
 static const char HINT[] = "'fase' is never set; did you mean 'face'?\n";
 enum { CALLS = sizeof NAMES / sizeof NAMES[0], PLACES = 50, EXPLAIN = 11 };
 static struct {
@@ -74,6 +75,8 @@ static zar_said call(int which) {
     case 13: said = zar_hunt(text, length, 1, 0, 200, &limits, 0, ZAR_MORE_BITS, &arrays.found); break;
     case 14: said = zar_audit(text, length, 5, 4, 3, 3, arrays.lines, sizeof arrays.lines); break;
     case 15: said = zar_cost_in_the_limit(text, length, arrays.lines, sizeof arrays.lines); break;
+    case 16: said = zar_draws_in_the_limit(text, length, arrays.lines, sizeof arrays.lines); break;
+    case 17: said = zar_turns_in_the_limit(text, length, arrays.lines, sizeof arrays.lines); break;
     default: said = zar_roll(weights, 3, 1, 0, &roll_limits, arrays.labels, PLACES, arrays.ends, PLACES);
     }
     counting = 0;

@@ -41,6 +41,16 @@ zar_rounds <- function(text) {
     data.frame(exact = exact, rounds = if (exact == "unbounded") Inf else rounded(exact))
 }
 
+zar_expected_draws <- function(text) {
+    exact <- sub("draws ([^\n]*)\n", "\\1", lines_of(12L, text))
+    data.frame(exact = exact, draws = counted(exact))
+}
+
+zar_expected_turns <- function(text) {
+    exact <- sub("turns ([^\n]*)\n", "\\1", lines_of(13L, text))
+    data.frame(exact = exact, turns = counted(exact))
+}
+
 zar_audit <- function(text, depth, turns = 1000, attempts = 1000, rounds = 1000) {
     if (whole("depth", depth) > 20)
         stop("a number is out of its range", call. = FALSE)
@@ -129,6 +139,11 @@ split_at <- function(lines, word) {
 # Fractions as doubles.
 rounded <- function(fractions) {
     vapply(strsplit(fractions, "/", fixed = TRUE), function(it) as.double(it[1]) / as.double(it[2]), 0)
+}
+
+# A count as a double.
+counted <- function(exact) {
+    switch(exact, unbounded = Inf, unknown = NA_real_, rounded(exact))
 }
 
 # Outcomes, each with its exact mass, and that rounded.

@@ -6,6 +6,8 @@
 \alias{zar_draws}
 \alias{zar_enclose}
 \alias{zar_exact}
+\alias{zar_expected_draws}
+\alias{zar_expected_turns}
 \alias{zar_hunt}
 \alias{zar_in_a_row}
 \alias{zar_mass}
@@ -41,6 +43,8 @@ zar_enclose(text, turns = 30, attempts = NULL, rounds = NULL,
 zar_audit(text, depth, turns = 1000, attempts = 1000, rounds = 1000)
 zar_cost(text, turns = NULL, attempts = NULL, rounds = NULL)
 zar_rounds(text)
+zar_expected_draws(text)
+zar_expected_turns(text)
 zar_roll(weights, n, seed, first = 0, budget = 65536, flips = 1000)
 zar_check(text)
 zar_show(text)
@@ -80,7 +84,9 @@ these rounded; the one for each greater limit of turns, the other however wide t
 bits, with \code{undecided}, on which a run needs more. \code{zar_cost}: how many bits a run reads on average, \code{exact} as a text, and
 rounded; \code{unbounded} and \code{Inf} where there is no bound. Nothing is limited where no limit is given; else \code{attempts} and
 \code{rounds} are both to be given, and \code{turns} are 30 where they are not. \code{zar_rounds}: how many rounds a run begins on average where
-nothing is limited, likewise.
+nothing is limited, likewise. \code{zar_expected_draws} and \code{zar_expected_turns}: how many draws, and how many turns of loops, it makes,
+likewise; \code{unknown} and \code{NA} where the number is not found, which says nothing of the program. A draw counts 1 once it is decided, and a
+turn when its guard is found true.
 
 \code{zar_roll}: places of the weights, from 1 on, by the fewest coin flips.
 

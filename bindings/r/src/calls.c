@@ -27,7 +27,8 @@ static zar_limits limits_of(const double *of) {
 }
 
 /* The calls of this package about lines, each with its numbers. */
-enum { CHECK, SHOW, MASS, EXACT, VERSION, POSTERIOR, ENCLOSE, COST, AUDIT, TALLY, COST_IN_THE_LIMIT, ROUNDS_IN_THE_LIMIT };
+enum { CHECK, SHOW, MASS, EXACT, VERSION, POSTERIOR, ENCLOSE, COST, AUDIT, TALLY, COST_IN_THE_LIMIT, ROUNDS_IN_THE_LIMIT,
+       DRAWS_IN_THE_LIMIT, TURNS_IN_THE_LIMIT };
 
 static zar_said lines_of(int ask, SEXP text, const double *given, uint8_t *lines, size_t room) {
     const uint8_t *bytes = RAW(text);
@@ -45,6 +46,8 @@ static zar_said lines_of(int ask, SEXP text, const double *given, uint8_t *lines
     case COST: return zar_cost(bytes, length, n[0], n[1], n[2], lines, room);
     case COST_IN_THE_LIMIT: return zar_cost_in_the_limit(bytes, length, lines, room);
     case ROUNDS_IN_THE_LIMIT: return zar_rounds_in_the_limit(bytes, length, lines, room);
+    case DRAWS_IN_THE_LIMIT: return zar_draws_in_the_limit(bytes, length, lines, room);
+    case TURNS_IN_THE_LIMIT: return zar_turns_in_the_limit(bytes, length, lines, room);
     case AUDIT: return zar_audit(bytes, length, (uint32_t)n[0], n[1], n[2], n[3], lines, room);
     case TALLY: {
         const zar_limits limits = limits_of(given + 3);

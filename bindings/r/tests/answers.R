@@ -35,6 +35,11 @@ stopifnot(identical(zar_cost(die, attempts = 1, rounds = 1), data.frame(exact = 
 stopifnot(identical(zar_cost(die)$exact, "22/3"), refused(zar_cost(die, rounds = 1)) == "attempts and rounds are both to be given, or no limit at all")
 stopifnot(identical(zar_cost("x ~ uniform(2); observe false; return x;")$bits, Inf))
 stopifnot(identical(zar_rounds(die)$exact, "2/1"), identical(zar_rounds("observe false; return 0;")$rounds, Inf))
+tossed <- "while x = 0 { x ~ uniform(2); y ~ uniform(2); } return x;"
+stopifnot(identical(zar_expected_draws(tossed)$exact, "4/1"), identical(zar_expected_turns(tossed)$turns, 2))
+stopifnot(identical(zar_expected_turns("while true { skip; } return 0;")$turns, Inf))
+many <- "while i < 16 { d ~ uniform(2); x := 2 * x + d; i := i + 1; } return x % 3;"
+stopifnot(identical(zar_expected_draws(many), data.frame(exact = "unknown", draws = NA_real_)))
 
 # The runs on streams, counted and sought.
 ones <- which(whole == 1) - 1

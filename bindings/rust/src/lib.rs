@@ -29,5 +29,5 @@ pub use error::{Error, Refused};
 pub use fraction::{Bounds, Fraction};
 pub use library::version;
 pub use outcome::{Fault, Limit, Outcome};
-pub use program::Program;
+pub use program::{Count, Program};
 pub use runs::Limits;

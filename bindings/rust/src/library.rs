@@ -53,6 +53,8 @@ extern "C" {
     fn zar_cost(text: *const u8, length: usize, turns: u64, attempts: u64, rounds: u64, lines: *mut u8, capacity: usize) -> Said;
     fn zar_cost_in_the_limit(text: *const u8, length: usize, lines: *mut u8, capacity: usize) -> Said;
     fn zar_rounds_in_the_limit(text: *const u8, length: usize, lines: *mut u8, capacity: usize) -> Said;
+    fn zar_draws_in_the_limit(text: *const u8, length: usize, lines: *mut u8, capacity: usize) -> Said;
+    fn zar_turns_in_the_limit(text: *const u8, length: usize, lines: *mut u8, capacity: usize) -> Said;
     #[rustfmt::skip]
     fn zar_audit(
         text: *const u8,
@@ -149,6 +151,8 @@ pub(crate) enum Ask<'a> {
     Cost(u64, u64, u64),
     CostInTheLimit,
     RoundsInTheLimit,
+    DrawsInTheLimit,
+    TurnsInTheLimit,
     Audit(u32, &'a Four),
     Tally(u64, &'a Range<u64>, &'a Four),
 }
@@ -185,6 +189,8 @@ pub(crate) fn lines(text: &str, ask: &Ask) -> Result<String, Error> {
                 Ask::Cost(turns, attempts, rounds) => zar_cost(from, length, turns, attempts, rounds, to, room),
                 Ask::CostInTheLimit => zar_cost_in_the_limit(from, length, to, room),
                 Ask::RoundsInTheLimit => zar_rounds_in_the_limit(from, length, to, room),
+                Ask::DrawsInTheLimit => zar_draws_in_the_limit(from, length, to, room),
+                Ask::TurnsInTheLimit => zar_turns_in_the_limit(from, length, to, room),
                 Ask::Audit(depth, Four(_, turns, attempts, rounds)) => zar_audit(from, length, depth, *turns, *attempts, *rounds, to, room),
                 Ask::Tally(seed, streams, limits) => zar_tally(from, length, seed, streams.start, streams.end, limits, to, room),
             }

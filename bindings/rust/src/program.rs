@@ -3,6 +3,17 @@ use crate::library::{check, hunt, lines, row, run, Ask, Source};
 use crate::{runs, Bounds, Error, Fraction, Limits, Outcome};
 use std::ops::Range;
 
+/// How many there are on average.
+#[derive(Clone, Copy, Debug, Eq, PartialEq)]
+pub enum Count {
+    /// So many.
+    Expected(Fraction),
+    /// There is no bound.
+    Unbounded,
+    /// The number was not found, which says nothing of the program.
+    Unknown,
+}
+
 /// A program of cpGCL. Programs of one text are equal.
 #[derive(Clone, Debug, Eq, Hash, PartialEq)]
 pub struct Program {
@@ -83,6 +94,17 @@ impl Program {
         Ok((rounds != "unbounded").then(|| fraction(rounds)))
     }
 
+    /// How many draws a run makes on average where nothing is limited. One counts 1 once it is decided, whatever attempts it takes, one of
+    /// `choice` or of `choose`, too. Never refused.
+    pub fn draws_in_the_limit(&self) -> Result<Count, Error> {
+        Ok(count(lines(&self.text, &Ask::DrawsInTheLimit)?.trim_start_matches("draws ")))
+    }
+
+    /// How many turns of loops it makes, likewise. One counts 1 when its guard is found true.
+    pub fn turns_in_the_limit(&self) -> Result<Count, Error> {
+        Ok(count(lines(&self.text, &Ask::TurnsInTheLimit)?.trim_start_matches("turns ")))
+    }
+
     /// How many bits it reads under these limits. `zar` takes 30 turns. Refused as `mass`.
     pub fn cost(&self, turns: u64, attempts: u64, rounds: u64) -> Result<Fraction, Error> {
         let line = lines(&self.text, &Ask::Cost(turns, attempts, rounds))?;
@@ -129,6 +151,15 @@ impl Program {
     /// The values of these runs. The first run without one is `NoValue`.
     pub fn draws(&self, seed: u64, streams: Range<u64>, limits: &Limits) -> Result<Vec<i64>, Error> {
         runs::values(&Source::Text(&self.text), seed, streams, &limits.four())
+    }
+}
+
+/// What a line says of a count, behind its word.
+fn count(told: &str) -> Count {
+    match told.trim_end() {
+        "unbounded" => Count::Unbounded,
+        "unknown" => Count::Unknown,
+        number => Count::Expected(fraction(number)),
     }
 }
 

@@ -1,9 +1,10 @@
 //! What the library answers through the crate, beside what is worked out by hand or stands in the documents.
 use std::thread;
-use zar::{Bounds, Die, Error, Fault, Fraction, Limit, Limits, Outcome, Program, Refused, RollLimits};
+use zar::{Bounds, Count, Die, Error, Fault, Fraction, Limit, Limits, Outcome, Program, Refused, RollLimits};
 
 const USUAL: Limits = Limits { budget: 65_536, turns: 1000, attempts: 1000, rounds: 1000 };
 const LOOP: &str = "x ~ uniform(2); while x = 1 { x ~ uniform(2); } return x;";
+const MANY: &str = "while i < 16 { d ~ uniform(2); x := 2 * x + d; i := i + 1; } return x % 3;";
 
 fn program(text: &str) -> Program {
     Program::new(text).unwrap()
@@ -36,6 +37,15 @@ fn masses_are_exact() {
     assert_eq!(die.cost_in_the_limit(), Ok(Some(over(22, 3))));
     assert_eq!(program("x ~ uniform(2); observe false; return x;").cost_in_the_limit(), Ok(None));
     assert_eq!(f64::from(half), 0.5);
+}
+
+#[test]
+fn counts_are_exact_or_unknown() {
+    let tossed = program("while x = 0 { x ~ uniform(2); y ~ uniform(2); } return x;");
+    assert_eq!(tossed.draws_in_the_limit(), Ok(Count::Expected(over(4, 1))));
+    assert_eq!(tossed.turns_in_the_limit(), Ok(Count::Expected(over(2, 1))));
+    assert_eq!(program("while true { skip; } return 0;").turns_in_the_limit(), Ok(Count::Unbounded));
+    assert_eq!(program(MANY).draws_in_the_limit(), Ok(Count::Unknown));
 }
 
 #[test]

@@ -7,7 +7,8 @@
 //! that it was given (`ran`), and `zar_hunt` the least stream with the run that is wanted (`found`). The calls for lines, as
 //! `zar_mass`, tell exactly the lines of their command or why there are none, and write them where they fit (`ensures`). The
 //! status is 1 only where the text spells no program, and 6 only where the cause of the code holds: of `zar_exact`,
-//! `zar_cost_in_the_limit` and `zar_rounds_in_the_limit` that is little where runs go on for more than 256 turns.
+//! `zar_cost_in_the_limit` and `zar_rounds_in_the_limit` that is little where runs go on for more than 256 turns. The lines of
+//! `zar_draws_in_the_limit` and `zar_turns_in_the_limit` may say `unknown` of any program; their status is never 6.
 //!
 //! No clause says that memory or the stack suffices, how long a call takes, or what `zar_explain` finds. What no function can test
 //! is asked of its caller, in `zar.h`: that no pointer is null, that each array has the length that is told, that the arrays of a
@@ -38,8 +39,8 @@ pub use drawing::zar_draws;
 pub use explaining::zar_explain;
 pub use hunts::{ZarFound, zar_hunt};
 pub use masses::{
-    zar_cost, zar_cost_in_the_limit, zar_enclose, zar_exact, zar_mass, zar_posterior,
-    zar_rounds_in_the_limit,
+    zar_cost, zar_cost_in_the_limit, zar_draws_in_the_limit, zar_enclose, zar_exact, zar_mass,
+    zar_posterior, zar_rounds_in_the_limit, zar_turns_in_the_limit,
 };
 pub use rolling::zar_roll;
 pub use rows::zar_draws_in_a_row;

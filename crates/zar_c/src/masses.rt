@@ -10,9 +10,9 @@ ghost use Rattle.mass_lines.specs.BoundLines.{AreBoundLines};
 ghost use Rattle.mass_lines.specs.EnclosedLines.{AreEnclosedLines};
 ghost use Rattle.mass_lines.specs.ExactLines.{AreExactLines};
 ghost use Rattle.mass_lines.specs.ExpectedLines.{IsExpectedLine};
-ghost use Rattle.mass_lines.specs.HowLongLines.{IsRoundsLine};
+ghost use Rattle.mass_lines.specs.HowLongLines.{IsRoundsLine, IsDrawsLine, IsTurnsLine};
 ghost use Rattle.mass_lines.specs.MassLines.{AreMassLines};
-ghost use Rattle.mass_lines.specs.Reasons.{WhyNoBits, WhyNoBounds, WhyNoMasses, WhyNotEnclosed, WhyNotExact, WhyNotExpected};
+ghost use Rattle.mass_lines.specs.Reasons.{NoCode, WhyNoBits, WhyNoBounds, WhyNoMasses, WhyNotEnclosed, WhyNotExact, WhyNotExpected};
 ghost use Rattle.zar_c.specs.Answered.{IsReply, NoNumbers};
 ghost use Rattle.zar_c.specs.Masses.{CanWeigh, limits_by, limit_of};
 
@@ -20,7 +20,8 @@ use crate::asking::is_in_range;
 use crate::said::{ZarSaid, said, written};
 use crate::statuses::NUMBERS_REFUSED;
 use crate::weighing::{
-    bits_of, bounds_of, can_weigh, enclosed_of, exact_of, expected_of, limit, masses_of, rounds_of,
+    bits_of, bounds_of, can_weigh, draws_of, enclosed_of, exact_of, expected_of, limit, masses_of,
+    rounds_of, turns_of,
 };
 use gcl_core::Limits;
 use gcl_core::rules::MOST_LIMIT;
@@ -156,6 +157,30 @@ pub extern "C" fn zar_rounds_in_the_limit(alloc: Global, text: &[u8], lines: &mu
         (λ p. IsRoundsLine p 0) WhyNotExpected lines.old lines.new result }
 {
     match rounds_of(alloc, text) {
+        Ok(told) => written(told.bytes(), lines),
+        Err(said) => said,
+    }
+}
+
+/// The same of the draws that it makes, or that their number is unknown, which says nothing of the program. The status is never 6.
+#[unsafe(no_mangle)]
+pub extern "C" fn zar_draws_in_the_limit(alloc: Global, text: &[u8], lines: &mut [u8]) -> ZarSaid
+    ensures { IsReply (Spells text.now) (SpellsNone text.now) NoNumbers
+        (λ p. IsDrawsLine p 0) (λ p. NoCode) lines.old lines.new result }
+{
+    match draws_of(alloc, text) {
+        Ok(told) => written(told.bytes(), lines),
+        Err(said) => said,
+    }
+}
+
+/// The same of the turns of loops that it makes, likewise.
+#[unsafe(no_mangle)]
+pub extern "C" fn zar_turns_in_the_limit(alloc: Global, text: &[u8], lines: &mut [u8]) -> ZarSaid
+    ensures { IsReply (Spells text.now) (SpellsNone text.now) NoNumbers
+        (λ p. IsTurnsLine p 0) (λ p. NoCode) lines.old lines.new result }
+{
+    match turns_of(alloc, text) {
         Ok(told) => written(told.bytes(), lines),
         Err(said) => said,
     }

@@ -3,8 +3,8 @@
 use crate::{
     DONE, MASS_REFUSED, NUMBERS_REFUSED, TEXT_REFUSED, ZarFound, ZarLimits, ZarRan, ZarRollLimits,
     zar_audit, zar_check, zar_code, zar_cost, zar_cost_in_the_limit, zar_draws, zar_draws_in_a_row,
-    zar_enclose, zar_explain, zar_hunt, zar_mass, zar_posterior, zar_roll, zar_rounds_in_the_limit,
-    zar_run, zar_show, zar_tally, zar_version,
+    zar_draws_in_the_limit, zar_enclose, zar_explain, zar_hunt, zar_mass, zar_posterior, zar_roll,
+    zar_rounds_in_the_limit, zar_run, zar_show, zar_tally, zar_turns_in_the_limit, zar_version,
 };
 use std::test::Fail;
 
@@ -248,6 +248,13 @@ fn tells_lines(rt: HostRuntime) -> Result<(), Fail> {
     );
     assert_eq!(rt; said.length, 11);
     assert_eq!(rt; lines[..11], *b"rounds 4/3\n".as_slice());
+    let loops = b"while x = 0 { x ~ uniform(2); y ~ uniform(2); } return x;";
+    let said = zar_draws_in_the_limit(rt.alloc(), loops, &mut lines);
+    assert_eq!(rt; said.length, 10);
+    assert_eq!(rt; lines[..10], *b"draws 4/1\n".as_slice());
+    let said = zar_turns_in_the_limit(rt.alloc(), loops, &mut lines);
+    assert_eq!(rt; said.length, 10);
+    assert_eq!(rt; lines[..10], *b"turns 2/1\n".as_slice());
     Ok(())
 }
 

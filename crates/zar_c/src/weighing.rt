@@ -11,9 +11,9 @@ ghost use Rattle.mass_lines.specs.BoundLines.{AreBoundLines};
 ghost use Rattle.mass_lines.specs.EnclosedLines.{AreEnclosedLines};
 ghost use Rattle.mass_lines.specs.ExactLines.{AreExactLines};
 ghost use Rattle.mass_lines.specs.ExpectedLines.{IsExpectedLine};
-ghost use Rattle.mass_lines.specs.HowLongLines.{IsRoundsLine};
+ghost use Rattle.mass_lines.specs.HowLongLines.{IsRoundsLine, IsDrawsLine, IsTurnsLine};
 ghost use Rattle.mass_lines.specs.MassLines.{AreMassLines};
-ghost use Rattle.mass_lines.specs.Reasons.{WhyNoBits, WhyNoBounds, WhyNoMasses, WhyNotEnclosed, WhyNotExact, WhyNotExpected};
+ghost use Rattle.mass_lines.specs.Reasons.{NoCode, WhyNoBits, WhyNoBounds, WhyNoMasses, WhyNotEnclosed, WhyNotExact, WhyNotExpected};
 ghost use Rattle.zar_c.specs.Masses.{CanWeigh, limit_of};
 ghost use Rattle.zar_c.specs.inner.Refusing.{IsToldReason, IsRefusal};
 
@@ -25,8 +25,8 @@ use gcl_parse::one_reading;
 use gcl_print::Text;
 use gcl_text::check_text;
 use mass_lines::{
-    Reason, bits_text, bounds_text, enclosed_text, exact_text, expected_text, masses_text,
-    rounds_text,
+    Reason, bits_text, bounds_text, draws_text, enclosed_text, exact_text, expected_text,
+    masses_text, rounds_text, turns_text,
 };
 use report_text::Decimals;
 use std::alloc::Global;
@@ -203,6 +203,40 @@ pub(crate) fn rounds_of(alloc: Global, text: &[u8]) -> Result<Text, ZarSaid>
         Err(refusal) => return Err(refused(refusal)),
     };
     match rounds_text(alloc, &program, Decimals::none()) {
+        Ok(lines) => Ok(lines),
+        Err(why) => Err(told(why)),
+    }
+}
+
+// The line of the draws that they make where nothing is limited.
+pub(crate) fn draws_of(alloc: Global, text: &[u8]) -> Result<Text, ZarSaid>
+    ensures lines { IfOk result (λ lines. (p : SourceProgram) → Spells text.now p → IsDrawsLine p 0 lines) }
+    ensures there { IfOk result (λ _. (p : SourceProgram) × Spells text.now p) }
+    ensures refused { IfErr result (IsRefusal (Spells text.now) (SpellsNone text.now) (λ p. NoCode)) }
+{
+    one_reading();
+    let program = match check_text(alloc, text) {
+        Ok(program) => program,
+        Err(refusal) => return Err(refused(refusal)),
+    };
+    match draws_text(alloc, &program, Decimals::none()) {
+        Ok(lines) => Ok(lines),
+        Err(why) => Err(told(why)),
+    }
+}
+
+// The line of the turns of loops that they make where nothing is limited.
+pub(crate) fn turns_of(alloc: Global, text: &[u8]) -> Result<Text, ZarSaid>
+    ensures lines { IfOk result (λ lines. (p : SourceProgram) → Spells text.now p → IsTurnsLine p 0 lines) }
+    ensures there { IfOk result (λ _. (p : SourceProgram) × Spells text.now p) }
+    ensures refused { IfErr result (IsRefusal (Spells text.now) (SpellsNone text.now) (λ p. NoCode)) }
+{
+    one_reading();
+    let program = match check_text(alloc, text) {
+        Ok(program) => program,
+        Err(refusal) => return Err(refused(refusal)),
+    };
+    match turns_text(alloc, &program, Decimals::none()) {
         Ok(lines) => Ok(lines),
         Err(why) => Err(told(why)),
     }

@@ -93,7 +93,8 @@ pub enum Work {
     Mass(u64, Option<u64>, Option<u64>, Decimals),
     /// How many bits a run reads on average, under limits or where nothing is limited.
     Cost(Option<Limits>, Decimals),
-    /// How many bits a run reads on average and how many rounds it begins, where nothing is limited.
+    /// How many bits a run reads on average, how many rounds it begins, and how many draws and turns of loops it makes, where nothing is
+    /// limited.
     HowLong(Decimals),
     /// The bounds of each outcome for every greater limit of turns.
     Posterior(u64, Decimals),

@@ -79,7 +79,7 @@ const ALL_TURNS: Piece = (
 );
 
 const HOW_LONG: Piece = (
-    "--how-long    with the rounds that it begins; without limits\n",
+    "--how-long    with the rounds, the draws and the turns of loops; without limits\n",
     None,
 );
 
@@ -245,7 +245,7 @@ pub const COST: Page = (
     "zar cost FILE
     print how many bits a run reads on average where nothing is limited
 zar cost FILE --how-long
-    print how many rounds it begins, too
+    print how many rounds it begins, and how many draws and turns of loops it makes, too
 zar cost FILE --attempts N --rounds N
     print how many under limits, of turns too
 

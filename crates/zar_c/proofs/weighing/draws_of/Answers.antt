@@ -1,0 +1,20 @@
+use Rattle.std.proofs.Common.{subst}
+use Rattle.gcl_core.specs.meaning.Syntax.{SourceProgram}
+use Rattle.gcl_core.specs.meaning.Views.{source_of}
+use Rattle.mass_lines.specs.HowLongLines.{IsDrawsLine}
+use Rattle.mass_lines.specs.Reasons.{NoCode}
+use Rattle.zar_c.proofs.Refusing.{by_lines}
+use Rattle.zar_c.proofs.weighing.draws_of.Goals as goal
+
+pub returns-in-Ok-draws_text-clause-lines : goal.returns-in-Ok-draws_text-clause-lines
+returns-in-Ok-draws_text-clause-lines c = λ p spells.
+    let one = c.one_reading.ensures.checked c.args.text.now in
+    let same = one.one_program (source_of c.in-Ok.program) p c.in-Ok.ensures.spelled spells in
+    subst (λ d. IsDrawsLine p d c.in-Ok-draws_text.lines) c.none.ensures
+    (subst (λ (r : SourceProgram). IsDrawsLine r c.none.result c.in-Ok-draws_text.lines) same c.in-Ok-draws_text.ensures.line)
+
+pub returns-clause-refused : goal.returns-clause-refused
+returns-clause-refused c =
+    let text = c.args.text.now in
+    by_lines text (c.one_reading.ensures.checked text) (source_of c.in-Ok.program) c.in-Ok.ensures.spelled c.told.result (λ p. NoCode) c.in-Err-draws_text.why
+    c.told.ensures c.in-Err-draws_text.ensures.refused
