@@ -38,7 +38,7 @@ stopifnot(identical(zar_rounds(die)$exact, "2/1"), identical(zar_rounds("observe
 tossed <- "while x = 0 { x ~ uniform(2); y ~ uniform(2); } return x;"
 stopifnot(identical(zar_expected_draws(tossed)$exact, "4/1"), identical(zar_expected_turns(tossed)$turns, 2))
 stopifnot(identical(zar_expected_turns("while true { skip; } return 0;")$turns, Inf))
-many <- "while i < 16 { d ~ uniform(2); x := 2 * x + d; i := i + 1; } return x % 3;"
+many <- "x ~ uniform(400); while i < 200 { x := 399 - x; i := i + 1; } return x;"
 stopifnot(identical(zar_expected_draws(many), data.frame(exact = "unknown", draws = NA_real_)))
 
 # The runs on streams, counted and sought.

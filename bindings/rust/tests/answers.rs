@@ -4,7 +4,7 @@ use zar::{Bounds, Count, Die, Error, Fault, Fraction, Limit, Limits, Outcome, Pr
 
 const USUAL: Limits = Limits { budget: 65_536, turns: 1000, attempts: 1000, rounds: 1000 };
 const LOOP: &str = "x ~ uniform(2); while x = 1 { x ~ uniform(2); } return x;";
-const MANY: &str = "while i < 16 { d ~ uniform(2); x := 2 * x + d; i := i + 1; } return x % 3;";
+const MANY: &str = "x ~ uniform(400); while i < 200 { x := 399 - x; i := i + 1; } return x;";
 
 fn program(text: &str) -> Program {
     Program::new(text).unwrap()
