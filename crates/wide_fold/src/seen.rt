@@ -5,7 +5,6 @@ ghost use Rattle.std.specs.Prelude.{◌≡◌, IfOk};
 use crate::error::WideFoldError;
 use crate::settle::WideFound;
 use crate::table::WideTable;
-use crate::widened::copied;
 use exact_fold::finding::put;
 use mass_fold::{State, Table};
 use numbers::Frac;
@@ -65,13 +64,13 @@ impl WideFound {
             alloc,
             &mut self.visits,
             state.copy(alloc)?,
-            copied(alloc, weight)?,
+            weight.copy(alloc)?,
         )?;
         put_wide(
             alloc,
             &mut self.copy,
             state.copy(alloc)?,
-            copied(alloc, weight)?,
+            weight.copy(alloc)?,
         )
     }
 
