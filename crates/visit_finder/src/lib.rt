@@ -13,4 +13,6 @@ mod turns;
 mod wide;
 
 pub use error::FinderError;
+pub use primes::Prime;
+pub use residues::{Moduli, Residues};
 pub use turns::Turns;

@@ -64,9 +64,9 @@ impl Turns {
         Ok((sums, sources))
     }
 
-    // The states from which the loop is left with some weight: those from which a turn leads on with less than all, and those
-    // from which a turn leads to one of them.
-    fn leaving(&self, alloc: Global, states: u64) -> Result<BTreeMap<u64, bool>, FinderError> {
+    /// The states from which the loop is left with some weight: those from which a turn leads on with less than all, and those
+    /// from which a turn leads to one of them.
+    pub fn leaving(&self, alloc: Global, states: u64) -> Result<BTreeMap<u64, bool>, FinderError> {
         let (sums, mut sources) = self.sums_and_sources(alloc)?;
         let mut leaving = BTreeMap::new(alloc);
         let mut waiting = Vec::new(alloc);
@@ -96,9 +96,48 @@ impl Turns {
         Ok(leaving)
     }
 
-    // The visits of the states that may be left, by number, at these moduli.
-    fn visits_at(
+    // The part of each turn between states that may be left, at these moduli. Neighbours often have one denominator, and 1 over it
+    // is kept from one to the next.
+    fn parts_at(
         &self,
+        alloc: Global,
+        moduli: &mut Moduli,
+        leaving: &BTreeMap<u64, bool>,
+    ) -> Result<BTreeMap<(u64, u64), Residues>, FinderError> {
+        let mut parts = BTreeMap::new(alloc);
+        let mut den = 1;
+        let mut over = moduli.of_number(1);
+        for (from, to, weight) in &self.parts {
+            if leaving.contains_key(from) && leaving.contains_key(to) {
+                if weight.den() != den {
+                    den = weight.den();
+                    over = moduli.inverse(&moduli.of_number(den));
+                }
+                let part = moduli.product(&moduli.of_number(weight.num()), &over);
+                parts.insert((*from, *to), part)?;
+            }
+        }
+        Ok(parts)
+    }
+
+    /// The visits of the states that may be left, by number, at these moduli, where the loop is entered with these weights.
+    pub fn visits_at(
+        &self,
+        alloc: Global,
+        moduli: &mut Moduli,
+        entered: BTreeMap<u64, Residues>,
+        leaving: &BTreeMap<u64, bool>,
+    ) -> Result<BTreeMap<u64, Residues>, FinderError> {
+        let parts = self.parts_at(alloc, moduli, leaving)?;
+        let mut states = Vec::new(alloc);
+        for (number, _) in leaving {
+            states.push(*number)?;
+        }
+        solved(alloc, moduli, entered, &parts, &states)
+    }
+
+    // The weights with which the loop is entered in states that may be left, at these moduli.
+    fn entered_at(
         alloc: Global,
         moduli: &mut Moduli,
         entered: &Vec<(u64, Frac)>,
@@ -110,17 +149,7 @@ impl Turns {
                 begun.insert(*number, moduli.of(weight))?;
             }
         }
-        let mut parts = BTreeMap::new(alloc);
-        for (from, to, weight) in &self.parts {
-            if leaving.contains_key(from) && leaving.contains_key(to) {
-                parts.insert((*from, *to), moduli.of(weight))?;
-            }
-        }
-        let mut states = Vec::new(alloc);
-        for (number, _) in leaving {
-            states.push(*number)?;
-        }
-        solved(alloc, moduli, begun, &parts, &states)
+        Ok(begun)
     }
 
     /// The visits of the states below `states` from which the loop may be left, by number, where it is entered with these weights: at moduli
@@ -134,7 +163,8 @@ impl Turns {
         let leaving = self.leaving(alloc, states)?;
         let mut moduli = Moduli::first();
         for _ in 0..PRIMES.len() {
-            let visits = self.visits_at(alloc, &mut moduli, entered, &leaving)?;
+            let begun = Turns::entered_at(alloc, &mut moduli, entered, &leaving)?;
+            let visits = self.visits_at(alloc, &mut moduli, begun, &leaving)?;
             if moduli.hold() {
                 return fractions(alloc, &moduli, &visits);
             }

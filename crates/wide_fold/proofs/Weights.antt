@@ -1,5 +1,5 @@
 -- Weights in lowest terms, as rational numbers.
-use Rattle.std.proofs.Common.{◌≡◌, ℕ, zero, suc, ◌*◌, ◌≤◌, ◌<◌, Bool, true, false, cond, Ordering, [], ◌∷◌, ◌++◌, refl, sym, ap, ◌∙◌, subst, arith}
+use Rattle.std.proofs.Common.{◌≡◌, ℕ, zero, suc, ◌+◌, ◌*◌, ◌≤◌, ◌<◌, Bool, true, false, cond, Ordering, [], ◌∷◌, ◌++◌, refl, sym, ap, ◌∙◌, subst, arith}
 use Rattle.std.specs.Prelude.{◌==◌, nat_lt}
 use Rattle.std.specs.Ordering.{nat_cmp}
 use Rattle.std.specs.declared.cmp.Ordering.TheVariants.{Less, Equal, Greater}
@@ -10,7 +10,8 @@ use Rattle.gcl_core.specs.weighing.Fractions.{Fraction, plus, times}
 use Rattle.gcl_core.specs.weighing.WeightedEnds.{Weighted, scaled}
 use Rattle.numbers.specs.Fraction.{lowest}
 use Rattle.numbers.proofs.Divisors.{product_pos, lowest_in_lowest, lowest_equal, lowest_from}
-use Rattle.std.proofs.lemmas.Nat.Gcd.{dvd_refl}
+use Rattle.numbers.specs.Arithmetic.{InLowest}
+use Rattle.std.proofs.lemmas.Nat.Gcd.{dvd_refl, IsGcd-swap, IsGcd-from_zero}
 use Rattle.table_flow.proofs.Denominators.{weights_whole}
 use Rattle.table_flow.proofs.Positive.{weights_positive}
 use Rattle.table_flow.specs.Width.{weights}
@@ -56,6 +57,26 @@ no_weight f n d e p q =
     nothing a b zero (suc (suc d)) e p q = absurd (omega arith)
 
 -- ---- a weight, and another times w
+no_lowest : (n d : ℕ) → 0 < d → n ≡ 0 → lowest (n, d) ≡ (0, 1)
+no_lowest n d some none =
+    let zero_one = IsGcd-swap 1 0 1 (IsGcd-from_zero 1 0 refl) in
+    ap (λ k. lowest (k, d)) (let e : n ≡ d * 0 = omega (arith, none) in e) ∙ ap (λ k. lowest (d * 0, k)) (let e : d ≡ d * 1 = omega arith in e) ∙ lowest_from d 0 1 some (omega arith) zero_one
+
+-- 0 times w changes nothing
+pub no_times : (w f g : Fraction) → InLowest w → InLowest f → InLowest g → g.0 ≡ 0 → f ≡ with_times w f g
+no_times w f g lw lf lg none =
+    let pw = lw.positive in
+    let pf = lf.positive in
+    let pg = lg.positive in
+    let first = no_lowest g.0 g.1 (omega arith) none in
+    let second : lowest (times w (lowest g)) ≡ (0, 1) =
+    ap (λ q. lowest (times w q)) first ∙ no_lowest (w.0 * 0) (w.1 * 1) (omega arith) (omega arith) in
+    let third : lowest (plus f (0, 1)) ≡ f =
+    ap (λ n. lowest (n, f.1 * 1)) (let e : f.0 * 1 + 0 * f.1 ≡ 1 * f.0 = omega arith in e)
+    ∙ ap (λ d. lowest (1 * f.0, d)) (let e : f.1 * 1 ≡ 1 * f.1 = omega arith in e)
+    ∙ lowest_from 1 f.0 f.1 (omega arith) (omega arith) lf.coprime in
+    sym (ap (λ q. lowest (plus f q)) second ∙ third)
+
 module _ (w : Fraction) (some : 1 ≤ w.1) where
   pub times_some : (g : Fraction) → 1 ≤ g.1 → 1 ≤ (times w g).1
   times_some g h = let z = product_pos w.1 g.1 (omega arith) (omega arith) in omega arith

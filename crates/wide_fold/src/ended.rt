@@ -48,7 +48,8 @@ fn nothing(alloc: Global) -> Result<WideFraction, WideFoldError>
     Ok(WideFraction::of(alloc, &num, &den)?)
 }
 
-// The weight, and another times a fraction.
+// The weight, and another times a fraction, which often is 0.
+#[tactic(auto, using(crate::proofs::Weights::no_times))]
 fn more(
     alloc: Global,
     weight: &WideFraction,
@@ -57,6 +58,10 @@ fn more(
 ) -> Result<WideFraction, WideFoldError>
     ensures { IfOk result (λ v. v ≡ with_times times.now weight.now other.now) }
 {
+    if other.num() == 0 {
+        let _den = times.den();
+        return Ok(weight.copy(alloc)?);
+    }
     let part = widened(alloc, other)?;
     let added = product(alloc, times, &part)?;
     sum(alloc, weight, &added)

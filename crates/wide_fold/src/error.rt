@@ -50,7 +50,6 @@ impl From<VisitsError> for WideFoldError {
         match error {
             VisitsError::TooWide => WideFoldError::TooWide,
             VisitsError::OutOfMemory => WideFoldError::OutOfMemory,
-            VisitsError::NotLeft => WideFoldError::NotSettled,
         }
     }
 }

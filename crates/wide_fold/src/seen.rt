@@ -5,7 +5,6 @@ ghost use Rattle.std.specs.Prelude.{◌≡◌, IfOk};
 use crate::error::WideFoldError;
 use crate::settle::WideFound;
 use crate::table::WideTable;
-use crate::widened::{copied, widened};
 use exact_fold::finding::put;
 use mass_fold::{State, Table};
 use numbers::Frac;
@@ -65,13 +64,13 @@ impl WideFound {
             alloc,
             &mut self.visits,
             state.copy(alloc)?,
-            copied(alloc, weight)?,
+            weight.copy(alloc)?,
         )?;
         put_wide(
             alloc,
             &mut self.copy,
             state.copy(alloc)?,
-            copied(alloc, weight)?,
+            weight.copy(alloc)?,
         )
     }
 
@@ -122,13 +121,13 @@ impl Seen {
     pub fn lead(&mut self, alloc: Global, from: u64, table: &Table) -> Result<(), WideFoldError> {
         for (state, weight) in &table.states {
             let to = self.number(alloc, state)?;
-            self.turns.lead(alloc, from, to, widened(alloc, weight)?)?;
+            self.turns.lead(from, to, weight)?;
         }
         Ok(())
     }
 
     /// The visits of the states that may be left, and the states that are never left.
-    pub fn found(&mut self, alloc: Global, vars: u32) -> Result<WideFound, WideFoldError>
+    pub fn found(&self, alloc: Global, vars: u32) -> Result<WideFound, WideFoldError>
         ensures visits { IfOk result (λ f. f.visits.vars ≡ vars) }
         ensures closed { IfOk result (λ f. f.closed.vars ≡ vars) }
     {

@@ -1,17 +1,16 @@
 // Why no visits are found.
 
 use std::alloc::{AllocError, AllocFailed};
+use visit_finder::FinderError;
 use wide_numbers::WideError;
 
 /// Why no visits are found.
 #[derive(Clone, Copy, PartialEq, Eq, Debug)]
 pub enum VisitsError {
-    /// A number on the way has more than 4,096 bits.
+    /// A number has more than 4,096 bits, or a turn leads on with a weight of more than 128.
     TooWide,
     /// Memory ran out.
     OutOfMemory,
-    /// All weight of a state leads back to it.
-    NotLeft,
 }
 
 impl From<WideError> for VisitsError {
@@ -19,6 +18,15 @@ impl From<WideError> for VisitsError {
         match error {
             WideError::TooWide => VisitsError::TooWide,
             WideError::OutOfMemory => VisitsError::OutOfMemory,
+        }
+    }
+}
+
+impl From<FinderError> for VisitsError {
+    fn from(error: FinderError) -> Self {
+        match error {
+            FinderError::TooWide => VisitsError::TooWide,
+            FinderError::OutOfMemory => VisitsError::OutOfMemory,
         }
     }
 }

@@ -1,50 +1,41 @@
-// The visits of a loop by elimination of its states, one after the other. Nothing is promised of them.
+// The visits of a loop. Nothing is promised of them.
 
-use crate::equation::Equation;
 use crate::error::VisitsError;
-use crate::weights::{copied, is_part, sum};
+use crate::limbs::copied;
+use crate::places::{Places, is_at, sum_at};
+use numbers::Frac;
 use std::alloc::Global;
 use std::collections::BTreeMap;
+use visit_finder::{Moduli, Residues};
 use wide_numbers::WideFraction;
 
 /// With which weights a loop is entered, and where one turn leads from each of its states on which the guard holds. States are
 /// told by numbers.
 #[derive(Drop)]
 pub struct Turns {
-    equations: BTreeMap<u64, Equation>,
-    leads_on: BTreeMap<u64, WideFraction>,
+    entered: Vec<(u64, Entered)>,
+    turns: visit_finder::Turns,
 }
 
-// The visits, where each equation names states alone whose equations stand behind it.
-fn visits_by(
-    alloc: Global,
-    solved: Vec<(u64, Equation)>,
-) -> Result<BTreeMap<u64, WideFraction>, VisitsError> {
-    let mut visits = BTreeMap::new(alloc);
-    let mut left = solved;
-    for _ in 0..left.len() {
-        let Some((state, equation)) = left.pop() else {
-            break;
-        };
-        let weight = equation.value(alloc, &visits)?;
-        visits.insert(state, weight)?;
-    }
-    Ok(visits)
+// A weight with which a loop is entered, in limbs.
+#[derive(Drop)]
+struct Entered {
+    num: Vec<u64>,
+    den: Vec<u64>,
 }
+
+// How often five primes are tried: a sum of visits has two parts of 4,096 bits and a little more at most, which 27 times five primes
+// tell, and one more time shows that they do.
+const TRIES: usize = 30;
+
+// The primes lie above this number.
+const START: u64 = (1 << 62) + 1;
 
 impl Turns {
     pub fn none(alloc: Global) -> Turns {
         Turns {
-            equations: BTreeMap::new(alloc),
-            leads_on: BTreeMap::new(alloc),
-        }
-    }
-
-    // The equation of a state, which is taken out.
-    fn take(&mut self, alloc: Global, state: u64) -> Result<Equation, VisitsError> {
-        match self.equations.remove(&state) {
-            Some(equation) => Ok(equation),
-            None => Equation::none(alloc),
+            entered: Vec::new(alloc),
+            turns: visit_finder::Turns::none(alloc),
         }
     }
 
@@ -55,117 +46,65 @@ impl Turns {
         state: u64,
         weight: &WideFraction,
     ) -> Result<(), VisitsError> {
-        let mut equation = self.take(alloc, state)?;
-        equation.enter(alloc, weight)?;
-        self.equations.insert(state, equation)?;
-        Ok(())
-    }
-
-    // A turn from the state leads on with this weight too.
-    fn lead_on(
-        &mut self,
-        alloc: Global,
-        from: u64,
-        weight: &WideFraction,
-    ) -> Result<(), VisitsError> {
-        let all = match self.leads_on.get(&from) {
-            Some(old) => sum(alloc, old, weight)?,
-            None => copied(alloc, weight)?,
+        let weight = Entered {
+            num: copied(alloc, weight.num().limbs())?,
+            den: copied(alloc, weight.den().limbs())?,
         };
-        self.leads_on.insert(from, all)?;
+        self.entered.push((state, weight))?;
         Ok(())
     }
 
     /// One turn leads from one state to another with this weight.
-    pub fn lead(
-        &mut self,
-        alloc: Global,
-        from: u64,
-        to: u64,
-        weight: WideFraction,
-    ) -> Result<(), VisitsError> {
-        self.lead_on(alloc, from, &weight)?;
-        let mut equation = self.take(alloc, to)?;
-        equation.lead(alloc, from, weight)?;
-        self.equations.insert(to, equation)?;
+    pub fn lead(&mut self, from: u64, to: u64, weight: &Frac) -> Result<(), VisitsError> {
+        self.turns.lead(from, to, *weight)?;
         Ok(())
     }
 
-    // Whether a turn from the state leads out of the loop with some weight.
-    fn is_left(&self, state: u64) -> bool {
-        match self.leads_on.get(&state) {
-            Some(weight) => is_part(weight),
-            None => true,
-        }
-    }
-
-    // The states from which a turn leads to this one wait where they are new.
-    fn wait(
+    // The weights with which the loop is entered in states that may be left, at some primes.
+    fn entered_at(
         &self,
-        to: u64,
-        leaving: &mut BTreeMap<u64, bool>,
-        waiting: &mut Vec<u64>,
-    ) -> Result<(), VisitsError> {
-        if let Some(equation) = self.equations.get(&to) {
-            for (from, _) in &equation.parts {
-                if !leaving.contains_key(from) {
-                    leaving.insert(*from, true)?;
-                    waiting.push(*from)?;
-                }
-            }
-        }
-        Ok(())
-    }
-
-    // The states from which the loop is left with some weight: those from which a turn leads out, and those from which one leads
-    // to one of them.
-    fn leaving(&self, alloc: Global, states: u64) -> Result<BTreeMap<u64, bool>, VisitsError> {
-        let mut leaving = BTreeMap::new(alloc);
-        let mut waiting = Vec::new(alloc);
-        for state in 0..states {
-            if self.is_left(state) {
-                leaving.insert(state, true)?;
-                waiting.push(state)?;
-            }
-        }
-        for _ in 0..states {
-            let Some(to) = waiting.pop() else {
-                break;
-            };
-            self.wait(to, &mut leaving, &mut waiting)?;
-        }
-        Ok(leaving)
-    }
-
-    // In the equations that are left the visits of a state are replaced by what is equal to them.
-    fn replace(
-        &mut self,
         alloc: Global,
-        state: u64,
-        equal: &Equation,
+        moduli: &mut Moduli,
         leaving: &BTreeMap<u64, bool>,
-    ) -> Result<(), VisitsError> {
-        for (other, _) in leaving {
-            if let Some(equation) = self.equations.get_mut(other) {
-                equation.replace(alloc, state, equal)?;
+    ) -> Result<BTreeMap<u64, Residues>, VisitsError> {
+        let mut entered = BTreeMap::new(alloc);
+        for (state, weight) in &self.entered {
+            if leaving.contains_key(state) {
+                let over = moduli.inverse(&moduli.of_limbs(&weight.den));
+                let part = moduli.product(&moduli.of_limbs(&weight.num), &over);
+                entered.insert(*state, part)?;
             }
         }
-        Ok(())
+        Ok(entered)
     }
 
-    /// The visits of the states below `states` from which the loop may be left, by number. The others are never left.
+    /// The visits of the states below `states` from which the loop may be left, by number. The others are never left. More primes
+    /// are taken until five of them find what those before have told; where one divides what is divided by, its five are left out.
     pub fn visits(
-        &mut self,
+        &self,
         alloc: Global,
         states: u64,
     ) -> Result<BTreeMap<u64, WideFraction>, VisitsError> {
-        let leaving = self.leaving(alloc, states)?;
-        let mut solved = Vec::new(alloc);
-        for (state, _) in &leaving {
-            let equation = self.take(alloc, *state)?.solved(alloc, *state)?;
-            self.replace(alloc, *state, &equation, &leaving)?;
-            solved.push((*state, equation))?;
+        let leaving = self.turns.leaving(alloc, states)?;
+        let mut places = Places::none(alloc);
+        let mut told = None;
+        let mut last = START;
+        for _ in 0..TRIES {
+            let mut moduli = Moduli::above(last).ok_or(VisitsError::TooWide)?;
+            last = moduli.primes()[4].p;
+            let entered = self.entered_at(alloc, &mut moduli, &leaving)?;
+            let visits = self.turns.visits_at(alloc, &mut moduli, entered, &leaving)?;
+            if moduli.hold() {
+                let sum = sum_at(&moduli, &visits);
+                places.add(alloc, &moduli, visits, &sum)?;
+                if let Some(ratio) = &told {
+                    if is_at(ratio, &moduli, &sum) {
+                        return places.over(alloc, &ratio.den);
+                    }
+                }
+                told = places.sum(alloc)?;
+            }
         }
-        visits_by(alloc, solved)
+        Err(VisitsError::TooWide)
     }
 }
