@@ -1,4 +1,4 @@
 mod LongDivision
 mod Rounded
-mod Digits
+pub mod Digits
 pub mod RowByRow

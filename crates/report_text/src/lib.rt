@@ -21,7 +21,7 @@ mod version;
 
 pub use answers::{check_line, sample_line};
 pub use counts::{Count, number_line, tally_line};
-pub use decimals::{Decimals, MOST_DECIMALS, Rounding};
+pub use decimals::{Decimals, MOST_DECIMALS, Rounding, sign};
 pub use line::{LINE_BYTES, Line};
 pub use outcomes::key_line;
 pub use refusals::{Refusal, fault_line};

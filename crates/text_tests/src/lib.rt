@@ -25,3 +25,5 @@ mod printing;
 mod tokens;
 #[cfg(test)]
 mod weights;
+#[cfg(test)]
+mod wide_lines;
