@@ -32,7 +32,7 @@ WRONG = [("runs", "0"), ("runs", "100001"), ("turns", "x"), ("turns", "1001"), (
 # Some 10^5 steps a run: its masses are there at once, and 100,000 runs are not.
 LONG = "c ~ uniform(2); x := 0; while x < 99 { y := 0; while y < 999 { y := y + 1; } x := x + 1; } return c;"
 # Each mass has a denominator of 3^100, above 2^128.
-WIDE = "choice 1/3 { x := x + 1; } or { skip; }\n" * 100 + "return x;"
+WIDE = "choice 1537228672809129301/4611686018427387847 { x := x + 1; } or { skip; }\n" * 70 + "return x;"
 MANY_STATES = "a ~ uniform(300); b ~ uniform(300); return (a + b) / 300;"
 
 

@@ -132,15 +132,15 @@ def in_a_row(pairs):
 
 
 def table(primes):
-    """Programs, each with what it is, and with how many of the primes are lost in it."""
+    """Programs in which one to four of the primes are lost, or none, each with what it is."""
     for p in primes:
         for make in (single, before_another, in_another):
-            yield f"{make.__name__} of {p}", make(p), 1
+            yield f"{make.__name__} of {p}", make(p)
     for few in itertools.combinations(primes, 2):
-        yield f"in one pivot: {few}", in_one_pivot(*few), 2
-    yield "apart: none", apart([NONE_LOST] * TAKEN), 0
-    yield "in a row: none", in_a_row([NONE_LOST] * TAKEN), 0
+        yield f"in one pivot: {few}", in_one_pivot(*few)
+    yield "apart: none", apart([NONE_LOST] * TAKEN)
+    yield "in a row: none", in_a_row([NONE_LOST] * TAKEN)
     for few in (*itertools.combinations(primes, 3), primes[:4]):
         pairs = [*map(weights, few), NONE_LOST]
-        yield f"apart: {few}", apart(pairs), len(few)
-        yield f"in a row: {few}", in_a_row(pairs), len(few)
+        yield f"apart: {few}", apart(pairs)
+        yield f"in a row: {few}", in_a_row(pairs)

@@ -1,1 +1,2 @@
 pub mod NarrowRows
+mod NarrowLines

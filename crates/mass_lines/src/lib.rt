@@ -3,7 +3,7 @@
 //!
 //! Proved: `masses_text` gives the lines of exactly the masses above 0, and `exact_text`, `bounds_text`, `enclosed_text`,
 //! `bits_text`, `expected_text`, `rounds_text`, `draws_text`, `turns_text` and `how_long_text` those of what they are named for, outcomes
-//! ascending and no fraction wider than 128 bits, with the decimals that are wanted (`lines`, `line`). Each is refused only by a code
+//! ascending and no fraction wider than 128 bits, but for `exact_text`, with the decimals that are wanted (`lines`, `line`). Each is refused only by a code
 //! whose cause holds (`refused`): of `exact_text`, `expected_text`, `rounds_text` and `how_long_text` that is little where runs go on for
 //! more than 256 turns, as `exact_fold` and `bits_fold` say. `draws_text` and `turns_text` are refused by no code: where their count is
 //! not found the line says `unknown`.

@@ -7,10 +7,11 @@ ghost use Rattle.gcl_core.specs.weighing.Fractions.{Fraction};
 ghost use Rattle.report_text.specs.Lines.{cost_text};
 ghost use Rattle.mass_lines.specs.Narrow.{IsNarrow};
 ghost use Rattle.mass_lines.specs.BoundLines.{bound_rows_text, bound_lines};
-ghost use Rattle.mass_lines.specs.ExactLines.{exact_lines};
+ghost use Rattle.mass_lines.specs.ExactLines.{exact_rows_text, exact_lines};
 ghost use Rattle.mass_lines.specs.ExpectedLines.{IsCountLine, count_text, unbounded_count_text};
 ghost use Rattle.mass_lines.specs.HowLongLines.{unknown_count_text};
 ghost use Rattle.mass_lines.specs.MassLines.{mass_rows_text};
+ghost use Rattle.wide_masses.specs.Masses.{rows_of, endless_of};
 
 use crate::narrow::is_narrow;
 use bits_fold::Count;
@@ -23,6 +24,8 @@ use report_text::{
     Decimals, bound_line, cost_line, endless_line, mass_line, other_line, unbounded_line,
 };
 use std::alloc::{AllocError, Global};
+use wide_masses::{Masses, WideMasses, WideRows};
+use wide_text::narrow_lines;
 
 // The word in front of an expected number of bits.
 pub(crate) const BITS: &[u8] = b"bits";
@@ -81,16 +84,15 @@ pub(crate) fn bound_lines(
     Ok(text)
 }
 
-// The lines of masses where nothing is limited. An error comes only where memory runs out.
-pub(crate) fn exact_lines(
+// The lines of masses where nothing is limited, in fractions of 128 bits. An error comes only where memory runs out.
+fn narrow_exact_lines(
     alloc: Global,
     masses: &ExactMasses,
     decimals: Decimals,
 ) -> Result<Text, AllocError>
-    ensures lines { IfOk result (λ text. text ≡ exact_lines decimals masses.now.rows masses.now.endless) }
-    ensures narrow { IfOk result (λ _. All (λ row. IsNarrow row.1) masses.now.rows) }
-    ensures narrow_endless { IsNarrow masses.now.endless }
+    ensures { IfOk result (λ text. text ≡ exact_lines decimals masses.now.rows masses.now.endless) }
 {
+    narrow_lines();
     is_narrow(&masses.endless);
     let mut text = mass_rows_text(alloc, &masses.rows, decimals)?;
     if masses.endless.num() == 0 {
@@ -98,6 +100,49 @@ pub(crate) fn exact_lines(
     }
     text.push(endless_line(&masses.endless, decimals).bytes())?;
     Ok(text)
+}
+
+// The lines of wide masses.
+#[tactic(auto, using(report_text::proofs::RowByRow::rows_end))]
+fn wide_rows_text(alloc: Global, rows: &WideRows, decimals: Decimals) -> Result<Text, AllocError>
+    ensures { IfOk result (λ text. text ≡ exact_rows_text decimals rows.now) }
+{
+    let mut text = Text::new(alloc);
+    for i in 0..rows.count() {
+        let row = rows.get(i);
+        text.push(wide_text::mass_line(alloc, &row.0, &row.1, decimals)?.bytes())?;
+    }
+    Ok(text)
+}
+
+// Those in wide fractions, likewise.
+fn wide_exact_lines(
+    alloc: Global,
+    masses: &WideMasses,
+    decimals: Decimals,
+) -> Result<Text, AllocError>
+    ensures { IfOk result (λ text. text ≡ exact_lines decimals masses.now.rows masses.now.endless) }
+{
+    let mut text = wide_rows_text(alloc, &masses.rows, decimals)?;
+    if masses.endless.num().is_zero() {
+        return Ok(text);
+    }
+    text.push(wide_text::endless_line(alloc, &masses.endless, decimals)?.bytes())?;
+    Ok(text)
+}
+
+// The lines of masses where nothing is limited. An error comes only where memory runs out.
+pub(crate) fn exact_lines(
+    alloc: Global,
+    masses: &Masses,
+    decimals: Decimals,
+) -> Result<Text, AllocError>
+    ensures { IfOk result (λ text. text ≡ exact_lines decimals (rows_of masses.now) (endless_of masses.now)) }
+{
+    match masses {
+        Masses::Narrow(masses) => narrow_exact_lines(alloc, masses, decimals),
+        Masses::Wide(masses) => wide_exact_lines(alloc, masses, decimals),
+    }
 }
 
 // The line of an expected number of bits. An error comes only where memory runs out.

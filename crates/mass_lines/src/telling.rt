@@ -23,13 +23,13 @@ use crate::rows::{
 use bits_fold::{BitsError, Counted, cost_in_the_limit, count_in_the_limit, rounds_in_the_limit};
 use cost_fold::cost;
 use enclose_fold::enclose;
-use exact_fold::exact;
 use gcl_core::{Checked, Limits};
 use gcl_print::Text;
 use mass_fold::mass;
 use posterior_bounds::bounds;
 use report_text::Decimals;
 use std::alloc::Global;
+use wide_masses::exact;
 
 // The words in front of what else is counted.
 const ROUNDS: &[u8] = b"rounds";
