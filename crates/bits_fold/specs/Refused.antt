@@ -5,9 +5,9 @@ use Rattle.gcl_core.specs.meaning.Draw.{last_end}
 use Rattle.gcl_core.specs.meaning.Syntax.{SourceProgram}
 use Rattle.gcl_core.specs.weighing.Fractions.{Fraction}
 use Rattle.gcl_core.specs.weighing.WeightedEnds.{class_weight}
-use Rattle.table_flow.specs.Reached.{ReachedDraws, draws_of}
+use Rattle.table_flow.specs.Reached.{draws_of}
 use Rattle.table_flow.specs.Scale.{whole}
-use Rattle.table_flow.specs.Tables.{peak_of}
+use Rattle.table_flow.specs.Tables.{peak_of, ReachedDraws}
 use Rattle.table_flow.specs.Width.{round_width, common_denominator}
 use Rattle.mass_fold.specs.declared.table.TheConstants.{MOST_STATES}
 use Rattle.forgetting.specs.Forgetful.{forgetful_of}

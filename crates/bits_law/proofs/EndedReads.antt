@@ -13,8 +13,8 @@ use Rattle.gcl_core.specs.meaning.Value.{State, Value, value_of}
 use Rattle.gcl_core.specs.weighing.Fractions.{Fraction, zero_share, plus}
 use Rattle.gcl_core.specs.weighing.WeightedEnds.{Weighted, scaled, class_weight}
 use Rattle.gcl_core.proofs.PartialSums.{last_is}
-use Rattle.table_flow.specs.Tables.{Table, holds, fails, only, faults, all_end, loop_flow, statement_flow, block_flow, arms_flow}
-use Rattle.table_flow.specs.Reached.{ReachedDraws, drawn_each, drawn_bound, loop_draws, statement_draws, block_draws, arms_draws}
+use Rattle.table_flow.specs.Tables.{Table, holds, fails, only, faults, all_end, loop_flow, statement_flow, block_flow, arms_flow, ReachedDraws}
+use Rattle.table_flow.specs.Reached.{drawn_each, drawn_bound, loop_draws, statement_draws, block_draws, arms_draws}
 use Rattle.table_flow.proofs.Positive.{Positive, p_append, p_scaled, p_only, p_one, p_all, p_arms}
 use Rattle.table_flow.proofs.Spreads.{sum_of_all, Zero, sum_append}
 use Rattle.weighing_law.proofs.Shares.{product_pos}
@@ -58,12 +58,12 @@ module _ (n : ℕ) (v : State → Value) (a : Statements) where
   -- ---- the draws of all turns are those of the visits
   module _ (R : State → Rational) (body : (J : Table) → Positive J → integral cost (block_draws n None a J) ≃ integral R J) (keeps : (J : Table) → Positive J → Positive (block_flow n None a J).next) where
     turns_draw : (t : ℕ) (J : Table) → Positive J → Suffice (loop_from t J) →
-        integral cost (loop_draws v (block_draws n None a) (block_flow n None a) t J) ≃ integral R (only (holds v) (visits n v a t J))
+        integral cost (loop_draws v (block_flow n None a) t J) ≃ integral R (only (holds v) (visits n v a t J))
     turns_draw zero J h suffice = same_sym (none_counts R (only (holds v) J) (let b = sum_append out_of_turns (faults v J) (all_end (limit Turns) (only (holds v) J)) in omega arith))
     turns_draw (suc t) J h suffice =
         let A = only (holds v) J in
         let p = p_only (holds v) J h in
-        same_trans (integral_append cost (block_draws n None a A) (loop_draws v (block_draws n None a) (block_flow n None a) t (turn J)))
+        same_trans (integral_append cost (block_draws n None a A) (loop_draws v (block_flow n None a) t (turn J)))
         (same_trans (add_same (body A p) (turns_draw t (turn J) (keeps A p) (later_suffice t J suffice)))
         (same_trans (same_sym (integral_append R A (only (holds v) (visits n v a t (turn J))))) (as_one A (only (holds v) (visits n v a t (turn J))) (only (holds v) (J ++ visits n v a t (turn J))) (only_append (holds v) J (visits n v a t (turn J))))))
       where

@@ -12,9 +12,10 @@ use Rattle.gcl_core.specs.meaning.Value.{State, Value, value_of}
 use Rattle.gcl_core.specs.weighing.Fractions.{Fraction, zero_share}
 use Rattle.gcl_core.specs.weighing.WeightedEnds.{scaled, class_weight, statement_weighted}
 use Rattle.gcl_core.proofs.PartialSums.{last_is}
-use Rattle.table_flow.specs.Tables.{Table, holds, fails, only, loop_flow, statement_flow, block_flow, arms_flow}
-use Rattle.table_flow.specs.Reached.{ReachedDraws, drawn_each, drawn_bound, loop_draws, statement_draws, block_draws, arms_draws}
-use Rattle.table_flow.proofs.Positive.{Positive, p_scaled, p_only, p_one, p_all}
+use Rattle.table_flow.specs.Tables.{Table, holds, fails, only, loop_flow, statement_flow, block_flow, arms_flow, ReachedDraws}
+use Rattle.table_flow.specs.Reached.{drawn_each, drawn_bound, loop_draws, statement_draws, block_draws, arms_draws}
+use Rattle.table_flow.proofs.Positive.{Positive, p_scaled, p_only, p_one, p_all, IsPositiveDraw}
+use Rattle.table_flow.proofs.EachMember.{Each}
 use Rattle.unlimited_law.proofs.Numbers.{Rational, ◌⊕◌, ◌⊗◌, ◌≃◌, nought, same_refl, same_sym, same_trans, add_same, add_assoc, add_turned, nought_add, add_nought}
 use Rattle.unlimited_law.proofs.FractionNumbers.{of, of_zero}
 use Rattle.unlimited_law.proofs.FreeBlocks.{alike_itself}
@@ -23,64 +24,22 @@ use Rattle.unlimited_law.proofs.Integrals.{integral, integral_append, integral_s
 use Rattle.bits_law.specs.Draws.{bits_of_draw, bits_of_draws}
 use Rattle.bits_law.specs.Reading.{Comes}
 use Rattle.bits_law.proofs.Readers.{Reads, end_reads, then_reads, loop_reads, statement_reads, block_reads}
-use Rattle.bits_law.proofs.TableReads.{guard_reads, alone, alone_after, skip_is, set_is, observe_is, Counted, average_is, each_counted, each_is, bound_counted, bound_reads, bound_some, bound_is, uniform_is, sides_are, arms_read, choose_is}
+use Rattle.bits_law.proofs.TableReads.{guard_reads, alone, alone_after, skip_is, set_is, observe_is, Counted, average_is, each_counted, each_is, bound_counted, bound_reads, bound_some, bound_is, uniform_is, sides_are, arms_read, choose_is, draw_some}
 use Rattle.bits_law.specs.Price.{bits_price}
 
 abbrev pub cost : List ℕ → Rational
 cost ends = of (bits_of_draw None ends)
 
 -- ---- draws that count
-pub counted_both : (D E : ReachedDraws) → Counted (bits_of_draw None) D → Counted (bits_of_draw None) E → Counted (bits_of_draw None) (D ++ E)
-counted_both [] E h k = k
-counted_both (e ∷ D) E h k = (h.0, h.1, counted_both D E h.2 k)
+counted_draws : (D : ReachedDraws) → Each IsPositiveDraw D → Counted (bits_of_draw None) D
+counted_draws [] h = tt
+counted_draws (d ∷ D) h = (h.0.0, draw_some bits_price d.1 h.0.1, counted_draws D h.1)
 
-module _ (n : ℕ) where
-  abbrev AreCounted : ReachedDraws → Type 0
-  AreCounted D = Counted (bits_of_draw None) D
+pub statement_counted : (n : ℕ) (st : Statement) → StatementIsWeighed st → (I : Table) → Positive I → Counted (bits_of_draw None) (statement_draws n None st I)
+statement_counted n st w I h = counted_draws (statement_draws n None st I) (p_one n None st I w h).reached
 
-  loop_counted : (v : State → Value) (a : Statements) → BlockIsWeighed a → ((I : Table) → Positive I → AreCounted (block_draws n None a I)) → (t : ℕ) (I : Table) → Positive I →
-      AreCounted (loop_draws v (block_draws n None a) (block_flow n None a) t I)
-  loop_counted v a w body zero I h = tt
-  loop_counted v a w body (suc t) I h =
-      let A = only (holds v) I in
-      let p = p_only (holds v) I h in
-      counted_both (block_draws n None a A) (loop_draws v (block_draws n None a) (block_flow n None a) t (block_flow n None a A).next) (body A p) (loop_counted v a w body t (block_flow n None a A).next (p_all n None a A w p).next)
-
-  mutual
-    pub statement_counted : (st : Statement) → StatementIsWeighed st → (I : Table) → Positive I → AreCounted (statement_draws n None st I)
-    statement_counted Skip w I h = tt
-    statement_counted (Set x e) w I h = tt
-    statement_counted (Observe e) w I h = tt
-    statement_counted (Uniform x e) w I h = bound_counted bits_price (value_of e) I h
-    statement_counted (If e a c) w I h =
-        let A = only (holds (value_of e)) I in
-        let C = only (fails (value_of e)) I in
-        counted_both (block_draws n None a A) (block_draws n None c C) (block_counted a w.0 A (p_only (holds (value_of e)) I h)) (block_counted c w.1 C (p_only (fails (value_of e)) I h))
-    statement_counted (Choice p a c) w I h =
-        let A = scaled (class_weight p.den None p.num) I in
-        let C = scaled (class_weight p.den None (p.den - p.num)) I in
-        let some : 0 < p.den = let z = w.0.positive in omega arith in
-        counted_both (drawn_each (choice_ends p) I) (block_draws n None a A ++ block_draws n None c C) (each_counted bits_price (choice_ends p) some I h)
-        (counted_both (block_draws n None a A) (block_draws n None c C) (block_counted a w.1 A (p_scaled (class_weight p.den None p.num) I some h)) (block_counted c w.2 C (p_scaled (class_weight p.den None (p.den - p.num)) I some h)))
-    statement_counted (Choose arms) w I h =
-        let b = sum (parts_of arms) in
-        let ends = partial_sums (parts_of arms) in
-        let some : 0 < b = let z = w.0.positive in omega arith in
-        let last : 0 < last_end ends = let e = last_is (parts_of arms) in omega arith in
-        counted_both (drawn_each ends I) (arms_draws n None b arms I) (each_counted bits_price ends last I h) (arms_counted b some arms w.1 I h)
-    statement_counted (While e a) w I h = loop_counted (value_of e) a w (block_counted a w) n I h
-
-    pub block_counted : (b : Statements) → BlockIsWeighed b → (I : Table) → Positive I → AreCounted (block_draws n None b I)
-    block_counted done w I h = tt
-    block_counted (st ▸ b) w I h =
-        let f = statement_flow n None st I in
-        counted_both (statement_draws n None st I) (block_draws n None b f.next) (statement_counted st w.0 I h) (block_counted b w.1 f.next (p_one n None st I w.0 h).next)
-
-    arms_counted : (b : ℕ) → 0 < b → (arms : ArmList) → ArmsAreWeighed arms → (I : Table) → Positive I → AreCounted (arms_draws n None b arms I)
-    arms_counted b some no_arm w I h = tt
-    arms_counted b some (arm p a arms) w I h =
-        let A = scaled (class_weight b None p) I in
-        counted_both (block_draws n None a A) (arms_draws n None b arms I) (block_counted a w.0 A (p_scaled (class_weight b None p) I some h)) (arms_counted b some arms w.1 I h)
+pub block_counted : (n : ℕ) (b : Statements) → BlockIsWeighed b → (I : Table) → Positive I → Counted (bits_of_draw None) (block_draws n None b I)
+block_counted n b w I h = counted_draws (block_draws n None b I) (p_all n None b I w h).reached
 
 -- ---- parts together
 pub draws_joined : (D E : ReachedDraws) (K L : Table) (F : State → Rational) →
@@ -104,7 +63,7 @@ module _ (n : ℕ) where
   ReadsDraws m I D K = (F : State → Rational) → integral (λ s. m s F) I ≃ integral cost D ⊕ integral F K
 
   loop_is : (v : State → Value) (a : Statements) → BlockIsWeighed a → ((I : Table) → Positive I → ReadsDraws (block_reads None n a) I (block_draws n None a I) (block_flow n None a I).next) → (t : ℕ) (I : Table) → Positive I →
-      ReadsDraws (loop_reads v (block_reads None n a) t) I (loop_draws v (block_draws n None a) (block_flow n None a) t I) (loop_flow v (block_flow n None a) t I).next
+      ReadsDraws (loop_reads v (block_reads None n a) t) I (loop_draws v (block_flow n None a) t I) (loop_flow v (block_flow n None a) t I).next
   loop_is v a w body zero I h F =
       same_trans (guard_reads v (λ s. end_reads (limit Turns)) (λ s. end_reads (on s)) F I) (add_same (integral_nought (only (holds v) I)) (same_refl (integral F (only (fails v) I))))
   loop_is v a w body (suc t) I h F =
@@ -114,7 +73,7 @@ module _ (n : ℕ) where
       let f = block_flow n None a A in
       let rest = loop_reads v (block_reads None n a) t in
       let D = block_draws n None a A in
-      let E = loop_draws v (block_draws n None a) (block_flow n None a) t f.next in
+      let E = loop_draws v (block_flow n None a) t f.next in
       let K = (loop_flow v (block_flow n None a) t f.next).next in
       let X = integral F K in
       let Y = integral F C in

@@ -1,8 +1,8 @@
 -- What a draw reads on average, by at most so many attempts or by as many as it takes.
 use Rattle.std.specs.Prelude.{ℕ, List, Option}
 use Rattle.gcl_core.specs.weighing.Fractions.{Fraction}
-use Rattle.table_flow.specs.Reached.{ReachedDraws}
 use Rattle.bits_law.specs.Price.{bits_price, price_of_draw, price_of_draws}
+use Rattle.table_flow.specs.Tables.{ReachedDraws}
 
 -- One attempt, over the probability that it is not rejected.
 abbrev pub bits_of_draw : Option ℕ → List ℕ → Fraction

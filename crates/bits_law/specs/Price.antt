@@ -5,7 +5,7 @@ use Rattle.std.specs.Prelude.{ℕ, ◌^◌, Bool, true, false, List, [], Option,
 use Rattle.gcl_core.specs.meaning.Draw.{last_end}
 use Rattle.gcl_core.specs.weighing.Fractions.{Fraction, times, power_sum, divided_by_rest}
 use Rattle.cost_law.specs.ExpectedBits.{undecided_from, number_bits, again_weight, on_average}
-use Rattle.table_flow.specs.Reached.{ReachedDraws}
+use Rattle.table_flow.specs.Tables.{ReachedDraws}
 
 -- what one attempt costs is said at the scale of 2 ^ k, for numbers of k bits
 pub record Price : Type 0 where

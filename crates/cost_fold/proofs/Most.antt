@@ -17,8 +17,8 @@ use Rattle.gcl_core.proofs.Classes.{bits_le}
 use Rattle.gcl_core.proofs.FittingValues.{value_fits}
 use Rattle.gcl_core.proofs.EqualClasses.{last_of_equal}
 use Rattle.cost_law.specs.ExpectedBits.{number_bits}
-use Rattle.table_flow.specs.Tables.{Table, weighted, fractions_kind, holds, fails, only, faults, loop_flow, statement_flow, block_flow, arms_flow}
-use Rattle.table_flow.specs.Reached.{ReachedDraws, drawn_each, drawn_bound, loop_draws, statement_draws, block_draws, arms_draws}
+use Rattle.table_flow.specs.Tables.{Table, weighted, fractions_kind, holds, fails, only, faults, loop_flow, statement_flow, block_flow, arms_flow, ReachedDraws}
+use Rattle.table_flow.specs.Reached.{drawn_each, drawn_bound, loop_draws, statement_draws, block_draws, arms_draws}
 use Rattle.table_flow.specs.Scale.{whole, amount, weight, Wholes, Within}
 use Rattle.table_flow.proofs.Amounts.{amount_append, both_first, both_second}
 use Rattle.table_flow.proofs.InsideFlows.{head_whole, first_inside, others_inside, turn_inside, turns_inside, side_first, side_second, choose_inside, first_arm, other_arms}
@@ -105,8 +105,8 @@ module _ (n r N L M : ℕ) where
       DrawsMost r N M (block_draws n (Some r) b I) (weight N I) (longest n r b)
 
   turns_most : (v : State → Value) (b : Statements) → BlockIsWeighed b → BlockFits b → BlockMost b → (t : ℕ) (I : Table) → Wholes N I → StatesFit I → Within N L (loop_flow v (block_flow n (Some r) b) t I) →
-      Priced (Some r) M (loop_draws v (block_draws n (Some r) b) (block_flow n (Some r) b) t I) →
-      DrawsMost r N M (loop_draws v (block_draws n (Some r) b) (block_flow n (Some r) b) t I) (weight N I) (t * longest n r b)
+      Priced (Some r) M (loop_draws v (block_flow n (Some r) b) t I) →
+      DrawsMost r N M (loop_draws v (block_flow n (Some r) b) t I) (weight N I) (t * longest n r b)
   turns_most v b w f h zero I wi a s k = none_most r N M (weight N I) (0 * longest n r b)
   turns_most v b w fit h (suc t) I wi a s k =
       let A = only (holds v) I in
@@ -114,7 +114,7 @@ module _ (n r N L M : ℕ) where
       let sf = turn_inside n (Some r) N L v b t I s in
       let sg = turns_inside n (Some r) N L v b t I s in
       let D = block_draws n (Some r) b A in
-      let E = loop_draws v (block_draws n (Some r) b) (block_flow n (Some r) b) t f.next in
+      let E = loop_draws v (block_flow n (Some r) b) t f.next in
       let guard = guard_weight N v I in
       let kept = kept_all n (Some r) N L b w A sf in
       let af = fit_only weighted (holds v) I a in

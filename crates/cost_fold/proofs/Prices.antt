@@ -7,12 +7,12 @@ use Rattle.gcl_core.specs.weighing.Fractions.{power_sum}
 use Rattle.gcl_core.specs.weighing.WeightedEnds.{class_weight}
 use Rattle.cost_law.specs.ExpectedBits.{number_bits, attempt_bits, again_weight, draw_bits}
 use Rattle.attempt_bits.proofs.Stretches.{by_numbers, undecided_most}
-use Rattle.table_flow.specs.Reached.{ReachedDraws}
 use Rattle.table_flow.specs.Scale.{whole, Whole}
 use Rattle.table_flow.proofs.Wholes.{whole_from}
 use Rattle.mass_fold.specs.Metering.{IsPriced, Priced, price}
 use Rattle.cost_fold.specs.Spread.{most_bits}
 use Rattle.numbers.proofs.Divisors.{cancel}
+use Rattle.table_flow.specs.Tables.{ReachedDraws}
 
 module _ (ends : List ℕ) where
   abbrev k : ℕ

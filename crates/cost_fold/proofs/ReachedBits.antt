@@ -22,8 +22,8 @@ use Rattle.cost_law.proofs.BlockCosts.{play_bits, play_block}
 use Rattle.cost_law.proofs.DrawBits.{draw_bits_pos}
 use Rattle.numbers.specs.Fraction.{IsEqual}
 use Rattle.numbers.proofs.Divisors.{product_pos, equal_trans}
-use Rattle.table_flow.specs.Tables.{Table, holds, fails, only, set_to, set_below, set_drawn, loop_flow, statement_flow, block_flow, arms_flow}
-use Rattle.table_flow.specs.Reached.{ReachedDraws, drawn_each, drawn_bound, loop_draws, statement_draws, block_draws, arms_draws}
+use Rattle.table_flow.specs.Tables.{Table, holds, fails, only, set_to, set_below, set_drawn, loop_flow, statement_flow, block_flow, arms_flow, ReachedDraws}
+use Rattle.table_flow.specs.Reached.{drawn_each, drawn_bound, loop_draws, statement_draws, block_draws, arms_draws}
 use Rattle.table_flow.proofs.DrawnLists.{all_on, draw_list}
 use Rattle.table_flow.proofs.WeightedParts.{value_weighted, uniform_weighted}
 use Rattle.table_flow.proofs.Draws.{class_pos, no_class_pos}
@@ -218,7 +218,7 @@ module _ (n r : ℕ) where
   none_same q e h = record { equal = rw e (omega arith); left = omega arith; right = h }
 
   loop_goes : (v : State → Value) (b : Statements) → BlockIsWeighed b → GoesBlock b → (t : ℕ) (I : Table) → Positive I → (more : State → Fraction) → ((s : State) → 0 < (more s).1) →
-      Goes (loop_draws v (block_draws n (Some r) b) (block_flow n (Some r) b) t I) (loop_flow v (block_flow n (Some r) b) t I).next more (on_average I (λ s. turns v b t s more))
+      Goes (loop_draws v (block_flow n (Some r) b) t I) (loop_flow v (block_flow n (Some r) b) t I).next more (on_average I (λ s. turns v b t s more))
   loop_goes v b w h zero I p more pm =
       let H = on_average (only (holds v) I) (λ s. zero_share) in
       let F = on_average (only (fails v) I) more in
@@ -233,7 +233,7 @@ module _ (n r : ℕ) where
       let pf = (p_all n (Some r) b A w pA).next in
       let rest = λ (s : State). turns v b t s more in
       let D = block_draws n (Some r) b A in
-      let E = loop_draws v (block_draws n (Some r) b) (block_flow n (Some r) b) t f.next in
+      let E = loop_draws v (block_flow n (Some r) b) t f.next in
       let M = (loop_flow v (block_flow n (Some r) b) t f.next).next in
       let first = λ (s : State). block_bits n r b s rest in
       let x = on_average A first in

@@ -5,7 +5,8 @@ use Rattle.gcl_core.specs.weighing.LongestReading.{longest}
 use Rattle.gcl_core.specs.weighing.Mass.{failed_mass}
 use Rattle.gcl_core.specs.meaning.Syntax.{SourceProgram}
 use Rattle.cost_law.specs.ExpectedBits.{number_bits}
-use Rattle.table_flow.specs.Reached.{ReachedDraws, draws_of}
+use Rattle.table_flow.specs.Reached.{draws_of}
+use Rattle.table_flow.specs.Tables.{ReachedDraws}
 use Rattle.table_flow.specs.Width.{denominator, round_width}
 
 -- the most bits that one of the draws reads by at most r attempts, or 0

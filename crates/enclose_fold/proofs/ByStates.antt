@@ -143,7 +143,7 @@ module _ (n : ℕ) (r : Option ℕ) where
   -- ---- a block from a table that is merged already
 
   abbrev pub from_merged : Statements → Units State → UnitFlow
-  from_merged done M = record { next = M; ended = []; tables = M ∷ []; draws = [] }
+  from_merged done M = record { next = M; ended = []; tables = M ∷ []; draws = []; reached = [] }
   from_merged (st ▸ b) M = from_table n r st b M
 
   as_merged : (b : Statements) (M : Units State) → IsMerged M → block_units down n r b M ≡ from_merged b M

@@ -60,10 +60,10 @@ module _ (n : ℕ) (r : Option ℕ) where
   from_table st b M =
       let f = statement_units down n r st M in
       let g = block_units down n r b f.next in
-      record { next = g.next; ended = f.ended ++ g.ended; tables = M ∷ (f.tables ++ g.tables); draws = f.draws ++ g.draws }
+      record { next = g.next; ended = f.ended ++ g.ended; tables = M ∷ (f.tables ++ g.tables); draws = f.draws ++ g.draws; reached = f.reached ++ g.reached }
 
   abbrev at_end : Units State → UnitFlow
-  at_end M = record { next = M; ended = []; tables = M ∷ []; draws = [] }
+  at_end M = record { next = M; ended = []; tables = M ∷ []; draws = []; reached = [] }
 
   -- what a block makes of a table is what it makes of the merged one
   pub block_of : (b : Statements) (J K : Units State) → merged J ≡ merged K → block_units down n r b J ≡ block_units down n r b K

@@ -54,7 +54,7 @@ stopped_unlimited ((w, failed) ∷ m) h = (tt, stopped_unlimited m h.1)
 stopped_unlimited ((w, fault f) ∷ m) h = (tt, stopped_unlimited m h.1)
 stopped_unlimited ((w, limit l) ∷ m) h = absurd h.0
 
-all_stop : KeepsEntries fractions_kind None StatementFree BlockFree ArmsFree Anything Anything IsStopped Anything
+all_stop : KeepsEntries fractions_kind None StatementFree BlockFree ArmsFree Anything Anything IsStopped Anything Anything
 all_stop = record {
   asked = record {
     block = λ st b h. h;
@@ -77,6 +77,7 @@ all_stop = record {
   class = λ b d c I h. each_anything (scaled (class_weight b None c) I);
   rest = λ b d I h. tt;
   shown = λ b d I h. each_anything (draws_each (draw_weights b None) I);
+  reached = λ ends d I h. each_anything (fractions_kind.reached ends I);
 }
 
 pub free_stopped : (n : ℕ) (b : Statements) → BlockFree b → (I : Table) → AreStopped (block_flow n None b I).ended

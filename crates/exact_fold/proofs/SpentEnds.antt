@@ -31,7 +31,7 @@ IsTurned (w, limit Rounds) = ⊥
 abbrev pub AreTurned : Weighted End → Type 0
 AreTurned = Each IsTurned
 
-all_turn : KeepsEntries fractions_kind None Anything Anything Anything Anything Anything IsTurned Anything
+all_turn : KeepsEntries fractions_kind None Anything Anything Anything Anything Anything IsTurned Anything Anything
 all_turn = record {
   asked = record {
     block = λ st b h. (tt, tt);
@@ -54,6 +54,7 @@ all_turn = record {
   class = λ b d c I h. each_anything (scaled (class_weight b None c) I);
   rest = λ b d I h. tt;
   shown = λ b d I h. each_anything (draws_each (draw_weights b None) I);
+  reached = λ ends d I h. each_anything (fractions_kind.reached ends I);
 }
 
 pub only_turns : (n : ℕ) (b : Statements) (I : Table) → AreTurned (block_flow n None b I).ended

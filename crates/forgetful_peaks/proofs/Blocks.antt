@@ -144,6 +144,7 @@ module _ (n : ℕ) (r : Option ℕ) (count : ℕ) where
           ended = (statement_flow n r (forgetful_statement count (Choose arms) F K) J).ended;
           tables = (arms_flow n r (sum ps) (forgetful_arms count arms (both M F) F K) J).tables;
           draws = (statement_flow n r (forgetful_statement count (Choose arms) F K) J).draws;
+          reached = (statement_flow n r (forgetful_statement count (Choose arms) F K) J).reached;
         })) (same_parts n count arms (both M F) F K) (record { next = g.next; few = g.few })
     statement_follows (While e b) F K I J a =
         let M = before_statement (While e b) K in

@@ -8,8 +8,8 @@ use Rattle.gcl_core.specs.meaning.Parts.{partial_sums}
 use Rattle.gcl_core.specs.meaning.Syntax.{Statement, Skip, Set, If, While, Choice, Choose, Uniform, Observe, Statements, done, ◌▸◌, ArmList, no_arm, arm}
 use Rattle.gcl_core.specs.meaning.Value.{State, Value, value_of}
 use Rattle.gcl_core.specs.weighing.WeightedEnds.{scaled, class_weight}
-use Rattle.table_flow.specs.Tables.{Table, holds, fails, only, faults, loop_flow, statement_flow, block_flow, arms_flow}
-use Rattle.table_flow.specs.Reached.{ReachedDraws, drawn_each, drawn_bound, loop_draws, statement_draws, block_draws, arms_draws}
+use Rattle.table_flow.specs.Tables.{Table, holds, fails, only, faults, loop_flow, statement_flow, block_flow, arms_flow, ReachedDraws}
+use Rattle.table_flow.specs.Reached.{drawn_each, drawn_bound, loop_draws, statement_draws, block_draws, arms_draws}
 use Rattle.table_flow.specs.Scale.{Wholes, Within}
 use Rattle.table_flow.proofs.Amounts.{both_first, both_second}
 use Rattle.table_flow.proofs.InsideFlows.{head_whole, first_inside, others_inside, turn_inside, turns_inside, side_first, side_second, choose_inside, first_arm, other_arms}
@@ -41,12 +41,12 @@ module _ (n : ℕ) (r : Option ℕ) (N L : ℕ) where
   abbrev BlockWhole : Statements → Type 0
   BlockWhole b = (I : Table) → Within N L (block_flow n r b I) → Wholes N (block_draws n r b I)
 
-  turns_whole : (v : State → Value) (b : Statements) → BlockWhole b → (t : ℕ) (I : Table) → Within N L (loop_flow v (block_flow n r b) t I) → Wholes N (loop_draws v (block_draws n r b) (block_flow n r b) t I)
+  turns_whole : (v : State → Value) (b : Statements) → BlockWhole b → (t : ℕ) (I : Table) → Within N L (loop_flow v (block_flow n r b) t I) → Wholes N (loop_draws v (block_flow n r b) t I)
   turns_whole v b h zero I s = tt
   turns_whole v b h (suc t) I s =
       let A = only (holds v) I in
       let J = (block_flow n r b A).next in
-      wholes_append N (block_draws n r b A) (loop_draws v (block_draws n r b) (block_flow n r b) t J) (h A (turn_inside n r N L v b t I s)) (turns_whole v b h t J (turns_inside n r N L v b t I s))
+      wholes_append N (block_draws n r b A) (loop_draws v (block_flow n r b) t J) (h A (turn_inside n r N L v b t I s)) (turns_whole v b h t J (turns_inside n r N L v b t I s))
 
   mutual
     one_whole : (st : Statement) (I : Table) → Wholes N I → Within N L (statement_flow n r st I) → Wholes N (statement_draws n r st I)

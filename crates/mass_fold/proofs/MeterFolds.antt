@@ -10,8 +10,8 @@ use Rattle.gcl_core.specs.meaning.Value.{State, Value, value_of}
 use Rattle.gcl_core.specs.meaning.Blocks.{by_value, by_bound}
 use Rattle.gcl_core.specs.meaning.Draw.{last_end, choice_ends, uniform_ends}
 use Rattle.gcl_core.proofs.EqualClasses.{last_of_equal}
-use Rattle.table_flow.specs.Tables.{Table, Flow, holds, fails, only, faults, statement_flow, block_flow}
-use Rattle.table_flow.specs.Reached.{ReachedDraws, drawn_each, drawn_bound, statement_draws, block_draws}
+use Rattle.table_flow.specs.Tables.{Table, Flow, holds, fails, only, faults, statement_flow, block_flow, ReachedDraws}
+use Rattle.table_flow.specs.Reached.{drawn_each, drawn_bound, statement_draws, block_draws}
 use Rattle.table_flow.specs.Scale.{amount, weight}
 use Rattle.table_flow.specs.Counts.{stopped, kept_if}
 use Rattle.table_flow.proofs.Amounts.{amount_append, both_first, both_second}
@@ -80,7 +80,7 @@ module _ (n : ℕ) (r : Option ℕ) where
   pub meters_empty : (st : Statement) (es : Entries) (E : Ended) (m : Meter) → StatementIsWeighed st → es ≡ [] → MetersOne r (statement_flow n r st) (statement_draws n r st) es E m m
   meters_empty st es E m ws e N M L I J Np Mp s t w k =
       let z : weight N I ≡ 0 = sym (s.same (λ s. 1)) ∙ ap (held N (λ s. 1)) e in
-      counted_as (N * M) 0 _ m m (sym (none_one n r N L (price r M) st I ws w.before w.inside z)) (counted_none (N * M) m)
+      counted_as (N * M) 0 _ m m (sym (none_one N Np n r L (price r M) st I w.before z)) (counted_none (N * M) m)
 
   -- ---- sequences, by what is left of them
   abbrev pub MetersOn : (Table → Flow) → (Table → ReachedDraws) → Statements → Entries → Ended → Meter → Entries → Ended → Meter → Type 0

@@ -5,12 +5,12 @@ use Rattle.gcl_core.specs.meaning.Bounds.{BlockIsWeighed}
 use Rattle.gcl_core.specs.meaning.Value.{value_of}
 use Rattle.gcl_core.specs.meaning.Blocks.{End}
 use Rattle.gcl_core.specs.weighing.WeightedEnds.{Weighted}
-use Rattle.table_flow.specs.Tables.{Table, Flow, holds, fails, only, faults, loop_flow, block_flow}
-use Rattle.table_flow.specs.Reached.{ReachedDraws, loop_draws, block_draws}
+use Rattle.table_flow.specs.Tables.{Table, Flow, holds, fails, only, faults, loop_flow, block_flow, ReachedDraws}
+use Rattle.table_flow.specs.Reached.{loop_draws, block_draws}
 use Rattle.table_flow.specs.Scale.{Within, amount, weight}
 use Rattle.table_flow.specs.Counts.{stopped, kept_if, none_stopped, all_kept}
 use Rattle.table_flow.proofs.Amounts.{amount_append}
-use Rattle.table_flow.proofs.NoneReached.{none_turns, none_all}
+use Rattle.table_flow.proofs.NoneReached.{none_turns}
 use Rattle.mass_fold.specs.declared.ended.Ended.{Ended}
 use Rattle.mass_fold.specs.declared.meter.Meter.{Meter}
 use Rattle.mass_fold.specs.Amounts.{held}
@@ -41,7 +41,7 @@ module _ (n : ℕ) (r : Option ℕ) (e : Expression) (b : Statements) (es : Entr
   turns t I = loop_flow (value_of e) (block_flow n r b) t I
 
   abbrev pub draws : ℕ → Table → ReachedDraws
-  draws t I = loop_draws (value_of e) (block_draws n r b) (block_flow n r b) t I
+  draws t I = loop_draws (value_of e) (block_flow n r b) t I
 
   pub meter_start : (exits : Entries) → exits ≡ [] → MetersLoop r turns draws n n es E es exits E m m
   meter_start exits p N M L I J Np Mp s t w k = record {
@@ -89,7 +89,7 @@ module _ (n : ℕ) (r : Option ℕ) (e : Expression) (b : Statements) (es : Entr
   meter_dry t now exits F mid wb q l N M L I J Np Mp s u w pr =
       let a = l N M L I J Np Mp s u w.inside pr in
       let z : weight N a.at.table ≡ 0 = sym (a.at.stands.same (λ s. 1)) ∙ ap (held N (λ s. 1)) q in
-      let none = none_turns n r N L (price r M) (value_of e) b wb (none_all n r N L (price r M) b wb) t a.at.table a.at.inside z in
+      let none = none_turns N Np n r L (price r M) (value_of e) b t a.at.table a.at.inside z in
       counted_as (N * M) a.many _ m mid (let y = a.all in omega arith) a.counted
 
   pub meter_end : (t : ℕ) (now exits : Entries) (F : Ended) (mid : Meter) → t ≡ 0 → MetersLoop r turns draws n t es E now exits F m mid → MetersOne r (turns n) (draws n) es E m mid

@@ -3,8 +3,8 @@ use Rattle.std.specs.Prelude.{ℕ, ◌*◌, List, [], ◌∷◌, Option}
 use Rattle.gcl_core.specs.meaning.Draw.{last_end}
 use Rattle.gcl_core.specs.weighing.WeightedEnds.{class_weight, no_class_weight}
 use Rattle.cost_law.specs.ExpectedBits.{attempt_bits}
-use Rattle.table_flow.specs.Reached.{ReachedDraws}
 use Rattle.table_flow.specs.Scale.{whole, Whole}
+use Rattle.table_flow.specs.Tables.{ReachedDraws}
 
 -- the weights of one number of a draw, and of none, are whole
 pub record IsPriced (r : Option ℕ) (M b : ℕ) : Type 0 where

@@ -77,7 +77,7 @@ module _ (low high : Rounding) (steer : Steering) (n : ℕ) (r : Option ℕ) (pa
   -- some states end
   moved_on : (weigh weigh' : Table → ℕ) (f : Scaled) (Xs : List Aside) (I : Table) (E : Weighted End) (h : Follows weigh f Xs I E) (a : Table → Table) (z : Table → Weighted End) (J : Pairs State) (Z : Pairs End) (Ts : List (Pairs State)) →
       Splits (a I) (a h.I1) (a h.I2) → Splits (z I) (z h.I1) (z h.I2) → Stands (of part R N) R (units f) f.scale.0 N J (a h.I1) → Stands (of part R N) R (units f) f.scale.0 N Z (z h.I1) → weigh' (a h.I2) + weight N (z h.I2) ≡ weigh h.I2 → All Few Ts →
-      Follows weigh' (gone_on (record { next = J; ended = Z; tables = Ts; draws = [] }) f) Xs (a I) (E ++ z I)
+      Follows weigh' (gone_on (record { next = J; ended = Z; tables = Ts; draws = []; reached = [] }) f) Xs (a I) (E ++ z I)
   moved_on weigh weigh' f Xs I E h a' z J Z Ts s t u v e few = record {
     whole = h.whole;
     fraction = h.fraction;
@@ -384,13 +384,13 @@ module _ (low high : Rounding) (steer : Steering) (n : ℕ) (r : Option ℕ) (pa
       (end_stands K c R a.order n r a.stands D S N L A (only (holds v) h.I1) (only_stands K c R a.order n r a.stands D S N L f.next h.I1 h.next_stands (holds v)) (limit Turns)))
       (last_weight _ _ _ _ _ (amount_append N (λ x. 1) (faults v h.I2) (all_end (limit Turns) (only (holds v) h.I2))) (all_end_weight N (limit Turns) (only (holds v) h.I2)) (guard_weight N v h.I2)) (All-nil Few) in
       same_tables (X ++ only (fails v) I) (E ++ z I)
-      (takes_back (gone_on (record { next = only_go counted_pairs (fails v) f.next; ended = F ++ end_go counted_pairs (limit Turns) A; tables = []; draws = [] }) f) X Xs (only (fails v) I) (E ++ z I) m)
+      (takes_back (gone_on (record { next = only_go counted_pairs (fails v) f.next; ended = F ++ end_go counted_pairs (limit Turns) A; tables = []; draws = []; reached = [] }) f) X Xs (only (fails v) I) (E ++ z I) m)
     where
       last_weight : (H F G t i : ℕ) → {z : ℕ} → z ≡ G + t → t ≡ H → H + (F + G) ≡ i → F + z ≡ i
       last_weight H F G t i p q s = omega arith
 
       -- no table was made
-      same_tables : (M : Table) (Z : Weighted End) → Follows W (taken_back (gone_on (record { next = only_go counted_pairs (fails v) f.next; ended = faults_go counted_pairs v f.next ++ end_go counted_pairs (limit Turns) (only_go counted_pairs (holds v) f.next); tables = []; draws = [] }) f)) Xs M Z →
+      same_tables : (M : Table) (Z : Weighted End) → Follows W (taken_back (gone_on (record { next = only_go counted_pairs (fails v) f.next; ended = faults_go counted_pairs v f.next ++ end_go counted_pairs (limit Turns) (only_go counted_pairs (holds v) f.next); tables = []; draws = []; reached = [] }) f)) Xs M Z →
           Follows W (loop_scaled steer v (λ f. f) zero f) Xs M Z
       same_tables M Z h =
           subst (λ t. Follows W (record {

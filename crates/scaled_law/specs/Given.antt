@@ -15,10 +15,10 @@ use Rattle.scaled_law.specs.Scaled.{Scaled}
 
 -- the units of what stands after a round and of what ended in it, at least and at most
 abbrev pub least_flow : Scaled → UnitFlow
-least_flow f = record { next = at_least f.next; ended = at_least f.ended; tables = []; draws = [] }
+least_flow f = record { next = at_least f.next; ended = at_least f.ended; tables = []; draws = []; reached = [] }
 
 abbrev pub most_flow : Scaled → UnitFlow
-most_flow f = record { next = at_most f.next; ended = at_most f.ended; tables = []; draws = [] }
+most_flow f = record { next = at_most f.next; ended = at_most f.ended; tables = []; draws = []; reached = [] }
 
 -- Of the outcomes that are meant, those that stay so at every greater limit of turns, and all that may become so: what ran out of turns
 -- may still come to any outcome.

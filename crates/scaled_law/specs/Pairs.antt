@@ -71,4 +71,5 @@ module _ (low high : Rounding) where
     class = class_pairs;
     rest = rest_pairs;
     shown = λ b r J. [];
+    reached = λ ends J. [];
   }

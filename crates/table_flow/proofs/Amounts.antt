@@ -104,4 +104,4 @@ regroup H N J x y =
     omega arith
 
 abbrev pub joined : Table → Flow → Flow → Flow
-joined I f g = record { next = g.next; ended = f.ended ++ g.ended; tables = I ∷ (f.tables ++ g.tables); draws = f.draws ++ g.draws }
+joined I f g = record { next = g.next; ended = f.ended ++ g.ended; tables = I ∷ (f.tables ++ g.tables); draws = f.draws ++ g.draws; reached = f.reached ++ g.reached }

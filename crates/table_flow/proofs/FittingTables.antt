@@ -44,7 +44,7 @@ module _ {X Y : Type 0} (k : Kind X Y) (keeps : KeepsStates k) where
   moved_fits : (e : X) (s : State) → state_fits s ≡ true → Fits k.entries (k.entries.moved_to s e)
   moved_fits e s h = subst (λ (t : State). state_fits t ≡ true) (sym (keeps.moved s e)) h
 
-  states_kept : (r : Option ℕ) → KeepsEntries k r StatementFits BlockFits ArmsFit Anything (Fits k.entries) Anything Anything
+  states_kept : (r : Option ℕ) → KeepsEntries k r StatementFits BlockFits ArmsFit Anything (Fits k.entries) Anything Anything Anything
   states_kept r = record {
     asked = record {
       block = λ st b f. f;
@@ -67,6 +67,7 @@ module _ {X Y : Type 0} (k : Kind X Y) (keeps : KeepsStates k) where
     class = λ b d. keeps.class b r;
     rest = λ b d J h. each_anything (end_go k.entries (limit Attempts) (k.rest b r J));
     shown = λ b d J h. each_anything (k.shown b r J);
+    reached = λ ends d J h. each_anything (k.reached ends J);
   }
 
   module _ (n : ℕ) (r : Option ℕ) where

@@ -92,7 +92,7 @@ spread_guard F v a c (e ∷ I) z = at_head (v e.1) refl (spread_guard F v a c I 
         by_zero false i = omega arith
 
 -- ---- what ended does not go on
-none_goes_on : (r : Option ℕ) → KeepsEntries fractions_kind r Anything Anything Anything Anything Anything IsOver Anything
+none_goes_on : (r : Option ℕ) → KeepsEntries fractions_kind r Anything Anything Anything Anything Anything IsOver Anything Anything
 none_goes_on r = record {
   asked = record {
     block = λ st b h. (tt, tt);
@@ -115,6 +115,7 @@ none_goes_on r = record {
   class = λ b d c I h. each_anything (scaled (class_weight b r c) I);
   rest = λ b d I h. end_keeps weighted Anything IsOver (limit Attempts) (λ e p. tt) (scaled (no_class_weight b r) I) (each_anything (scaled (no_class_weight b r) I));
   shown = λ b d I h. each_anything (draws_each (draw_weights b r) I);
+  reached = λ ends d I h. each_anything (fractions_kind.reached ends I);
 }
 
 pub no_one : (n : ℕ) (r : Option ℕ) (st : Statement) (I : Table) → NoOn (statement_flow n r st I).ended

@@ -1,20 +1,19 @@
 -- A table of no weight reaches draws of no weight.
-use Rattle.std.proofs.Common.{◌≡◌, ℕ, zero, suc, ◌*◌, ◌-◌, List, [], ◌∷◌, ◌++◌, Ok, Err, ℤ, pos, negsuc, Option, refl, ap, ◌∙◌, arith}
-use Rattle.std.specs.List.{sum}
-use Rattle.gcl_core.specs.meaning.Arms.{parts_of}
-use Rattle.gcl_core.specs.meaning.Parts.{partial_sums}
-use Rattle.gcl_core.specs.meaning.Syntax.{Statement, Skip, Set, If, While, Choice, Choose, Uniform, Observe, Statements, done, ◌▸◌, ArmList, no_arm, arm}
-use Rattle.gcl_core.specs.meaning.Bounds.{StatementIsWeighed, BlockIsWeighed, ArmsAreWeighed}
-use Rattle.gcl_core.specs.meaning.Value.{State, Value, value_of}
-use Rattle.gcl_core.specs.meaning.Blocks.{by_value, by_bound}
-use Rattle.gcl_core.specs.meaning.Draw.{choice_ends, uniform_ends}
-use Rattle.gcl_core.specs.weighing.WeightedEnds.{Weighted, scaled, class_weight}
-use Rattle.table_flow.specs.Tables.{Table, holds, fails, only, faults, loop_flow, statement_flow, block_flow, arms_flow}
-use Rattle.table_flow.specs.Reached.{drawn_each, drawn_bound, loop_draws, statement_draws, block_draws, arms_draws}
+use Rattle.std.proofs.Common.{◌≡◌, ℕ, zero, suc, ◌*◌, ◌/◌, ◌<◌, List, [], ◌∷◌, Ok, Err, ℤ, pos, negsuc, Option, refl, ap, ◌∙◌, arith}
+use native.Mathlib.Nat.{zero-div}
+use Rattle.gcl_core.specs.declared.answers.Limit.TheVariants.{Attempts}
+use Rattle.gcl_core.specs.meaning.Syntax.{Statement, Statements}
+use Rattle.gcl_core.specs.meaning.Value.{State, Value}
+use Rattle.gcl_core.specs.meaning.Blocks.{limit, by_value, by_bound}
+use Rattle.gcl_core.specs.meaning.Draw.{uniform_ends}
+use Rattle.gcl_core.specs.weighing.Fractions.{Fraction}
+use Rattle.gcl_core.specs.weighing.WeightedEnds.{Weighted, scaled, class_weight, no_class_weight}
+use Rattle.table_flow.specs.Tables.{Table, ReachedDraws, fractions_kind, all_end, draws_each, draw_weights, loop_flow, block_flow}
+use Rattle.table_flow.specs.Reached.{drawn_each, drawn_bound, loop_draws, statement_draws}
 use Rattle.table_flow.specs.Scale.{whole, amount, weight, Wholes, Within}
-use Rattle.table_flow.proofs.Amounts.{amount_append, both_first, both_second}
-use Rattle.table_flow.proofs.Kept.{guard_weight, sides_kept, arms_weight, arms_kept, kept_one, kept_all}
-use Rattle.table_flow.proofs.InsideFlows.{head_whole, first_inside, others_inside, turn_inside, turns_inside, side_first, side_second, choose_inside, first_arm, other_arms}
+use Rattle.table_flow.proofs.Amounts.{amount_append}
+use Rattle.table_flow.proofs.EachMember.{Each, Anything, each_anything}
+use Rattle.table_flow.proofs.KeptEntries.{KeepsEntries, loop_kept, statement_kept, block_kept}
 
 -- ---- what draws count, by the states that they are made from
 pub amount_drawn_each : (N : ℕ) (H : List ℕ → ℕ) (ends : List ℕ) (I : Table) → amount N H (drawn_each ends I) ≡ amount N (λ s. H ends) I
@@ -50,74 +49,74 @@ none_counts N G (e ∷ m) h =
     let y = ap (λ u. u * G e.1) z in
     omega arith
 
-module _ (n : ℕ) (r : Option ℕ) (N L : ℕ) (H : List ℕ → ℕ) where
-  pub none_turns : (v : State → Value) (b : Statements) → BlockIsWeighed b → ((I : Table) → Within N L (block_flow n r b I) → weight N I ≡ 0 → amount N H (block_draws n r b I) ≡ 0) → (t : ℕ) (J : Table) →
-      Within N L (loop_flow v (block_flow n r b) t J) → weight N J ≡ 0 → amount N H (loop_draws v (block_draws n r b) (block_flow n r b) t J) ≡ 0
-  none_turns v b w h zero J s z = refl
-  none_turns v b w h (suc t) J s z =
-      let A = only (holds v) J in
-      let f = block_flow n r b A in
-      let inside = turn_inside n r N L v b t J s in
-      let a = guard_weight N v J in
-      let k = kept_all n r N L b w A inside in
-      let x = h A inside (omega arith) in
-      let y = none_turns v b w h t f.next (turns_inside n r N L v b t J s) (omega arith) in
-      let o = amount_append N H (block_draws n r b A) (loop_draws v (block_draws n r b) (block_flow n r b) t f.next) in
+-- ---- numerators of 0
+abbrev IsNothing : {A : Type 0} → Fraction × A → Type 0
+IsNothing e = e.0.0 ≡ 0
+
+nothing_scaled : (w : Fraction) (I : Table) → Each IsNothing I → Each IsNothing (scaled w I)
+nothing_scaled (zero, d) I h = tt
+nothing_scaled (suc n, d) [] h = tt
+nothing_scaled (suc n, d) (e ∷ I) h = (let z = ap (λ x. suc n * x) h.0 in omega arith, nothing_scaled (suc n, d) I h.1)
+
+nothing_drawn : (ends : List ℕ) (I : Table) → Each IsNothing I → Each IsNothing (drawn_each ends I)
+nothing_drawn ends [] h = tt
+nothing_drawn ends (e ∷ I) h = (h.0, nothing_drawn ends I h.1)
+
+nothing_kept : (r : Option ℕ) → KeepsEntries fractions_kind r Anything Anything Anything Anything IsNothing Anything Anything IsNothing
+nothing_kept r = record {
+  asked = record {
+    block = λ st b h. (tt, tt);
+    guarded = λ e a c h. (tt, tt);
+    choice = λ p a c h. (tt, tt);
+    choose = λ arms h. tt;
+    arms = λ p a arms h. (tt, tt);
+    loop = λ e a h. tt;
+  };
+  tidy = λ I h. h;
+  at_loop = λ I h. (h, tt);
+  faulty = λ f e h. tt;
+  failing = λ e h. tt;
+  turns = λ v a s e h. tt;
+  set = λ i v s e h z q. h;
+  drawn = λ i v s e h b q m le d g. g;
+  number = λ m. tt;
+  choice = λ p a c s. tt;
+  choose = λ arms s. tt;
+  class = λ b d c I h. nothing_scaled (class_weight b r c) I h;
+  rest = λ b d I h. each_anything (all_end (limit Attempts) (scaled (no_class_weight b r) I));
+  shown = λ b d I h. each_anything (draws_each (draw_weights b r) I);
+  reached = λ ends d I h. nothing_drawn ends I h;
+}
+
+module _ (N : ℕ) (some : 0 < N) where
+  nothing_in : (I : Table) → Wholes N I → weight N I ≡ 0 → Each IsNothing I
+  nothing_in [] w h = tt
+  nothing_in (e ∷ I) w h =
+      let z : whole N e.0 ≡ 0 = omega arith in
+      (no_parts e.0.0 N some (let x = w.0.exact in let y = ap (λ u. e.0.1 * u) z in omega arith), nothing_in I w.1 (omega arith))
+    where
+      no_parts : (a N : ℕ) → 0 < N → a * N ≡ 0 → a ≡ 0
+      no_parts zero N p e = refl
+      no_parts (suc a) N p e = absurd (omega arith)
+
+  nothing_counts : (H : List ℕ → ℕ) (ds : ReachedDraws) → Each IsNothing ds → amount N H ds ≡ 0
+  nothing_counts H [] h = refl
+  nothing_counts H (d ∷ ds) h =
+      let i = nothing_counts H ds h.1 in
+      let e : d.0.0 * N ≡ 0 = let x = ap (λ x. x * N) h.0 in omega arith in
+      let z : whole N d.0 ≡ 0 = ap (λ x. x / d.0.1) e ∙ zero-div d.0.1 in
+      let y = ap (λ u. u * H d.1) z in
       omega arith
 
-  mutual
-    pub none_one : (st : Statement) (I : Table) → StatementIsWeighed st → Wholes N I → Within N L (statement_flow n r st I) → weight N I ≡ 0 → amount N H (statement_draws n r st I) ≡ 0
-    none_one Skip I p w s z = refl
-    none_one (Set x e) I p w s z = refl
-    none_one (Observe e) I p w s z = refl
-    none_one (Uniform x e) I p w s z = amount_drawn_bound N H (value_of e) I ∙ none_counts N (at_bound (value_of e) H) I z
-    none_one (If e a c) I p w s z =
-        let A = only (holds (value_of e)) I in
-        let C = only (fails (value_of e)) I in
-        let f = block_flow n r a A in
-        let g = block_flow n r c C in
-        let h = guard_weight N (value_of e) I in
-        let x = none_all a p.0 A (both_first N L (faults (value_of e) I) f g s) (omega arith) in
-        let y = none_all c p.1 C (both_second N L (faults (value_of e) I) f g s) (omega arith) in
-        let o = amount_append N H (block_draws n r a A) (block_draws n r c C) in
-        omega arith
-    none_one (Choice q a c) I p w s z =
-        let A = scaled (class_weight q.den r q.num) I in
-        let C = scaled (class_weight q.den r (q.den - q.num)) I in
-        let k = sides_kept n r N L q a c I p.0 w s in
-        let x = none_all a p.1 A (side_first n r N L q a c I s) (omega arith) in
-        let y = none_all c p.2 C (side_second n r N L q a c I s) (omega arith) in
-        let d = amount_drawn_each N H (choice_ends q) I ∙ none_counts N (λ s. H (choice_ends q)) I z in
-        let o = amount_append N H (drawn_each (choice_ends q) I) (block_draws n r a A ++ block_draws n r c C) in
-        let u = amount_append N H (block_draws n r a A) (block_draws n r c C) in
-        omega arith
-    none_one (Choose arms) I p w s z =
-        let b = sum (parts_of arms) in
-        let ends = partial_sums (parts_of arms) in
-        let k = arms_kept n r N L arms I p.0 w s in
-        let x = none_arms b arms p.1 I (choose_inside n r N L arms I s) (omega arith) in
-        let d = amount_drawn_each N H ends I ∙ none_counts N (λ s. H ends) I z in
-        let o = amount_append N H (drawn_each ends I) (arms_draws n r b arms I) in
-        omega arith
-    none_one (While e a) I p w s z = none_turns (value_of e) a p (none_all a p) n I s z
+  module _ (n : ℕ) (r : Option ℕ) (L : ℕ) (H : List ℕ → ℕ) where
+    pub none_turns : (v : State → Value) (b : Statements) (t : ℕ) (J : Table) → Within N L (loop_flow v (block_flow n r b) t J) → weight N J ≡ 0 →
+        amount N H (loop_draws v (block_flow n r b) t J) ≡ 0
+    none_turns v b t J s z =
+        nothing_counts H _ (loop_kept (nothing_kept r) v (block_flow n r b) (λ e h. tt) (block_kept (nothing_kept r) n b tt) t J (nothing_in J (entered t s) z)).reached
+      where
+        entered : (t : ℕ) → Within N L (loop_flow v (block_flow n r b) t J) → Wholes N J
+        entered zero s = s.tables.0
+        entered (suc t) s = s.tables.0
 
-    pub none_all : (b : Statements) → BlockIsWeighed b → (I : Table) → Within N L (block_flow n r b I) → weight N I ≡ 0 → amount N H (block_draws n r b I) ≡ 0
-    none_all done p I s z = refl
-    none_all (st ▸ b) p I s z =
-        let f = statement_flow n r st I in
-        let first = first_inside n r N L st b I s in
-        let others = others_inside n r N L st b I s in
-        let k = kept_one n r N L st I p.0 s.tables.0 (head_whole n r N L b f.next others.tables) first in
-        let x = none_one st I p.0 s.tables.0 first z in
-        let y = none_all b p.1 f.next others (omega arith) in
-        let o = amount_append N H (statement_draws n r st I) (block_draws n r b f.next) in
-        omega arith
-
-    none_arms : (b : ℕ) (arms : ArmList) → ArmsAreWeighed arms → (I : Table) → Within N L (arms_flow n r b arms I) → arms_weight N b r (parts_of arms) I ≡ 0 → amount N H (arms_draws n r b arms I) ≡ 0
-    none_arms b no_arm p I s z = refl
-    none_arms b (arm q a arms) p I s z =
-        let A = scaled (class_weight b r q) I in
-        let x = none_all a p.0 A (first_arm n r N L b q a arms I s) (omega arith) in
-        let y = none_arms b arms p.1 I (other_arms n r N L b q a arms I s) (omega arith) in
-        let o = amount_append N H (block_draws n r a A) (arms_draws n r b arms I) in
-        omega arith
+    pub none_one : (st : Statement) (I : Table) → Wholes N I → weight N I ≡ 0 → amount N H (statement_draws n r st I) ≡ 0
+    none_one st I w z = nothing_counts H _ (statement_kept (nothing_kept r) n st tt I (nothing_in I w z)).reached

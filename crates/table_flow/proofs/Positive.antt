@@ -12,6 +12,7 @@ use Rattle.table_flow.proofs.WeightedParts.{uniform_weighted, value_weighted}
 use Rattle.gcl_core.proofs.EqualClasses.{last_of_equal}
 use Rattle.numbers.proofs.Divisors.{product_pos}
 use Rattle.table_flow.specs.Tables.{Table, Flow, weighted, fractions_kind, only, statement_flow, block_flow, arms_flow, draws_each, draw_weights}
+use Rattle.table_flow.specs.Reached.{drawn_each}
 use Rattle.table_flow.specs.Width.{weights, table_weights, fractions}
 use Rattle.table_flow.proofs.Denominators.{AllPositive}
 use Rattle.table_flow.proofs.EachMember.{Each, each_append}
@@ -24,8 +25,12 @@ HasPositive e = 0 < e.0.1
 abbrev pub Positive : {A : Type 0} → Weighted A → Type 0
 Positive = Each HasPositive
 
+-- and the draw has a part
+abbrev pub IsPositiveDraw : Fraction × List ℕ → Type 0
+IsPositiveDraw d = (0 < d.0.1) × (0 < last_end d.1)
+
 abbrev pub FlowPositive : Flow → Type 0
-FlowPositive = FlowHas HasPositive HasPositive (λ w. 0 < w.1)
+FlowPositive = FlowHas HasPositive HasPositive (λ w. 0 < w.1) IsPositiveDraw
 
 pub p_append : {A : Type 0} (m n : Weighted A) → Positive m → Positive n → Positive (m ++ n)
 p_append = each_append HasPositive
@@ -62,6 +67,10 @@ each_positive : (ws : List Fraction) (I : Table) → AllPositive ws → AllPosit
 each_positive ws [] h = tt
 each_positive ws (e ∷ I) h = a_append ws (draws_each ws I) h (each_positive ws I h)
 
+each_reached : (ends : List ℕ) → 0 < last_end ends → (I : Table) → Positive I → Each IsPositiveDraw (drawn_each ends I)
+each_reached ends some [] h = tt
+each_reached ends some (e ∷ I) h = ((h.0, some), each_reached ends some I h.1)
+
 pub alone : (0 < 1) × Unit {0}
 alone = (omega arith, tt)
 
@@ -93,7 +102,7 @@ module _ (n : ℕ) (r : Option ℕ) where
   p_drawn x (Err f) s = alone
 
 -- ---- flows
-positive_kept : (r : Option ℕ) → KeepsEntries fractions_kind r StatementIsWeighed BlockIsWeighed ArmsAreWeighed (λ b. 0 < b) HasPositive HasPositive (λ w. 0 < w.1)
+positive_kept : (r : Option ℕ) → KeepsEntries fractions_kind r StatementIsWeighed BlockIsWeighed ArmsAreWeighed (λ b. 0 < b) HasPositive HasPositive (λ w. 0 < w.1) IsPositiveDraw
 positive_kept r = record {
   asked = record {
     block = λ st b h. h;
@@ -116,6 +125,7 @@ positive_kept r = record {
   class = λ b d c I h. p_scaled (class_weight b r c) I (class_pos b r c d) h;
   rest = λ b d I h. end_keeps weighted HasPositive HasPositive (limit Attempts) (λ e p. p) (scaled (no_class_weight b r) I) (p_scaled (no_class_weight b r) I (no_class_pos b r) h);
   shown = λ b d I h. each_positive (draw_weights b r) I (draws_positive b r d);
+  reached = λ ends d I h. each_reached ends d I h;
 }
 
 pub p_one : (n : ℕ) (r : Option ℕ) (st : Statement) (I : Table) → StatementIsWeighed st → Positive I → FlowPositive (statement_flow n r st I)

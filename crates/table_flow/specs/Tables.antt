@@ -8,6 +8,8 @@ use Rattle.std.specs.Cmp.Lexicographic.{pointwise}
 use Rattle.gcl_core.specs.declared.answers.Fault.TheVariants.{BadBound}
 use Rattle.gcl_core.specs.declared.answers.Limit.TheVariants.{Turns, Attempts}
 use Rattle.gcl_core.specs.meaning.Arms.{parts_of}
+use Rattle.gcl_core.specs.meaning.Draw.{choice_ends, uniform_ends}
+use Rattle.gcl_core.specs.meaning.Parts.{partial_sums}
 use Rattle.gcl_core.specs.meaning.Syntax.{Statement, Skip, Set, If, While, Choice, Choose, Uniform, Observe, Statements, done, ◌▸◌, ArmList, no_arm, arm, SourceProgram}
 use Rattle.gcl_core.specs.meaning.Value.{State, Value, value_of, is_zero}
 use Rattle.gcl_core.specs.meaning.Blocks.{End, failed, fault, limit, by_value, by_bound}
@@ -19,13 +21,18 @@ use Rattle.gcl_core.specs.weighing.WeightedEnds.{Weighted, sure, scaled, class_w
 abbrev pub Table : Type 0
 Table = Weighted State
 
--- what becomes of a table in a block: the table after it, the entries that ended, all tables on the way, and the weights of the
--- draws made. An entry of a table is an X, and one that ended a Y.
+-- draws by their ends, each with the weight with which it is reached
+abbrev pub ReachedDraws : Type 0
+ReachedDraws = Weighted (List ℕ)
+
+-- what becomes of a table in a block: the table after it, the entries that ended, all tables on the way, the weights of the draws made,
+-- and the draws that are reached. An entry of a table is an X, and one that ended a Y.
 pub record FlowOf (X Y : Type 0) : Type 0 where
   pub next : List X
   pub ended : List Y
   pub tables : List (List X)
   pub draws : List Fraction
+  pub reached : ReachedDraws
 
 abbrev pub Flow : Type 0
 Flow = FlowOf (Fraction × State) (Fraction × End)
@@ -59,7 +66,8 @@ pub record Entries (X Y : Type 0) : Type 0 where
   pub as_end : End → X → Y
 
 -- What a walk asks of a kind of weight: how a table is written down before a statement, and at the head of a loop; what a class of c
--- of b numbers gets in a draw by at most r attempts, and what no attempt decides; and which weights such a draw shows.
+-- of b numbers gets in a draw by at most r attempts, and what no attempt decides; which weights such a draw shows; and
+-- the draws that a table reaches, by their ends.
 pub record Kind (X Y : Type 0) : Type 0 where
   pub entries : Entries X Y
   pub tidy : List X → List X
@@ -67,15 +75,38 @@ pub record Kind (X Y : Type 0) : Type 0 where
   pub class : ℕ → Option ℕ → ℕ → List X → List X
   pub rest : ℕ → Option ℕ → List X → List X
   pub shown : ℕ → Option ℕ → List X → List Fraction
+  pub reached : List ℕ → List X → ReachedDraws
 
--- both results together
-abbrev pub both : {X Y : Type 0} → List Y → FlowOf X Y → FlowOf X Y → FlowOf X Y
-both ended f g = record
-    { next = f.next ++ g.next; ended = ended ++ (f.ended ++ g.ended); tables = f.tables ++ g.tables; draws = f.draws ++ g.draws }
+-- tables on the way, states that go on, and some that ended; no draw
+abbrev pub stands : {X Y : Type 0} → List (List X) → List X → List Y → FlowOf X Y
+stands Js J Z = record { next = J; ended = Z; tables = Js; draws = []; reached = [] }
 
--- no table, and nothing that ended
 abbrev pub no_flow : {X Y : Type 0} → FlowOf X Y
-no_flow = record { next = []; ended = []; tables = []; draws = [] }
+no_flow = stands [] [] []
+
+-- two flows beside each other
+abbrev pub beside : {X Y : Type 0} → FlowOf X Y → FlowOf X Y → FlowOf X Y
+beside f g = record {
+  next = f.next ++ g.next;
+  ended = f.ended ++ g.ended;
+  tables = f.tables ++ g.tables;
+  draws = f.draws ++ g.draws;
+  reached = f.reached ++ g.reached;
+}
+
+-- and besides, some states ended
+abbrev pub both : {X Y : Type 0} → List Y → FlowOf X Y → FlowOf X Y → FlowOf X Y
+both ended f g = beside (stands [] [] ended) (beside f g)
+
+-- a flow, and that from where it led
+abbrev pub behind : {X Y : Type 0} → FlowOf X Y → FlowOf X Y → FlowOf X Y
+behind f g = record {
+  next = g.next;
+  ended = f.ended ++ g.ended;
+  tables = f.tables ++ g.tables;
+  draws = f.draws ++ g.draws;
+  reached = f.reached ++ g.reached;
+}
 
 module _ {X Y : Type 0} (x : Entries X Y) where
   -- the states that pass a test
@@ -98,21 +129,11 @@ module _ {X Y : Type 0} (x : Entries X Y) where
 
   -- at most t turns of a loop, from the table J on
   abbrev pub loop_go : (List X → List (List X)) → (State → Value) → (List X → FlowOf X Y) → ℕ → List X → FlowOf X Y
-  loop_go seen guard body zero J = record {
-    next = only_go (fails guard) J;
-    ended = faults_go guard J ++ end_go (limit Turns) (only_go (holds guard) J);
-    tables = seen J;
-    draws = [];
-  }
+  loop_go seen guard body zero J =
+      stands (seen J) (only_go (fails guard) J) (faults_go guard J ++ end_go (limit Turns) (only_go (holds guard) J))
   loop_go seen guard body (suc t) J =
       let f = body (only_go (holds guard) J) in
-      let g = loop_go seen guard body t f.next in
-      record {
-        next = only_go (fails guard) J ++ g.next;
-        ended = faults_go guard J ++ (f.ended ++ g.ended);
-        tables = seen J ++ (f.tables ++ g.tables);
-        draws = f.draws ++ g.draws;
-      }
+      beside (stands (seen J) (only_go (fails guard) J) (faults_go guard J)) (behind f (loop_go seen guard body t f.next))
 
 -- a variable set to each number below m
 abbrev pub below_go : {X Y : Type 0} → Entries X Y → ℕ → ℕ → List X → List X
@@ -138,47 +159,56 @@ module _ {X Y : Type 0} (k : Kind X Y) where
   shown_go v r [] = []
   shown_go v r (e ∷ J) = by_value (v (k.entries.state e)) (λ f. []) (λ z. by_bound z [] (λ m. k.shown m r (e ∷ []))) ++ shown_go v r J
 
+  -- and these draws
+  abbrev pub reached_go : (State → Value) → List X → ReachedDraws
+  reached_go v [] = []
+  reached_go v (e ∷ J) = by_value (v (k.entries.state e)) (λ f. []) (λ z. by_bound z [] (λ m. k.reached (uniform_ends m) (e ∷ []))) ++ reached_go v J
+
 -- under a limit of n turns, and of r attempts or none
 module _ {X Y : Type 0} (k : Kind X Y) (n : ℕ) (r : Option ℕ) where
+  -- a draw by these ends, among b numbers: no attempt decides it
+  abbrev pub draw_go : ℕ → List ℕ → List X → FlowOf X Y
+  draw_go b ends J = record {
+    next = [];
+    ended = end_go k.entries (limit Attempts) (k.rest b r J);
+    tables = [];
+    draws = k.shown b r J;
+    reached = k.reached ends J;
+  }
+
   abbrev mutual
     pub statement_go : Statement → List X → FlowOf X Y
-    statement_go Skip J = record { next = J; ended = []; tables = []; draws = [] }
-    statement_go (Set x e) J = record { next = set_go k.entries x (value_of e) J; ended = faults_go k.entries (value_of e) J; tables = []; draws = [] }
-    statement_go (Observe e) J = record {
-      next = only_go k.entries (holds (value_of e)) J;
-      ended = faults_go k.entries (value_of e) J ++ end_go k.entries failed (only_go k.entries (fails (value_of e)) J);
-      tables = [];
-      draws = [];
-    }
+    statement_go Skip J = stands [] J []
+    statement_go (Set x e) J = stands [] (set_go k.entries x (value_of e) J) (faults_go k.entries (value_of e) J)
+    statement_go (Observe e) J =
+        stands [] (only_go k.entries (holds (value_of e)) J)
+        (faults_go k.entries (value_of e) J ++ end_go k.entries failed (only_go k.entries (fails (value_of e)) J))
     statement_go (Uniform x e) J = record {
       next = drawn_go k x (value_of e) r J;
       ended = undrawn_go k (value_of e) r J;
       tables = [];
       draws = shown_go k (value_of e) r J;
+      reached = reached_go k (value_of e) J;
     }
     statement_go (If e a c) J =
         both (faults_go k.entries (value_of e) J) (block_go a (only_go k.entries (holds (value_of e)) J)) (block_go c (only_go k.entries (fails (value_of e)) J))
     statement_go (Choice p a c) J =
-        let f = both (end_go k.entries (limit Attempts) (k.rest p.den r J)) (block_go a (k.class p.den r p.num J))
-        (block_go c (k.class p.den r (p.den - p.num) J)) in
-        record { next = f.next; ended = f.ended; tables = f.tables; draws = k.shown p.den r J ++ f.draws }
+        beside (draw_go p.den (choice_ends p) J) (beside (block_go a (k.class p.den r p.num J)) (block_go c (k.class p.den r (p.den - p.num) J)))
     statement_go (Choose arms) J =
         let b = sum (parts_of arms) in
-        let f = arms_go b arms J in
-        record { next = f.next; ended = end_go k.entries (limit Attempts) (k.rest b r J) ++ f.ended; tables = f.tables; draws = k.shown b r J ++ f.draws }
+        beside (draw_go b (partial_sums (parts_of arms)) J) (arms_go b arms J)
     statement_go (While e a) J = loop_go k.entries k.at_loop (value_of e) (block_go a) n J
 
     pub block_go : Statements → List X → FlowOf X Y
-    block_go done J = record { next = k.tidy J; ended = []; tables = k.tidy J ∷ []; draws = [] }
+    block_go done J = stands (k.tidy J ∷ []) (k.tidy J) []
     block_go (st ▸ b) J =
         let f = statement_go st (k.tidy J) in
-        let g = block_go b f.next in
-        record { next = g.next; ended = f.ended ++ g.ended; tables = k.tidy J ∷ (f.tables ++ g.tables); draws = f.draws ++ g.draws }
+        beside (stands (k.tidy J ∷ []) [] []) (behind f (block_go b f.next))
 
     -- the arms of a draw with b parts, one after the other
     pub arms_go : ℕ → ArmList → List X → FlowOf X Y
     arms_go b no_arm J = no_flow
-    arms_go b (arm p a arms) J = both [] (block_go a (k.class b r p J)) (arms_go b arms J)
+    arms_go b (arm p a arms) J = beside (block_go a (k.class b r p J)) (arms_go b arms J)
 
 -- ---- fractions, as they are
 
@@ -193,6 +223,7 @@ fractions_kind = record {
   class = λ b r c I. scaled (class_weight b r c) I;
   rest = λ b r I. scaled (no_class_weight b r) I;
   shown = λ b r I. draws_each (draw_weights b r) I;
+  reached = λ ends I. map (λ e. (e.0, ends)) I;
 }
 
 abbrev pub only : (State → Bool) → Table → Table

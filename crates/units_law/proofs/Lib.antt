@@ -12,6 +12,7 @@ pub mod UnitsBelow
 pub mod Rounds
 pub mod Powers
 pub mod Downs
+pub mod Roundings
 pub mod Losses
 pub mod Spent
 pub mod SomeRoundsBelow

@@ -23,15 +23,16 @@ use Rattle.table_flow.proofs.AtWidth.{at_width}
 use Rattle.table_flow.proofs.FittingTables.{fit_only, statement_fit, block_fit}
 use Rattle.table_flow.proofs.InsideFlows.{head_whole, first_inside, others_inside, turn_inside, turns_inside, side_first, side_second, choose_inside, first_arm, other_arms}
 use Rattle.units_law.specs.Below.{IsBelow}
-use Rattle.units_law.specs.Flows.{statement_units, block_units}
+use Rattle.units_law.specs.Flows.{loop_units, statement_units, block_units}
 use Rattle.units_law.specs.Merged.{merged}
 use Rattle.units_law.specs.Rounding.{Rounding, RoundsDown, class_units, units_kind}
-use Rattle.units_law.specs.Roundings.{bound_roundings, loop_roundings, statement_roundings, block_roundings, arms_roundings, round_roundings}
+use Rattle.units_law.specs.Roundings.{roundings_of, block_roundings, round_roundings}
 use Rattle.units_law.specs.Units.{Units, counted_units, only_units}
 use Rattle.units_law.proofs.UnitsBelow.{merged_below, only_below, class_below, statement_below, block_below}
 use Rattle.units_law.proofs.FewStates.{states_few}
 use Rattle.units_law.proofs.FittingUnits.{UnitsFit, fit_merged, fit_class, units_keep_states}
 use Rattle.units_law.proofs.Rounds.{begins_below}
+use Rattle.units_law.proofs.Roundings.{bound_roundings, first_bound, arms_roundings, both_roundings, choice_roundings, choose_roundings, first_arm_roundings}
 use Rattle.units_law.specs.FewOthers.{numbers_at, DrawsWithin, BlockWithin}
 
 -- ---- a fact of all members of two lists
@@ -51,11 +52,12 @@ module _ (M : ℕ) where
   one_bound (Ok (negsuc m)) h = omega arith
   one_bound (Err f) h = omega arith
 
-  bounds_few : (v : State → Value) → ((s : State) → state_fits s ≡ true → numbers_at v s ≤ M) → (J : Units State) → UnitsFit J → bound_roundings v J ≤ length J * (M + 1)
-  bounds_few v h [] f = omega arith
-  bounds_few v h (e ∷ J) f =
+  bounds_few : (cut : Rounding) (v : State → Value) → ((s : State) → state_fits s ≡ true → numbers_at v s ≤ M) → (J : Units State) → UnitsFit J → bound_roundings cut v J ≤ length J * (M + 1)
+  bounds_few cut v h [] f = omega arith
+  bounds_few cut v h (e ∷ J) f =
       let x = one_bound (v e.0) (h e.0 f.0) in
-      let y = bounds_few v h J f.1 in
+      let y = bounds_few cut v h J f.1 in
+      let z = first_bound cut v e J in
       omega arith
 
 module _ (cut : Rounding) (c : RoundsDown cut) (N L n : ℕ) (some : 0 < N) (r : Option ℕ) (M : ℕ) where
@@ -79,7 +81,7 @@ module _ (cut : Rounding) (c : RoundsDown cut) (N L n : ℕ) (some : 0 < N) (r :
   less a l u h = omega arith
 
   loop_few : (v : State → Value) (b : Statements) → BlockIsWeighed b → BlockFits b → BlockFew b → (k : ℕ) (J : Units State) (I : Table) → UnitsFit J → Within N L (loop_flow v (block_flow n r b) k I) → IsBelow N J I →
-      loop_roundings v (block_roundings cut n r b) (block_units cut n r b) k J ≤ U * length (loop_flow v (block_flow n r b) k I).tables
+      roundings_of (loop_units v (block_units cut n r b) k J).reached ≤ U * length (loop_flow v (block_flow n r b) k I).tables
   loop_few v b p q m zero J I t w h = omega arith
   loop_few v b p q m (suc k) J I t w h =
       let A = only_units (holds v) J in
@@ -94,21 +96,22 @@ module _ (cut : Rounding) (c : RoundsDown cut) (N L n : ℕ) (some : 0 < N) (r :
       let x = m A B u wf hh in
       let below = block_below cut c N L n some r b p A B wf hh in
       let y = loop_few v b p q m k f.next f'.next (block_fit (units_kind cut) (units_keep_states cut) n r b q A u) wg below.next in
-      let a = block_roundings cut n r b A in
-      let z = two f'.tables g'.tables a (loop_roundings v (block_roundings cut n r b) (block_units cut n r b) k f.next) (less a L (U * length f'.tables) x) y in
-      past I (f'.tables ++ g'.tables) (a + loop_roundings v (block_roundings cut n r b) (block_units cut n r b) k f.next) z
+      let g = loop_units v (block_units cut n r b) k f.next in
+      let a = roundings_of f.reached in
+      let z = two f'.tables g'.tables a (roundings_of g.reached) (less a L (U * length f'.tables) x) y in
+      past I (f'.tables ++ g'.tables) (roundings_of (f.reached ++ g.reached)) (rw (both_roundings f.reached g.reached) z)
 
   charged : (a l u k : ℕ) → k ≤ l → a + l ≤ u → k + a ≤ u
   charged a l u k h g = omega arith
 
   mutual
     statement_few : (st : Statement) → StatementIsWeighed st → StatementFits st → All (DrawsWithin M) (statement_listed st) → (J : Units State) (I : Table) → UnitsFit J → length J ≤ L → Wholes N I → Within N L (statement_flow n r st I) → IsBelow N J I →
-        statement_roundings cut n r st J ≤ U + U * length (statement_flow n r st I).tables
+        roundings_of (statement_units cut n r st J).reached ≤ U + U * length (statement_flow n r st I).tables
     statement_few Skip p g d J I f l w s h = omega arith
     statement_few (Set x e) p g d J I f l w s h = omega arith
     statement_few (Observe e) p g d J I f l w s h = omega arith
     statement_few (Uniform x e) p g d J I f l w s h =
-        let y = bounds_few M (value_of e) (All-head (DrawsWithin M) (Uniform x e) [] d) J f in
+        let y = bounds_few M cut (value_of e) (All-head (DrawsWithin M) (Uniform x e) [] d) J f in
         let z = mul-le-mul_right (M + 1) l in
         omega arith
     statement_few (If e a b) p g d J I t l w s h =
@@ -123,6 +126,7 @@ module _ (cut : Rounding) (c : RoundsDown cut) (N L n : ℕ) (some : 0 < N) (r :
         let x = block_few a p.0 g.1 (all_left (DrawsWithin M) (listed a) (listed b) q) A A' (fit_only counted_units (holds v) J t) (both_first N L (faults v I) f' g' s) (only_below cut c N L n some r J I h (holds v)) in
         let y = block_few b p.1 g.2 (all_right (DrawsWithin M) (listed a) (listed b) q) B B' (fit_only counted_units (fails v) J t) (both_second N L (faults v I) f' g' s) (only_below cut c N L n some r J I h (fails v)) in
         let z = two f'.tables g'.tables (block_roundings cut n r a A) (block_roundings cut n r b B) (less _ _ _ x) (less _ _ _ y) in
+        let e = both_roundings (block_units cut n r a A).reached (block_units cut n r b B).reached in
         omega arith
     statement_few (Choice q a b) p g d J I fit l w s h =
         let within = All-tail (DrawsWithin M) (Choice q a b) (listed a ++ listed b) d in
@@ -139,12 +143,14 @@ module _ (cut : Rounding) (c : RoundsDown cut) (N L n : ℕ) (some : 0 < N) (r :
         let y = block_few b p.2 g.1 (all_right (DrawsWithin M) (listed a) (listed b) within) B B' (fit_class cut q.den r (q.den - q.num) J fit) wg (class_below cut c N L n some r q.den (q.den - q.num) t J I w (head_whole n r N L b B' wg.tables) h) in
         let k = length J in
         let z = two f'.tables g'.tables (k + block_roundings cut n r a A) (k + block_roundings cut n r b B) (charged _ _ _ k l x) (charged _ _ _ k l y) in
+        let e = choice_roundings q J (block_units cut n r a A).reached (block_units cut n r b B).reached in
         let u = least in
         omega arith
     statement_few (Choose arms) p g d J I fit l w s h =
         let b = sum (parts_of arms) in
         let t : 0 < b = let z = p.0.positive in omega arith in
         let y = arms_few b t arms p.1 g (All-tail (DrawsWithin M) (Choose arms) (arms_listed arms) d) J I fit l w (choose_inside n r N L arms I s) h in
+        let e = choose_roundings cut n r arms b J in
         let u = least in
         omega arith
     statement_few (While e a) p g d J I fit l w s h =
@@ -164,7 +170,8 @@ module _ (cut : Rounding) (c : RoundsDown cut) (N L n : ℕ) (some : 0 < N) (r :
         let v = fit_merged J t in
         let x = statement_few st p.0 q.0 (all_left (DrawsWithin M) (statement_listed st) (listed b) d) (merged J) I v (states_few N L some J I h s.tables.1) s.tables.0 sf m in
         let y = block_few b p.1 q.1 (all_right (DrawsWithin M) (statement_listed st) (listed b) d) f.next f'.next (statement_fit (units_kind cut) (units_keep_states cut) n r st q.0 (merged J) v) sg below.next in
-        joined (statement_roundings cut n r st (merged J)) (block_roundings cut n r b f.next) L U (length (f'.tables ++ g'.tables)) (length f'.tables) (length g'.tables) (length-append f'.tables g'.tables) x y
+        let e = both_roundings f.reached (block_units cut n r b f.next).reached in
+        rw e (joined (roundings_of f.reached) (block_roundings cut n r b f.next) L U (length (f'.tables ++ g'.tables)) (length f'.tables) (length g'.tables) (length-append f'.tables g'.tables) x y)
       where
         joined : (a b l u len i j : ℕ) → len ≡ i + j → a ≤ u + u * i → b + l ≤ u * j → a + b + l ≤ u * suc len
         joined a b l u len i j e h k = let z = ap (λ x. u * x) e in omega arith
@@ -179,7 +186,9 @@ module _ (cut : Rounding) (c : RoundsDown cut) (N L n : ℕ) (some : 0 < N) (r :
         let x = block_few a p.0 g.0 (all_left (DrawsWithin M) (listed a) (arms_listed arms) d) A A' (fit_class cut b r q J fit) wf (class_below cut c N L n some r b q t J I w (head_whole n r N L a A' wf.tables) h) in
         let y = arms_few b t arms p.1 g.1 (all_right (DrawsWithin M) (listed a) (arms_listed arms) d) J I fit l w (other_arms n r N L b q a arms I s) h in
         let k = length J in
-        two (block_flow n r a A').tables (arms_flow n r b arms I).tables (k + block_roundings cut n r a A) (arms_roundings cut n r b arms J) (charged _ _ _ k l x) y
+        let z = two (block_flow n r a A').tables (arms_flow n r b arms I).tables (k + block_roundings cut n r a A) (arms_roundings cut n r b arms J) (charged _ _ _ k l x) y in
+        let e = first_arm_roundings cut n r b q a arms J in
+        omega arith
 
 pub round_few : (cut : Rounding) → RoundsDown cut → (p : SourceProgram) (n : ℕ) (r : Option ℕ) (M : ℕ) → BlockIsWeighed p.body → BlockFits p.body → BlockWithin M p.body →
     round_roundings cut p n r ≤ peak_of p n r * (M + 1) * length (tables_of p n r).tables

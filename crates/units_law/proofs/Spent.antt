@@ -15,10 +15,11 @@ use Rattle.table_flow.proofs.Draws.{each_part, no_part, all_parts, parts_add_up,
 use Rattle.units_law.specs.Flows.{all_units, loop_units, statement_units, block_units, arms_units}
 use Rattle.units_law.specs.Merged.{merged}
 use Rattle.units_law.specs.Rounding.{Rounding, RoundsDown, LosesFew, class_units, rest_units}
-use Rattle.units_law.specs.Roundings.{loop_roundings, statement_roundings, block_roundings, arms_roundings}
+use Rattle.units_law.specs.Roundings.{roundings_of, block_roundings}
 use Rattle.units_law.specs.Units.{Units, total, only_units, fault_units, end_units}
 use Rattle.units_law.proofs.Held.{held_append}
 use Rattle.units_law.proofs.Orders.{from_left}
+use Rattle.units_law.proofs.Roundings.{arms_roundings, both_roundings, choice_roundings, choose_roundings, first_arm_roundings}
 use Rattle.units_law.proofs.Merging.{held_merged}
 use Rattle.units_law.proofs.Losses.{Loses, none_lost, lost_after, lost_beside, lost_times, lost_over, like, guard_total, end_total, set_total, both_total, class_total, rest_total, drawn_total}
 
@@ -31,7 +32,7 @@ module _ (cut : Rounding) (c : RoundsDown cut) (k S : ℕ) (r : Option ℕ) (few
   BlockLoses b = (J : Units State) → total J ≤ S → Loses (total J) (all_units (block_units cut n r b J)) (k * block_roundings cut n r b J)
 
   loop_loses : (v : State → Value) (b : Statements) → BlockLoses b → (t : ℕ) (J : Units State) → total J ≤ S →
-      Loses (total J) (all_units (loop_units v (block_units cut n r b) t J)) (k * loop_roundings v (block_roundings cut n r b) (block_units cut n r b) t J)
+      Loses (total J) (all_units (loop_units v (block_units cut n r b) t J)) (k * roundings_of (loop_units v (block_units cut n r b) t J).reached)
   loop_loses v b h zero J s =
       let g = guard_total v J in
       let a = held_append (λ s. 1) (fault_units v J) (end_units (limit Turns) (only_units (holds v) J)) in
@@ -47,14 +48,14 @@ module _ (cut : Rounding) (c : RoundsDown cut) (k S : ℕ) (r : Option ℕ) (few
       let a = held_append (λ s. 1) (only_units (fails v) J) l.next in
       let d = held_append (λ s. 1) (fault_units v J) (f.ended ++ l.ended) in
       let e = held_append (λ s. 1) f.ended l.ended in
-      turned _ _ _ _ _ _ _ _ _ _ _ _ _ g x y a d e
+      like _ _ _ _ _ _ (turned _ _ _ _ _ _ _ _ _ _ _ _ _ g x y a d e) refl refl (ap (λ t. k * t) (both_roundings f.reached l.reached))
     where
       turned : (T H F E N P M Q o An Ae k1 k2 : ℕ) → H + (F + E) ≡ T → Loses H (N + P) (k * k1) → Loses N (M + Q) (k * k2) →
           An ≡ F + M → Ae ≡ E + o → o ≡ P + Q → Loses T (An + Ae) (k * (k1 + k2))
       turned T H F E N P M Q o An Ae k1 k2 g x y a d e = let x0 = x.0 in let x1 = x.1 in let y0 = y.0 in let y1 = y.1 in (omega arith, omega arith)
 
   mutual
-    statement_loses : (st : Statement) → StatementIsWeighed st → (J : Units State) → total J ≤ S → Loses (total J) (all_units (statement_units cut n r st J)) (k * statement_roundings cut n r st J)
+    statement_loses : (st : Statement) → StatementIsWeighed st → (J : Units State) → total J ≤ S → Loses (total J) (all_units (statement_units cut n r st J)) (k * roundings_of (statement_units cut n r st J).reached)
     statement_loses Skip p J s = none_lost _ _ _ (omega arith)
     statement_loses (Set x e) p J s = none_lost _ _ _ (set_total x (value_of e) J)
     statement_loses (Observe e) p J s =
@@ -72,6 +73,7 @@ module _ (cut : Rounding) (c : RoundsDown cut) (k S : ℕ) (r : Option ℕ) (few
         let x = block_loses a p.0 A (omega arith) in
         let y = block_loses b p.1 B (omega arith) in
         let d = both_total (fault_units v J) (block_units cut n r a A) (block_units cut n r b B) in
+        let z = ap (λ t. k * t) (both_roundings (block_units cut n r a A).reached (block_units cut n r b B).reached) in
         like _ _ _ _ _ _ (lost_beside _ _ _ _ _ _ (none_lost (total (fault_units v J)) _ 0 refl) (lost_beside _ _ _ _ _ _ x y)) (omega arith) d (omega arith)
     statement_loses (Choice q a b) p J s =
         let D = all_parts q.den r in
@@ -91,6 +93,7 @@ module _ (cut : Rounding) (c : RoundsDown cut) (k S : ℕ) (r : Option ℕ) (few
         let y = block_loses b p.2 B (omega arith) in
         let d = both_total (end_units (limit Attempts) C) (block_units cut n r a A) (block_units cut n r b B) in
         let e = end_total (limit Attempts) C in
+        let z = ap (λ t. k * t) (choice_roundings q J (block_units cut n r a A).reached (block_units cut n r b B).reached) in
         like _ _ _ _ _ _ (lost_after _ _ _ _ _ parts (lost_beside _ _ _ _ _ _ (none_lost (total C) _ 0 refl) (lost_beside _ _ _ _ _ _ x y))) refl (omega arith) (omega arith)
       where
         sided : (a b S Q D W : ℕ) → a ≤ b → b * S + Q ≡ D → D * W ≡ Q * W + (a * S * W + (b - a) * S * W)
@@ -110,6 +113,7 @@ module _ (cut : Rounding) (c : RoundsDown cut) (k S : ℕ) (r : Option ℕ) (few
         let a = held_append (λ s. 1) (end_units (limit Attempts) C) f.ended in
         let e = end_total (limit Attempts) C in
         let y = ap (λ t. t * total J) (parts_add_up b r) in
+        let z = ap (λ t. D * (k * t)) (choose_roundings cut n r arms b J) in
         lost_over D _ _ _ (all_parts_pos b r some) (like _ _ _ _ _ _ (lost_beside _ _ _ _ _ _ w x) (omega arith) (gathered D _ _ _ _ _ a e) (omega arith))
       where
         gathered : (D n z e Z Y : ℕ) → Y ≡ z + e → z ≡ Z → D * (n + Y) ≡ D * Z + D * (n + e)
@@ -125,6 +129,7 @@ module _ (cut : Rounding) (c : RoundsDown cut) (k S : ℕ) (r : Option ℕ) (few
         let x = statement_loses st p.0 (merged J) (omega arith) in
         let y = block_loses b p.1 f.next (let z = x.0 in omega arith) in
         let a = held_append (λ s. 1) f.ended g.ended in
+        let z = ap (λ t. k * t) (both_roundings f.reached g.reached) in
         like _ _ _ _ _ _ (lost_after _ _ _ _ _ x (lost_beside _ _ _ _ _ _ y (none_lost (total f.ended) _ 0 refl))) (omega arith) (omega arith) (omega arith)
 
     arms_lose : (b : ℕ) → 0 < b → (arms : ArmList) → sum (parts_of arms) ≤ b → ArmsAreWeighed arms → (J : Units State) → total J ≤ S →
@@ -142,7 +147,7 @@ module _ (cut : Rounding) (c : RoundsDown cut) (k S : ℕ) (r : Option ℕ) (few
         let i = arms_lose b some arms (omega arith) p.1 J s in
         let d = both_total [] f g in
         like _ _ _ _ _ _ (lost_beside _ _ _ _ _ _ (lost_after _ _ _ _ _ x y) i) (summed q (sum (parts_of arms)) _ (each_part b r) (total J) t)
-        (let z = ap (λ t. D * t) d in omega arith) (omega arith)
+        (let z = ap (λ t. D * t) d in omega arith) (let z = ap (λ t. D * (k * t)) (first_arm_roundings cut n r b q a arms J) in omega arith)
       where
         summed : (p q t S W : ℕ) → t ≡ p + q → t * S * W ≡ p * S * W + q * S * W
         summed p q t S W e = rw e (omega arith)

@@ -2,6 +2,7 @@
 use Rattle.std.specs.Prelude.{ℕ, ◌+◌, ◌*◌, ◌≤◌, ◌<◌, [], map, Option}
 use Rattle.gcl_core.specs.meaning.Value.{State, Value}
 use Rattle.gcl_core.specs.meaning.Blocks.{End}
+use Rattle.gcl_core.specs.weighing.Fractions.{one}
 use Rattle.gcl_core.specs.weighing.WeightedEnds.{class_weight, no_class_weight}
 use Rattle.table_flow.specs.Tables.{Kind, drawn_go, undrawn_go}
 use Rattle.units_law.specs.Units.{Units, counted_units}
@@ -42,6 +43,7 @@ module _ (cut : Rounding) where
     class = class_units;
     rest = rest_units;
     shown = λ b r J. [];
+    reached = λ ends J. map (λ e. (one, ends)) J;
   }
 
   -- x set to each number below the value of an expression

@@ -6,8 +6,7 @@ use Rattle.gcl_core.specs.meaning.Draw.{uniform_ends}
 use Rattle.gcl_core.specs.meaning.Syntax.{SourceProgram}
 use Rattle.gcl_core.specs.meaning.Value.{Value}
 use Rattle.gcl_core.specs.weighing.Fractions.{Fraction, zero_share}
-use Rattle.table_flow.specs.Tables.{Table}
-use Rattle.table_flow.specs.Reached.{ReachedDraws}
+use Rattle.table_flow.specs.Tables.{Table, ReachedDraws}
 use Rattle.mass_fold.specs.inner.Amounts.{Entries}
 use Rattle.unlimited_law.specs.Settling.{total}
 use Rattle.exact_fold.specs.inner.Settled.{as_table, AreAbove}

@@ -40,7 +40,7 @@ AddsResults result J I K = (meant : Outcome → Bool) → those meant K ≡ thos
 
 -- a table, and what ended besides
 abbrev pub after : Units State → Ended → UnitFlow
-after I E = record { next = I; ended = ended.units_of E; tables = []; draws = [] }
+after I E = record { next = I; ended = ended.units_of E; tables = []; draws = []; reached = [] }
 
 -- The outcomes that count have what they are given, and the limit of rounds is among them.
 pub record AreOutcomes (result : Expression) (all_turns : Bool) (I : Units State) (E : Ended) (K : Units Outcome) : Type 0 where

@@ -6,8 +6,8 @@ use Rattle.gcl_core.specs.meaning.Draw.{uniform_ends}
 use Rattle.gcl_core.specs.weighing.Fractions.{Fraction}
 use Rattle.gcl_core.specs.weighing.WeightedEnds.{Weighted, class_weight}
 use Rattle.gcl_core.specs.meaning.Syntax.{Expression, Statements}
-use Rattle.table_flow.specs.Tables.{Table, Flow, block_flow}
-use Rattle.table_flow.specs.Reached.{ReachedDraws, block_draws, loop_draws}
+use Rattle.table_flow.specs.Tables.{Table, Flow, block_flow, ReachedDraws}
+use Rattle.table_flow.specs.Reached.{loop_draws}
 use Rattle.table_flow.specs.Scale.{whole, Whole, Within, amount}
 use Rattle.mass_fold.specs.declared.ended.Ended.{Ended}
 use Rattle.mass_fold.specs.declared.meter.Meter.{Meter}
@@ -93,4 +93,4 @@ MetersOne r flow draws es E m m' = (N M L : ℕ) (I : Table) (J : Weighted _) �
 
 -- a loop of at most n turns
 abbrev pub turns_draws : ℕ → Option ℕ → Expression → Statements → Table → ReachedDraws
-turns_draws n r e a = loop_draws (value_of e) (block_draws n r a) (block_flow n r a) n
+turns_draws n r e a = loop_draws (value_of e) (block_flow n r a) n

@@ -39,7 +39,7 @@ invariant-while_loop-loop l = record {
   so_far : LoopsOn (loop_flow (value_of (expression_of l.e)) (block_flow l.self.turns l.self.attempts.most (statements_of l.body))) l.self.turns (l.self.turns - l.counter)
       l.fn.table.states.entries l.fn.ended l.now.states.entries l.exits.states.entries l.ended;
   bits : MetersLoop l.self.attempts.most (loop_flow (value_of (expression_of l.e)) (block_flow l.self.turns l.self.attempts.most (statements_of l.body)))
-      (loop_draws (value_of (expression_of l.e)) (block_draws l.self.turns l.self.attempts.most (statements_of l.body)) (block_flow l.self.turns l.self.attempts.most (statements_of l.body)))
+      (loop_draws (value_of (expression_of l.e)) (block_flow l.self.turns l.self.attempts.most (statements_of l.body)))
       l.self.turns (l.self.turns - l.counter) l.fn.table.states.entries l.fn.ended l.now.states.entries l.exits.states.entries l.ended l.fn.meter l.meter;
 }
 
