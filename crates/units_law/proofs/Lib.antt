@@ -27,6 +27,8 @@ pub mod Widths
 pub mod InARound
 pub mod RoundsApart
 pub mod RoundsLose
+pub mod SomeWeight
+pub mod SamePoints
 pub mod Points
 pub mod Widest
 pub mod FewOthers

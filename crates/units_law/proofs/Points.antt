@@ -33,6 +33,8 @@ use Rattle.units_law.proofs.FewStates.{states_few}
 use Rattle.units_law.proofs.FittingUnits.{UnitsFit, fit_merged, fit_class, units_keep_states}
 use Rattle.units_law.proofs.Rounds.{begins_below}
 use Rattle.units_law.proofs.Roundings.{bound_roundings, first_bound, arms_roundings, both_roundings, choice_roundings, choose_roundings, first_arm_roundings}
+use Rattle.units_law.specs.Points.{points_of, most_states}
+use Rattle.units_law.proofs.SamePoints.{peaks_are_same, as_many_points}
 use Rattle.units_law.specs.FewOthers.{numbers_at, DrawsWithin, BlockWithin}
 
 -- ---- a fact of all members of two lists
@@ -191,13 +193,16 @@ module _ (cut : Rounding) (c : RoundsDown cut) (N L n : ℕ) (some : 0 < N) (r :
         omega arith
 
 pub round_few : (cut : Rounding) → RoundsDown cut → (p : SourceProgram) (n : ℕ) (r : Option ℕ) (M : ℕ) → BlockIsWeighed p.body → BlockFits p.body → BlockWithin M p.body →
-    round_roundings cut p n r ≤ peak_of p n r * (M + 1) * length (tables_of p n r).tables
+    round_roundings cut p n r ≤ most_states (points_of p n r) * (M + 1) * length (points_of p n r)
 round_few cut c p n r M w q d =
     let a = at_width p n r w in
     let N = round_width p n r in
     let L = peak_of p n r in
     let s = zeros (length p.names) in
-    less _ _ _ (block_few cut c N L n a.positive r M p.body w q d ((s, ALL) ∷ []) (sure s) (zeros_fit (length p.names), tt) a.within (begins_below N s))
+    let x = less _ _ _ (block_few cut c N L n a.positive r M p.body w q d ((s, ALL) ∷ []) (sure s) (zeros_fit (length p.names), tt) a.within (begins_below N s)) in
+    let many = ap (λ k. k * (M + 1) * length (tables_of p n r).tables) (peaks_are_same p n r) in
+    let long = ap (λ k. most_states (points_of p n r) * (M + 1) * k) (as_many_points p n r) in
+    omega (arith, x, many, long)
   where
     less : (a l u : ℕ) → a + l ≤ u → a ≤ u
     less a l u h = omega arith

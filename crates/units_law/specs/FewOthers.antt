@@ -11,7 +11,7 @@ use Rattle.gcl_core.specs.meaning.Value.{State, Value, value_of}
 use Rattle.gcl_core.specs.text.ReadingOrder.{listed}
 use Rattle.gcl_core.specs.weighing.Fractions.{Fraction, zero_share, one, plus, times, power_sum, divided_by_rest, AtMost}
 use Rattle.gcl_core.specs.weighing.Mass.{round_mass, failed_mass}
-use Rattle.table_flow.specs.Tables.{peak_of, tables_of}
+use Rattle.units_law.specs.Points.{points_of, most_states}
 
 -- ---- how much is lost, where the roundings of a round lose c units
 
@@ -47,9 +47,9 @@ abbrev pub lost_each : Option ℕ → ℕ
 lost_each None = 1
 lost_each (Some r) = 6
 
--- each table that the round goes through has at most the peak of states, and each state m + 1 roundings
+-- each point of the round is reached with at most so many states, and each state has m + 1 roundings there
 abbrev pub lost_units_at_most : SourceProgram → ℕ → Option ℕ → ℕ → ℕ
-lost_units_at_most p n r m = lost_each r * (peak_of p n r * (m + 1) * length (tables_of p n r).tables)
+lost_units_at_most p n r m = lost_each r * (most_states (points_of p n r) * (m + 1) * length (points_of p n r))
 
 -- ---- what outcomes without a row have, and where none has a row
 

@@ -11,4 +11,5 @@ pub mod Between
 pub mod Enclosures
 pub mod Events
 pub mod Holding
+pub mod Points
 pub mod FewOthers

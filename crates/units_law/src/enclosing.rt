@@ -1,12 +1,13 @@
 // Bounds between which masses lie, from one round in units.
 
-ghost use Rattle.std.specs.Prelude.{◌≡◌, ◌-◌, ◌*◌, ◌^◌, ◌≤◌, ◌<◌, ℕ, Bool, true, false, Option, None};
+ghost use Rattle.std.specs.Prelude.{◌≡◌, ◌-◌, ◌*◌, ◌^◌, ◌≤◌, ◌<◌, ℕ, Bool, true, false, Option, None, length};
 ghost use Rattle.numbers.specs.declared.units.TheConstants.{ALL};
 ghost use Rattle.gcl_core.specs.declared.answers.Outcome.{Outcome};
 ghost use Rattle.gcl_core.specs.meaning.Checked.{IsChecked};
 ghost use Rattle.gcl_core.specs.meaning.Syntax.{SourceProgram};
 ghost use Rattle.gcl_core.specs.weighing.Fractions.{Fraction, times, power, power_sum, AtMost, IsBelowOne, IsOne};
 ghost use Rattle.gcl_core.specs.weighing.Mass.{failed_mass};
+ghost use Rattle.table_flow.specs.Tables.{peak_of, tables_of};
 ghost use Rattle.bounds_law.specs.Rows.{Rows};
 ghost use Rattle.units_law.specs.Down.{down};
 ghost use Rattle.units_law.specs.Rounding.{LosesFew};
@@ -16,6 +17,7 @@ ghost use Rattle.units_law.specs.SomeRounds.{InRounds, in_rounds};
 ghost use Rattle.units_law.specs.Enclosures.{fails_in, lost_units, upper_of_others, NothingPasses, SomePasses, AreEnclosures};
 ghost use Rattle.units_law.specs.Events.{IsBetween};
 ghost use Rattle.units_law.specs.FewOthers.{most_of_others, BlockWithin, HaveLittle, NearlyFails};
+ghost use Rattle.units_law.specs.Points.{points_of, most_states};
 ghost use Rattle.units_law.specs.Holding.{IsFor, MayEnd, AreOrdered, Enclose, most_apart, AreClose};
 
 /// It does nothing: its clauses say that the units of R rounds, worked out by the binary digits of R, are at most the exact weights:
@@ -55,9 +57,16 @@ pub fn bounds_are_as_wide_as_what_is_lost()
         lost_units p n r None false ≤ k * round_roundings down p n r }
 {}
 
+/// It does nothing: its clauses say that the points of a round are its tables, of which these have a law: there are as many, and the
+/// most different states of one are as many.
+pub fn points_are_tables()
+    ensures states { (p : SourceProgram) (n : ℕ) (r : Option ℕ) → most_states (points_of p n r) ≡ peak_of p n r }
+    ensures points { (p : SourceProgram) (n : ℕ) (r : Option ℕ) → length (points_of p n r) ≡ length (tables_of p n r).tables }
+{}
+
 /// It does nothing: its clauses say what the bound of the others is at most: the units that the roundings of a round lose, and for all
 /// turns what ran out of turns, in all rounds, and one unit more, with a limit of rounds two for each. Of roundings there are no more
-/// than the tables of a round, its peak of states and its widest uniform draw in a state of numbers of 64 bits allow, which is always
+/// than the points of a round, the most states of one and its widest uniform draw in a state of numbers of 64 bits allow, which is always
 /// below 2^63. Where no unit passes, a round fails with all weight but for so many units.
 pub fn others_have_little()
     ensures by_roundings { (p : SourceProgram) (n k units : ℕ) (r R : Option ℕ) (all_turns : Bool) → IsChecked p → MayEnd p n r R →

@@ -12,9 +12,9 @@
 //! outcomes without a row have together at most the bound of the others (`masses_lie_between`). Two bounds of a row are no
 //! further apart than that bound and a unit of 2^-120, and with a limit of rounds one unit more for each. Without one, and but
 //! for all turns, what is lost is at most k units for each product, where each loses at most k
-//! (`bounds_are_as_wide_as_what_is_lost`). The bound of the others is at most what all rounds lose: what the tables of a round,
-//! its peak of states and its widest draw allow to be lost by rounding, and for all turns what ran out of turns
-//! (`others_have_little`).
+//! (`bounds_are_as_wide_as_what_is_lost`). The bound of the others is at most what all rounds lose: what the points of a round,
+//! the most states of one and its widest draw allow to be lost by rounding, and for all turns what ran out of turns
+//! (`others_have_little`). The points are those of the tables (`points_are_tables`).
 //!
 //! No clause is of code: `enclose_fold` works with such tables and gives these bounds. No clause says that few units are lost in
 //! all, or that bounds are narrow: the number of products grows with the states and the turns of a program; without a limit of
@@ -25,7 +25,7 @@ mod enclosing;
 mod rounding;
 
 pub use enclosing::{
-    bounds_are_as_wide_as_what_is_lost, masses_lie_between, others_have_little,
+    bounds_are_as_wide_as_what_is_lost, masses_lie_between, others_have_little, points_are_tables,
     some_rounds_stay_below,
 };
 pub use rounding::{
