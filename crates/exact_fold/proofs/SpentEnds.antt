@@ -11,7 +11,7 @@ use Rattle.table_flow.specs.Scale.{whole, Wholes, amount, weight}
 use Rattle.table_flow.specs.Tables.{Table, fractions_kind, draw_weights, draws_each, block_flow}
 use Rattle.table_flow.proofs.Amounts.{whole_zero}
 use Rattle.table_flow.proofs.EachMember.{Each, Anything, each_anything}
-use Rattle.table_flow.proofs.KeptEntries.{KeepsEntries, block_kept}
+use Rattle.table_flow.proofs.KeptEntries.{KeepsEntries, nothing_asked, block_kept}
 use Rattle.table_flow.proofs.Spreads.{sum_of_all, Zero}
 use Rattle.unlimited_law.specs.Alike.{AreFractions}
 use Rattle.unlimited_law.specs.Ended.{is_out_of_turns}
@@ -33,14 +33,7 @@ AreTurned = Each IsTurned
 
 all_turn : KeepsEntries fractions_kind None Anything Anything Anything Anything Anything IsTurned Anything Anything
 all_turn = record {
-  asked = record {
-    block = λ st b h. (tt, tt);
-    guarded = λ e a c h. (tt, tt);
-    choice = λ p a c h. (tt, tt);
-    choose = λ arms h. tt;
-    arms = λ p a arms h. (tt, tt);
-    loop = λ e a h. tt;
-  };
+  asked = nothing_asked;
   tidy = λ I h. h;
   at_loop = λ I h. (h, tt);
   faulty = λ f e h. tt;

@@ -16,7 +16,7 @@ use Rattle.gcl_core.specs.weighing.Fractions.{Fraction}
 use Rattle.gcl_core.proofs.EqualClasses.{last_of_equal}
 use Rattle.gcl_core.proofs.PartialSums.{last_is}
 use Rattle.table_flow.specs.Tables.{FlowOf, Entries, Kind, both, holds, fails, only_go, faults_go, end_go, set_go, below_go, drawn_go, undrawn_go, shown_go, reached_go, loop_go, statement_go, block_go, arms_go}
-use Rattle.table_flow.proofs.EachMember.{Each, each_append}
+use Rattle.table_flow.proofs.EachMember.{Each, Anything, each_append}
 
 -- entries with the fact P, what ended with Q, weights of draws with D, and draws that are reached with R
 pub record FlowHas {X Y : Type 0} (P : X → Type 0) (Q : Y → Type 0) (D : Fraction → Type 0) (R : Fraction × List ℕ → Type 0) (f : FlowOf X Y) : Type 0 where
@@ -34,6 +34,16 @@ pub record AskedOfParts (S : Statement → Type 0) (B : Statements → Type 0) (
   pub choose : (arms : ArmList) → S (Choose arms) → A arms
   pub arms : (p : ℕ) (a : Statements) (arms : ArmList) → A (arm p a arms) → B a × A arms
   pub loop : (e : Expression) (a : Statements) → S (While e a) → B a
+
+pub nothing_asked : AskedOfParts Anything Anything Anything
+nothing_asked = record {
+  block = λ st b h. (tt, tt);
+  guarded = λ e a c h. (tt, tt);
+  choice = λ p a c h. (tt, tt);
+  choose = λ arms h. tt;
+  arms = λ p a arms h. (tt, tt);
+  loop = λ e a h. tt;
+}
 
 -- What the parts of a kind keep, where S is asked of statements, which leaves draws of such bounds: tables written down anew, entries
 -- that end or are moved, and those of a draw.

@@ -14,7 +14,7 @@ use Rattle.table_flow.proofs.WeightedParts.{loop_weighted, value_weighted, unifo
 use Rattle.gcl_core.specs.weighing.Mass.{sum_of}
 use Rattle.table_flow.specs.Tables.{Table, Flow, weighted, fractions_kind, draw_weights, draws_each, holds, fails, only, faults, all_end, set_to, set_below, set_drawn, not_drawn, both, loop_flow, statement_flow, block_flow, arms_flow}
 use Rattle.table_flow.proofs.EachMember.{Each, Anything, each_anything}
-use Rattle.table_flow.proofs.KeptEntries.{KeepsEntries, end_keeps, statement_kept, block_kept}
+use Rattle.table_flow.proofs.KeptEntries.{KeepsEntries, nothing_asked, end_keeps, statement_kept, block_kept}
 use Rattle.table_flow.proofs.ArmEnds.{arm_ends, choose_weighted}
 use Rattle.table_flow.proofs.Amounts.{whole_zero}
 use Rattle.table_flow.proofs.Spreads.{sum_of_all, after_weight, Zero, spread, sum_append, sum_none, sum_scaled, sum_taken, zero_after, times_assoc, times_one, sum_ext, spread_scaled, sure_sum, sum_ext_below, sum_set_below, draw_sum, scaled_one}
@@ -94,14 +94,7 @@ spread_guard F v a c (e ∷ I) z = at_head (v e.1) refl (spread_guard F v a c I 
 -- ---- what ended does not go on
 none_goes_on : (r : Option ℕ) → KeepsEntries fractions_kind r Anything Anything Anything Anything Anything IsOver Anything Anything
 none_goes_on r = record {
-  asked = record {
-    block = λ st b h. (tt, tt);
-    guarded = λ e a c h. (tt, tt);
-    choice = λ p a c h. (tt, tt);
-    choose = λ arms h. tt;
-    arms = λ p a arms h. (tt, tt);
-    loop = λ e a h. tt;
-  };
+  asked = nothing_asked;
   tidy = λ I h. h;
   at_loop = λ I h. (h, tt);
   faulty = λ f e h. tt;

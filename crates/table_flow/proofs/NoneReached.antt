@@ -13,7 +13,7 @@ use Rattle.table_flow.specs.Reached.{drawn_each, drawn_bound, loop_draws, statem
 use Rattle.table_flow.specs.Scale.{whole, amount, weight, Wholes, Within}
 use Rattle.table_flow.proofs.Amounts.{amount_append}
 use Rattle.table_flow.proofs.EachMember.{Each, Anything, each_anything}
-use Rattle.table_flow.proofs.KeptEntries.{KeepsEntries, loop_kept, statement_kept, block_kept}
+use Rattle.table_flow.proofs.KeptEntries.{KeepsEntries, nothing_asked, loop_kept, statement_kept, block_kept}
 
 -- ---- what draws count, by the states that they are made from
 pub amount_drawn_each : (N : ℕ) (H : List ℕ → ℕ) (ends : List ℕ) (I : Table) → amount N H (drawn_each ends I) ≡ amount N (λ s. H ends) I
@@ -64,14 +64,7 @@ nothing_drawn ends (e ∷ I) h = (h.0, nothing_drawn ends I h.1)
 
 nothing_kept : (r : Option ℕ) → KeepsEntries fractions_kind r Anything Anything Anything Anything IsNothing Anything Anything IsNothing
 nothing_kept r = record {
-  asked = record {
-    block = λ st b h. (tt, tt);
-    guarded = λ e a c h. (tt, tt);
-    choice = λ p a c h. (tt, tt);
-    choose = λ arms h. tt;
-    arms = λ p a arms h. (tt, tt);
-    loop = λ e a h. tt;
-  };
+  asked = nothing_asked;
   tidy = λ I h. h;
   at_loop = λ I h. (h, tt);
   faulty = λ f e h. tt;

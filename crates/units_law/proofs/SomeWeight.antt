@@ -14,7 +14,7 @@ use Rattle.std.specs.Prelude.{ℤ, pos, negsuc, slice_set}
 use Rattle.numbers.proofs.Divisors.{product_pos}
 use Rattle.table_flow.specs.Tables.{Table, weighted, fractions_kind, draw_weights, draws_each, block_flow}
 use Rattle.table_flow.proofs.EachMember.{Each, Anything, each_append, each_anything}
-use Rattle.table_flow.proofs.KeptEntries.{KeepsEntries, only_keeps, end_keeps, block_kept}
+use Rattle.table_flow.proofs.KeptEntries.{KeepsEntries, nothing_asked, only_keeps, end_keeps, block_kept}
 use Rattle.table_flow.proofs.WeightedParts.{loop_weighted, arm_weighted, value_weighted, uniform_weighted}
 use Rattle.units_law.specs.Points.{Point, going_on, those, where_true, loop_points, statement_points, block_points, arms_points}
 
@@ -157,16 +157,9 @@ module _ (n : ℕ) (r : Option ℕ) where
         all_joined (block_points n r a (scaled (class_weight b r p) I)) _ (block_points_have a _ (scaled_have (class_weight b r p) I h)) (arms_points_have b arms I h)
 
 -- ---- tables
-weight_kept : (r : Option ℕ) → KeepsEntries fractions_kind r Anything Anything Anything Anything HasWeight Anything Anything
+weight_kept : (r : Option ℕ) → KeepsEntries fractions_kind r Anything Anything Anything Anything HasWeight Anything Anything Anything
 weight_kept r = record {
-  asked = record {
-    block = λ st b h. (tt, tt);
-    guarded = λ e a c h. (tt, tt);
-    choice = λ p a c h. (tt, tt);
-    choose = λ arms h. tt;
-    arms = λ p a arms h. (tt, tt);
-    loop = λ e a h. tt;
-  };
+  asked = nothing_asked;
   tidy = λ I h. h;
   at_loop = λ I h. (h, tt);
   faulty = λ f e h. tt;
@@ -180,6 +173,7 @@ weight_kept r = record {
   class = λ b d c I h. scaled_have (class_weight b r c) I h;
   rest = λ b d I h. end_keeps weighted Anything Anything (limit Attempts) (λ e p. tt) (scaled (no_class_weight b r) I) (each_anything (scaled (no_class_weight b r) I));
   shown = λ b d I h. each_anything (draws_each (draw_weights b r) I);
+  reached = λ ends d I h. each_anything (fractions_kind.reached ends I);
 }
 
 pub tables_have : (n : ℕ) (r : Option ℕ) (b : Statements) (I : Table) → HaveWeight I → AllHaveWeight (block_flow n r b I).tables
