@@ -19,4 +19,5 @@ pub mod Powers
 pub mod Counting
 pub mod RowsBy
 pub mod Listed
+pub mod MostReads
 pub mod Others

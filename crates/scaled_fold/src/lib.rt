@@ -27,6 +27,7 @@ mod error;
 mod fold;
 mod growing;
 mod listing;
+mod longest;
 mod odds;
 mod outcomes;
 mod pair;
