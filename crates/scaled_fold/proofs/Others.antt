@@ -1,5 +1,5 @@
 -- Rows of bounds go on to hold, in order and close, beside a bound of the others that is enough.
-use Rattle.std.proofs.Common.{◌≡◌, ◌⊎◌, inl, inr, ℕ, zero, suc, ◌+◌, ◌*◌, ◌≤◌, ◌<◌, Option, sym, ap, ◌∙◌, arith}
+use Rattle.std.proofs.Common.{◌≡◌, ◌⊎◌, inl, inr, ⊎_elim, ℕ, zero, suc, ◌+◌, ◌*◌, ◌≤◌, ◌<◌, Option, sym, ap, ◌∙◌, arith}
 use Rattle.std.specs.Int.{div_ceil}
 use Rattle.std.proofs.lemmas.Bool.{cases_lt}
 use Rattle.std.proofs.lemmas.Grind.{div_ceil_times}
@@ -68,7 +68,7 @@ within_one S h0 h1 l0 l1 t0 t1 e m =
     omega (arith, a, b)
 
 -- a part of a whole is at most 1, rounded up
-part_most : (h d : ℕ) → h ≤ d → div_ceil (h * ALL) d ≤ ALL
+pub part_most : (h d : ℕ) → h ≤ d → div_ceil (h * ALL) d ≤ ALL
 part_most h zero m = by h m
   where
     by : (h : ℕ) → h ≤ 0 → div_ceil (h * ALL) 0 ≤ ALL
@@ -83,6 +83,10 @@ part_most h (suc d) m = by (cases_lt ALL (div_ceil (h * ALL) (suc d)))
         let b : (ALL + 1) * suc d ≤ div_ceil (h * ALL) (suc d) * suc d = mul-le-mul_right (suc d) (omega (arith, l)) in
         let c = mul-le-mul_right ALL m in
         absurd (omega (arith, a, b, c))
+
+-- what is within all is within any number that is all or else enough
+pub capped : (k o : ℕ) → k ≤ ALL → (o < ALL → k ≤ o) → k ≤ o
+capped k o h e = ⊎_elim (λ (l : o < ALL). e l) (λ (l : ALL ≤ o). omega (arith, h, l)) (cases_lt o ALL)
 
 below_one : (k : ℕ) → k ≤ ALL → (other_of k).0 ≤ (other_of k).1
 below_one k h = let a = at_most_one k h in omega (arith, a)
