@@ -26,10 +26,10 @@ use Rattle.scaled_fold.proofs.Counting.{bit, entry_sum, entry_of, parted, same_t
 use Rattle.scaled_fold.proofs.Others.{capped, part_most, still_ordered, still_enclose, bounds_close}
 use Rattle.scaled_fold.proofs.RowsBy.{row_from, row_has, kept_order, kept_is}
 
-abbrev least_number : Pair → ℕ
+abbrev pub least_number : Pair → ℕ
 least_number w = w.0
 
-abbrev most_number : Pair → ℕ
+abbrev pub most_number : Pair → ℕ
 most_number w = w.1
 
 pub nothing_over : (d : ℕ) → 0 * ALL / d ≡ 0
@@ -40,7 +40,7 @@ some_over : (l d : ℕ) → 0 < l * ALL / d → 0 < l
 some_over zero d h = let z = nothing_over d in absurd (omega arith)
 some_over (suc l) d h = omega arith
 
-abbrev none_of : ℕ → Bool
+abbrev pub none_of : ℕ → Bool
 none_of k = k == 0
 
 more_than_none : (k : ℕ) → none_of (suc k) ≡ false
@@ -73,12 +73,34 @@ module _ (least most rest : ℕ) where
   pub no_bounds : (spare : ℕ) (w : Pair) → part_at least most rest w ≤ spare → bounds_at least most rest spare w ≡ None
   no_bounds spare w h = let z : part_at least most rest w - spare ≡ 0 = omega (arith, h) in ap (λ k. bounds_from least most rest k w) z
 
-  row_or_none : (w : Pair) (k : ℕ) → not (none_of k) ≡ is_some (bounds_from least most rest k w)
+  pub row_or_none : (w : Pair) (k : ℕ) → not (none_of k) ≡ is_some (bounds_from least most rest k w)
   row_or_none w zero = refl
   row_or_none w (suc k) = ap not (more_than_none k)
 
 nothing_less : (k : ℕ) → k - 0 ≡ k
 nothing_less k = omega arith
+
+-- ---- with the same numbers by other names
+
+module _ (spare least most rest A B R : ℕ) (least_all : least ≡ A) (most_all : most ≡ B) (rest_all : rest ≡ R) where
+  abbrev in_bounds : (l m r : ℕ) → Pair → Option (Fraction × Fraction)
+  in_bounds l m r w = bounds_at l m r spare w
+
+  same_bounds : in_bounds least most rest ≡ in_bounds A B R
+  same_bounds = ap (λ l. in_bounds l most rest) least_all ∙ ap (λ m. in_bounds A m rest) most_all ∙ ap (λ r. in_bounds A B r) rest_all
+
+  pub same_rows : (rows : Rows) (K : Pairs Outcome) → rows ≡ rows_by (bounds_at least most rest spare) K → rows ≡ rows_by (bounds_at A B R spare) K
+  same_rows rows K e = e ∙ ap (λ b. rows_by b K) same_bounds
+
+  pub same_kept : (kept : Pair) (K : Pairs Outcome) → kept ≡ kept_by (bounds_at least most rest spare) K → kept ≡ kept_by (bounds_at A B R spare) K
+  same_kept kept K e = e ∙ ap (λ b. kept_by b K) same_bounds
+
+  pub same_enough : (kept kept' : Pair) (o : ℕ) → kept ≡ kept' → AreEnough least most rest spare kept o → AreEnough A B R spare kept' o
+  same_enough kept kept' o e h =
+      subst (λ k. AreEnough A B R spare k o) e
+      (subst (λ r. AreEnough A B r spare kept o) rest_all
+      (subst (λ m. AreEnough A m rest spare kept o) most_all
+      (subst (λ l. AreEnough l most rest spare kept o) least_all h)))
 
 module _ (p : SourceProgram) (n : ℕ) (r : Option ℕ) (all_turns : Bool) (K : Pairs Outcome) (loose : ℕ) (g : RoundGives p n r K loose) (ascending : Ascending K) where
   abbrev f : Scaled
@@ -102,13 +124,13 @@ module _ (p : SourceProgram) (n : ℕ) (r : Option ℕ) (all_turns : Bool) (K : 
   abbrev bounds : Pair → Option (Fraction × Fraction)
   bounds w = bounds_at A B R 0 w
 
-  in_order : Ascending C
+  pub in_order : Ascending C
   in_order = subst (λ xs. AllPairs (λ x y. is_before x y ≡ true) xs) (sym (same_keys all_turns K)) ascending
 
-  least_is : (meant : Outcome → Bool) → least_of p all_turns meant f ≡ held (λ x. bit (meant x)) (at_least C)
+  pub least_is : (meant : Outcome → Bool) → least_of p all_turns meant f ≡ held (λ x. bit (meant x)) (at_least C)
   least_is meant = sym (g.least (stay all_turns meant)) ∙ least_counted all_turns meant K
 
-  most_is : (meant : Outcome → Bool) → most_of p all_turns meant f ≡ held (λ x. bit (meant x)) (at_most C) + R
+  pub most_is : (meant : Outcome → Bool) → most_of p all_turns meant f ≡ held (λ x. bit (meant x)) (at_most C) + R
   most_is meant =
       let a = g.most (may_be all_turns meant) in
       let b = g.rest in
@@ -148,7 +170,7 @@ module _ (p : SourceProgram) (n : ℕ) (r : Option ℕ) (all_turns : Bool) (K : 
         let d = parted most_number (same_outcome x) C in
         omega (arith, a, b, d)
 
-    parts_are : parts_of p all_turns f x ≡ part_at A B R w
+    pub parts_are : parts_of p all_turns f x ≡ part_at A B R w
     parts_are = ap (λ l. l * ALL / (l + most_beside p all_turns f x)) least_here ∙ ap (λ h. w.0 * ALL / (w.0 + h)) most_others
 
     lower_is : lower_of p all_turns f x ≡ lower_at A B R w
@@ -159,7 +181,7 @@ module _ (p : SourceProgram) (n : ℕ) (r : Option ℕ) (all_turns : Bool) (K : 
 
   -- ---- the rows
 
-  has_entry : (x : Outcome) → 0 < parts_of p all_turns f x → (w : Pair) × Contains C (x, w)
+  pub has_entry : (x : Outcome) → 0 < parts_of p all_turns f x → (w : Pair) × Contains C (x, w)
   has_entry x h = entry_of least_number x C (subst (λ l. 0 < l) (least_is (same_outcome x)) (some_over (least_at p all_turns f x) (least_at p all_turns f x + most_beside p all_turns f x) h))
 
   pub are_listed : AreListed p all_turns f (rows_by bounds C)
@@ -219,23 +241,17 @@ module _ (p : SourceProgram) (n : ℕ) (r : Option ℕ) (all_turns : Bool) (K : 
   -- ---- with a bound of the others that is enough
   module _ (least most rest : ℕ) (least_all : least ≡ A) (most_all : most ≡ B) (rest_all : rest ≡ R) (kept : Pair) (kept_all : kept ≡ kept_by (bounds_at least most rest 0) C) where
     kept_here : kept ≡ kept_by bounds C
-    kept_here =
-        kept_all ∙ ap (λ a. kept_by (bounds_at a most rest 0) C) least_all ∙ ap (λ b. kept_by (bounds_at A b rest 0) C) most_all ∙ ap (λ r. kept_by (bounds_at A B r 0) C) rest_all
+    kept_here = same_kept 0 least most rest A B R least_all most_all rest_all kept C kept_all
 
     pub kept_most : kept.1 ≤ most
     kept_most = let a = kept_within in let b = ap (λ (w : Pair). w.1) kept_here in omega (arith, a, b, most_all)
 
     module _ (rows : Rows) (rows_all : rows ≡ rows_by (bounds_at least most rest 0) C) (o : ℕ) (enough : AreEnough least most rest 0 kept o) where
       rows_here : rows ≡ rows_by bounds C
-      rows_here =
-          rows_all ∙ ap (λ a. rows_by (bounds_at a most rest 0) C) least_all ∙ ap (λ b. rows_by (bounds_at A b rest 0) C) most_all ∙ ap (λ r. rows_by (bounds_at A B r 0) C) rest_all
+      rows_here = same_rows 0 least most rest A B R least_all most_all rest_all rows C rows_all
 
       enough_here : AreEnough A B R 0 (kept_by bounds C) o
-      enough_here =
-          subst (λ k. AreEnough A B R 0 k o) kept_here
-          (subst (λ r. AreEnough A B r 0 kept o) rest_all
-          (subst (λ b. AreEnough A b rest 0 kept o) most_all
-          (subst (λ a. AreEnough a most rest 0 kept o) least_all enough)))
+      enough_here = same_enough 0 least most rest A B R least_all most_all rest_all kept (kept_by bounds C) o kept_here enough
 
       pub listed_rows : AreListed p all_turns f rows
       listed_rows = subst (AreListed p all_turns f) (sym rows_here) are_listed
@@ -254,7 +270,7 @@ module _ (p : SourceProgram) (n : ℕ) (r : Option ℕ) (all_turns : Bool) (K : 
       rows_close some near x low high c =
           let u = listed_rows.upper x low high c in
           subst (λ h. AtMost h (plus (plus low (lowest (o, ALL))) (1, ALL))) (sym u)
-          (bounds_close low (most_at p all_turns f x) (most_at p all_turns f x + least_beside p all_turns f x) o (B + R + R - A) A (omega arith) some enough_here.within (λ l. let x = enough_here.apart l in omega (arith, x))
+          (bounds_close low (most_at p all_turns f x) (most_at p all_turns f x + least_beside p all_turns f x) o (B + R + R - A) A 0 (omega arith) some enough_here.within enough_here.apart
           (subst (λ h. AtMost h (plus (plus low (B + R + R - A, A)) (2, ALL))) u
           (subst (λ a. AtMost high (plus (plus low (B + R + R - A, a)) (2, ALL))) all_least_is
           (subst (λ g. AtMost high (plus (plus low (g, all_least p all_turns f)) (2, ALL))) uncertain_is (near x low high c)))))

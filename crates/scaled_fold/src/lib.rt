@@ -26,6 +26,7 @@ mod ended;
 mod error;
 mod fold;
 mod growing;
+mod limiting;
 mod listing;
 mod longest;
 mod odds;
@@ -45,5 +46,6 @@ mod walking;
 
 pub use enclosing::enclose_in_pairs;
 pub use error::PairsError;
+pub use limiting::enclose_under_attempts;
 pub use odds::Odds;
 pub use rounds::{Ends, round_in_pairs};
