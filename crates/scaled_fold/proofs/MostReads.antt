@@ -6,7 +6,7 @@ use Rattle.std.proofs.Math.Nat.{max-le, mul-le-mul_left}
 use Rattle.gcl_core.specs.declared.rules.TheConstants.{GREATEST_DENOMINATOR}
 use Rattle.gcl_core.specs.declared.syntax.Weight.{Weight}
 use Rattle.gcl_core.specs.meaning.Arms.{parts_of}
-use Rattle.gcl_core.specs.meaning.Bounds.{StatementIsWeighed, BlockIsWeighed, ArmsAreWeighed}
+use Rattle.gcl_core.specs.meaning.Bounds.{BlockIsWeighed, ArmsAreWeighed}
 use Rattle.gcl_core.specs.meaning.Draw.{bits_for}
 use Rattle.gcl_core.specs.meaning.Syntax.{Expression, Statement, Skip, Set, If, While, Choice, Choose, Uniform, Observe, Statements, ArmList}
 use Rattle.gcl_core.specs.weighing.LongestReading.{longest_statement, longest, longest_arm}

@@ -1,8 +1,7 @@
 -- Under a limit of attempts that weighs one part of 2^-120 at most, bounds hold that hold without it, each lower one by such a part less.
-use Rattle.std.proofs.Common.{◌≡◌, ◌⊎◌, inl, inr, ⊎_elim, ℕ, zero, suc, ◌+◌, ◌-◌, ◌*◌, ◌^◌, ◌≤◌, ◌<◌, ◌==◌, Bool, true, false, None, Some, Option, refl, le_refl, sym, ap, ◌∙◌, subst, arith}
-use Rattle.std.specs.Prelude.{not, AllPairs, Contains}
+use Rattle.std.proofs.Common.{◌≡◌, ⊎_elim, ℕ, zero, suc, ◌+◌, ◌-◌, ◌*◌, ◌^◌, ◌≤◌, ◌<◌, Bool, true, false, None, Some, refl, le_refl, sym, ap, ◌∙◌, subst, arith}
+use Rattle.std.specs.Prelude.{not, Contains}
 use Rattle.std.specs.Int.{div_ceil}
-use Rattle.std.specs.Option.{is_some}
 use Rattle.std.proofs.lemmas.Bool.{cases_lt}
 use Rattle.std.proofs.lemmas.Nat.{pow_pos}
 use Rattle.std.proofs.Math.Nat.{le_of_mul-le-mul_right, mul-le-mul_right}
@@ -14,12 +13,11 @@ use Rattle.gcl_core.specs.declared.answers.Limit.TheVariants.{Attempts}
 use Rattle.gcl_core.specs.declared.answers.Outcome.{Outcome}
 use Rattle.gcl_core.specs.declared.answers.Outcome.TheVariants as outcome
 use Rattle.gcl_core.specs.meaning.Checked.{IsChecked}
-use Rattle.gcl_core.specs.meaning.Order.{is_before}
 use Rattle.gcl_core.specs.meaning.Outcomes.{same_outcome}
 use Rattle.gcl_core.specs.meaning.Syntax.{SourceProgram}
 use Rattle.gcl_core.specs.weighing.Fractions.{Fraction, plus, divided_by_rest, AtMost, IsBelowOne}
 use Rattle.gcl_core.specs.weighing.LongestReading.{longest}
-use Rattle.gcl_core.specs.weighing.Mass.{round_mass, failed_mass, mass_of, mass_of_those}
+use Rattle.gcl_core.specs.weighing.Mass.{round_mass, failed_mass, mass_of_those}
 use Rattle.gcl_core.proofs.SameOutcomes.{same_outcomes}
 use Rattle.bounds_law.specs.Rows.{Rows, HasNone}
 use Rattle.bounds_law.proofs.EqualFractions.{equal_below, equal_above}
@@ -270,8 +268,8 @@ module _ (p : SourceProgram) (n t : ℕ) (ok : IsChecked p) (K : Pairs Outcome) 
           let b' = least_is p n None false K loose g ascending (others unlisted) in
           let c' = fewer_have least_number (others unlisted) (others meant) (λ x. reversed (meant x) (unlisted x) (within_those x)) C in
           let rises =
-              part_rises u.0 u.1 (most_of p false meant f) (least_of p false (others meant) f) (most_of p false unlisted f) (least_of p false (others unlisted) f) (some_most meant)
-              (between meant).from_above (omega (arith, a, b, c)) (omega (arith, a', b', c')) in
+          part_rises u.0 u.1 (most_of p false meant f) (least_of p false (others meant) f) (most_of p false unlisted f) (least_of p false (others unlisted) f) (some_most meant)
+          (between meant).from_above (omega (arith, a, b, c)) (omega (arith, a', b', c')) in
           subst (λ k. AtMost u (rounded_up (B - kept.1 + R) (B - kept.1 + R + k))) least_kept
           (subst (λ k. AtMost u (rounded_up k (k + least_of p false (others unlisted) f))) most_left
           (up_above (most_of p false unlisted f) (most_of p false unlisted f + least_of p false (others unlisted) f) u (some_most unlisted) rises))

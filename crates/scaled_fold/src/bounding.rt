@@ -21,11 +21,7 @@ pub struct Whole {
 impl Whole {
     /// The two bounds of an outcome with `w` units, the lower one by `spare` parts of 2^-120 less than what these tell, where it then has a part at
     /// least.
-    pub fn bounds(
-        self,
-        spare: u128,
-        w: (u128, u128),
-    ) -> Result<Option<(Frac, Frac)>, PairsError>
+    pub fn bounds(self, spare: u128, w: (u128, u128)) -> Result<Option<(Frac, Frac)>, PairsError>
         requires least { w.0 ≤ self.least }
         requires most { w.1 ≤ self.most }
         ensures { IfOk result (λ b. b ≡ bounds_at self.least self.most self.rest spare w) }

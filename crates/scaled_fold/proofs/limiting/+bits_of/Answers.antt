@@ -1,4 +1,3 @@
-use Rattle.std.proofs.Common.{arith}
 use Rattle.scaled_fold.proofs.Powers.{bits_below, bits_above}
 use Rattle.scaled_fold.proofs.limiting.+bits_of.Goals as goal
 

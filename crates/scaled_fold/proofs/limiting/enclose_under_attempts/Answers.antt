@@ -1,4 +1,4 @@
-use Rattle.std.proofs.Common.{ℕ, ◌*◌, ◌^◌, ◌≤◌, ◌<◌, false, None, refl, sym, ap, ◌∙◌, subst, arith}
+use Rattle.std.proofs.Common.{◌*◌, ◌^◌, ◌≤◌, ◌<◌, false, None, refl, sym, ap, ◌∙◌, subst, arith}
 use Rattle.numbers.specs.declared.units.TheConstants.{ALL}
 use Rattle.gcl_core.specs.declared.syntax.Program.{Program}
 use Rattle.gcl_core.specs.meaning.Views.{source_of}
@@ -20,7 +20,7 @@ use Rattle.scaled_fold.proofs.Others.{at_most_one}
 use Rattle.scaled_fold.proofs.RowsBy.{kept_within}
 use Rattle.scaled_fold.proofs.UnderLimit.{HoldUnder, little, hold_under}
 use Rattle.scaled_fold.proofs.limiting.enclose_under_attempts.Goals as goal
-use Rattle.scaled_fold.proofs.limiting.enclose_under_attempts.Goals.{After-listed, After-of-2}
+use Rattle.scaled_fold.proofs.limiting.enclose_under_attempts.Goals.{After-of-2}
 
 pub others-requires : goal.others-requires
 others-requires c =
