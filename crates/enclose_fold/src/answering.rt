@@ -14,7 +14,7 @@ use crate::error::EncloseError;
 use bounds_law::Bounds;
 use gcl_core::Checked;
 use numbers::Frac;
-use scaled_fold::{PairsError, enclose_in_pairs};
+use scaled_fold::{PairsError, enclose_in_pairs, enclose_under_attempts};
 use std::alloc::Global;
 use std::cmp::Ordering;
 
@@ -32,8 +32,36 @@ fn is_less(a: &Frac, b: &Frac) -> bool
     }
 }
 
-// The bounds by pairs, where there are any.
-fn in_pairs(
+// The bounds by pairs under a limit of attempts that weighs next to nothing, where there are any, from a round without that limit.
+fn under_attempts(
+    alloc: Global,
+    p: &Checked,
+    turns: u64,
+    attempts: Option<u64>,
+    all_turns: bool,
+) -> Result<Option<Bounds>, EncloseError>
+    ensures ok { IfOk result (λ found. IfSome found (λ b. ArePaired (source_of p.now) turns attempts all_turns b.rows b.other)) }
+    ensures cause { IfErr result (λ e. e ≡ OutOfMemory) }
+{
+    match attempts {
+        None => Ok(None),
+        Some(most) => {
+            if all_turns {
+                return Ok(None);
+            }
+            match enclose_under_attempts(alloc, p, turns, most) {
+                Ok(found) => Ok(found),
+                Err(PairsError::OutOfMemory) => Err(EncloseError::OutOfMemory),
+                Err(PairsError::TooManyStates | PairsError::TooWide | PairsError::NothingLeft) => {
+                    Ok(None)
+                }
+            }
+        }
+    }
+}
+
+// The bounds by pairs under the limits of each draw and each loop, where there are any.
+fn within_attempts(
     alloc: Global,
     p: &Checked,
     turns: u64,
@@ -47,6 +75,23 @@ fn in_pairs(
         Ok(bounds) => Ok(Some(bounds)),
         Err(PairsError::OutOfMemory) => Err(EncloseError::OutOfMemory),
         Err(PairsError::TooManyStates | PairsError::TooWide | PairsError::NothingLeft) => Ok(None),
+    }
+}
+
+// The bounds by pairs, where there are any.
+fn in_pairs(
+    alloc: Global,
+    p: &Checked,
+    turns: u64,
+    attempts: Option<u64>,
+    all_turns: bool,
+) -> Result<Option<Bounds>, EncloseError>
+    ensures ok { IfOk result (λ found. IfSome found (λ b. ArePaired (source_of p.now) turns attempts all_turns b.rows b.other)) }
+    ensures cause { IfErr result (λ e. e ≡ OutOfMemory) }
+{
+    match under_attempts(alloc, p, turns, attempts, all_turns)? {
+        Some(pairs) => Ok(Some(pairs)),
+        None => within_attempts(alloc, p, turns, attempts, all_turns),
     }
 }
 

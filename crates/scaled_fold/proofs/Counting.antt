@@ -1,5 +1,5 @@
 -- What outcomes that count have: of an entry in order, of all entries, and of those beside a test.
-use Rattle.std.proofs.Common.{◌≡◌, ◌⊎◌, inl, inr, ℕ, ◌+◌, ◌*◌, ◌<◌, Bool, true, false, cond, List, [], ◌∷◌, map, refl, sym, ap, subst, arith}
+use Rattle.std.proofs.Common.{◌≡◌, ◌⊎◌, inl, inr, ℕ, ◌+◌, ◌*◌, ◌≤◌, ◌<◌, Bool, true, false, cond, List, [], ◌∷◌, map, refl, sym, ap, subst, arith}
 use Rattle.std.specs.Prelude.{not, ◌&&◌, ◌||◌, All, Contains}
 use Rattle.gcl_core.specs.declared.answers.Limit.TheVariants.{Turns}
 use Rattle.gcl_core.specs.declared.answers.Outcome.{Outcome}
@@ -11,6 +11,7 @@ use Rattle.gcl_core.proofs.SameOutcomes.{same_outcomes, outcome_itself}
 use Rattle.mass_fold.proofs.OutcomeRows.{ascending_rest, all_after}
 use Rattle.bounds_law.proofs.Contained.{first_in, later_in, in_cons}
 use Rattle.std.proofs.lemmas.List.Elements.{All-head, All-tail}
+use Rattle.std.proofs.Math.Nat.{mul-le-mul_left}
 use Rattle.units_law.specs.Units.{Units, held, total}
 use Rattle.scaled_law.specs.Given.{stay, may_be}
 use Rattle.scaled_law.specs.Pairs.{Pair, Pairs, at_least, at_most}
@@ -88,6 +89,15 @@ module _ (u : Pair → ℕ) where
   pub same_tests : (s t : Outcome → Bool) → ((x : Outcome) → s x ≡ t x) → (K : Pairs Outcome) → held (λ x. bit (s x)) (of_each u K) ≡ held (λ x. bit (t x)) (of_each u K)
   same_tests s t h [] = refl
   same_tests s t h (e ∷ K) = let i = same_tests s t h K in let z = ap (λ b. u e.1 * bit b) (h e.0) in omega arith
+
+  -- fewer outcomes have no more
+  pub fewer_have : (s t : Outcome → Bool) → ((x : Outcome) → s x ≡ true → t x ≡ true) → (K : Pairs Outcome) → held (λ x. bit (s x)) (of_each u K) ≤ held (λ x. bit (t x)) (of_each u K)
+  fewer_have s t h [] = omega arith
+  fewer_have s t h (e ∷ K) = let i = fewer_have s t h K in let z = mul-le-mul_left (u e.1) (less (s e.0) (t e.0) (h e.0)) in omega (arith, i, z)
+    where
+      less : (a b : Bool) → (a ≡ true → b ≡ true) → bit a ≤ bit b
+      less true b h = let e = ap bit (h refl) in omega (arith, e)
+      less false b h = omega arith
 
 -- ---- those that count
 

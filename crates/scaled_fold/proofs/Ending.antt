@@ -20,7 +20,7 @@ use Rattle.scaled_fold.specs.Doubling.{doubling, doubled_round}
 use Rattle.scaled_fold.specs.Ends.{least_given, most_given, LieBeside}
 use Rattle.scaled_fold.specs.declared.ended.Ended.{Ended}
 use Rattle.scaled_fold.specs.declared.walk.Walk.{Walk}
-use Rattle.scaled_fold.specs.inner.Holding.{IsMergedOf, Holds, Begins}
+use Rattle.scaled_fold.specs.inner.Holding.{IsMergedOf, scale_of, Holds, Begins}
 use Rattle.scaled_fold.specs.inner.Outcomes.{Adds, AddsResults, after, AreOutcomes, RoundGives}
 use Rattle.scaled_fold.proofs.Following.{as_merged, as_aside}
 use Rattle.scaled_fold.proofs.Keeping.{times_for_some}
@@ -44,6 +44,7 @@ begins p w b = record {
   aside = as_aside _ _ [] b.aside tt;
   ended = record { least = λ G z. let a = (b.ended G).0 in omega arith; most = λ G z. let a = (b.ended G).1 in omega arith };
   loose = b.loose;
+  scale = ap scale_of (sym b.doubled);
 }
 
 pub doubling_positive : IsPositive doubling

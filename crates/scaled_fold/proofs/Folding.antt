@@ -30,7 +30,7 @@ then_follows g h w t u a b = record { holds = λ f k. b.holds (g f) (a.holds f k
 -- merged, a walk stays as it is
 pub tidied_follows : (w : Walk) → Follows tidied w w
 tidied_follows w = record {
-  holds = λ f h. record { next = as_merged _ _ _ h.next.is (of_itself f.next h.next.in_order); aside = h.aside; ended = h.ended; loose = h.loose };
+  holds = λ f h. record { next = as_merged _ _ _ h.next.is (of_itself f.next h.next.in_order); aside = h.aside; ended = h.ended; loose = h.loose; scale = h.scale };
   vars = refl;
 }
 

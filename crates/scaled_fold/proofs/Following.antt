@@ -17,7 +17,7 @@ use Rattle.scaled_fold.specs.declared.ended.Ended.{Ended}
 use Rattle.scaled_fold.specs.declared.walk.Walk.{Walk}
 use Rattle.scaled_fold.specs.inner.Ended.{units_of, EndAlike, EndsWith}
 use Rattle.scaled_fold.specs.inner.Folding.{statement_after, parted, chosen, none_aside, arms_begun, with_part, gathered, turns_end}
-use Rattle.scaled_fold.specs.inner.Holding.{IsMergedOf, AreMergedOf, Holds, Follows, FollowsMerged}
+use Rattle.scaled_fold.specs.inner.Holding.{IsMergedOf, AreMergedOf, scale_of, Holds, beside, Follows, FollowsMerged}
 use Rattle.scaled_fold.specs.inner.Stack.{stack_of}
 use Rattle.scaled_fold.proofs.Merged.{merged_alike, of_itself, both_merged, none_merged, least_append, most_append}
 use Rattle.scaled_fold.proofs.Orders.{order_set, order_only, order_class, order_drawn}
@@ -41,41 +41,51 @@ as_aside ess fss Js e m = subst (λ t. AreMergedOf t Js) (sym e) m
 pub stacked_on : (ess rest all : List (Pairs State)) (es bs J : Pairs State) → all ≡ es ∷ rest → es ≡ put_pairs bs J → bs ≡ top ess → rest ≡ below ess → all ≡ put_pairs (top ess) J ∷ below ess
 stacked_on ess rest all es bs J a p q r = a ∙ ap (λ es. es ∷ rest) (p ∙ ap (λ bs. put_pairs bs J) q) ∙ ap (λ rest. put_pairs (top ess) J ∷ rest) r
 
+-- what a step leaves as it was beside the tables
+still_loose : (w t : Walk) → beside t ≡ beside w → (f : Scaled) → Holds f w → t.loose ≡ f.loose
+still_loose w t e f h = ap (λ (b : Pair × ℕ). b.0) e ∙ h.loose
+
+still_scaled : (w t : Walk) → beside t ≡ beside w → (f : Scaled) → Holds f w → f.scale ≡ scale_of t.doubled
+still_scaled w t e f h = h.scale ∙ ap (λ (b : Pair × ℕ). scale_of b.1) (sym e)
+
 module _ (w t : Walk) where
-  pub swapped_follows : t.next.states.entries ≡ top (stack_of w.aside) → stack_of t.aside ≡ w.next.states.entries ∷ below (stack_of w.aside) → t.ended ≡ w.ended → t.loose ≡ w.loose → t.next.vars ≡ w.next.vars → Follows swapped w t
+  pub swapped_follows : t.next.states.entries ≡ top (stack_of w.aside) → stack_of t.aside ≡ w.next.states.entries ∷ below (stack_of w.aside) → t.ended ≡ w.ended → beside t ≡ beside w → t.next.vars ≡ w.next.vars → Follows swapped w t
   swapped_follows p q e l v = record {
     holds = λ f h. let a = topped (stack_of w.aside) f.aside h.aside in record {
       next = as_merged _ _ _ p a.0;
       aside = as_aside _ _ (f.next ∷ below f.aside) q (h.next, a.1);
       ended = subst (λ E. EndAlike (units_of E) [] f.ended []) (sym e) h.ended;
-      loose = l ∙ h.loose;
+      loose = still_loose w t l f h;
+      scale = still_scaled w t l f h;
     };
     vars = v;
   }
 
-  pub taken_back_follows : t.next.states.entries ≡ put_pairs (top (stack_of w.aside)) w.next.states.entries → stack_of t.aside ≡ below (stack_of w.aside) → t.ended ≡ w.ended → t.loose ≡ w.loose → t.next.vars ≡ w.next.vars → Follows taken_back w t
+  pub taken_back_follows : t.next.states.entries ≡ put_pairs (top (stack_of w.aside)) w.next.states.entries → stack_of t.aside ≡ below (stack_of w.aside) → t.ended ≡ w.ended → beside t ≡ beside w → t.next.vars ≡ w.next.vars → Follows taken_back w t
   taken_back_follows p q e l v = record {
     holds = λ f h. let a = topped (stack_of w.aside) f.aside h.aside in record {
       next = as_merged _ _ _ p (both_merged _ _ (top f.aside) f.next a.0 h.next);
       aside = as_aside _ _ (below f.aside) q a.1;
       ended = subst (λ E. EndAlike (units_of E) [] f.ended []) (sym e) h.ended;
-      loose = l ∙ h.loose;
+      loose = still_loose w t l f h;
+      scale = still_scaled w t l f h;
     };
     vars = v;
   }
 
-  pub left_follows : t.next.states.entries ≡ top (stack_of w.aside) → stack_of t.aside ≡ below (stack_of w.aside) → t.ended ≡ w.ended → t.loose ≡ w.loose → t.next.vars ≡ w.next.vars → Follows (λ f. with_tables (top f.aside) (below f.aside) f) w t
+  pub left_follows : t.next.states.entries ≡ top (stack_of w.aside) → stack_of t.aside ≡ below (stack_of w.aside) → t.ended ≡ w.ended → beside t ≡ beside w → t.next.vars ≡ w.next.vars → Follows (λ f. with_tables (top f.aside) (below f.aside) f) w t
   left_follows p q e l v = record {
     holds = λ f h. let a = topped (stack_of w.aside) f.aside h.aside in record {
       next = as_merged _ _ _ p a.0;
       aside = as_aside _ _ (below f.aside) q a.1;
       ended = subst (λ E. EndAlike (units_of E) [] f.ended []) (sym e) h.ended;
-      loose = l ∙ h.loose;
+      loose = still_loose w t l f h;
+      scale = still_scaled w t l f h;
     };
     vars = v;
   }
 
-  pub gathered_follows : t.next.states.entries ≡ top (stack_of w.aside) → stack_of t.aside ≡ put_pairs (top (below (stack_of w.aside))) w.next.states.entries ∷ below (below (stack_of w.aside)) → t.ended ≡ w.ended → t.loose ≡ w.loose → t.next.vars ≡ w.next.vars → Follows gathered w t
+  pub gathered_follows : t.next.states.entries ≡ top (stack_of w.aside) → stack_of t.aside ≡ put_pairs (top (below (stack_of w.aside))) w.next.states.entries ∷ below (below (stack_of w.aside)) → t.ended ≡ w.ended → beside t ≡ beside w → t.next.vars ≡ w.next.vars → Follows gathered w t
   gathered_follows p q e l v = record {
     holds = λ f h.
         let a = topped (stack_of w.aside) f.aside h.aside in
@@ -83,7 +93,8 @@ module _ (w t : Walk) where
           next = as_merged _ _ _ p a.0;
           aside = as_aside _ _ ((top (below f.aside) ++ f.next) ∷ below (below f.aside)) q (both_merged _ _ (top (below f.aside)) f.next b.0 h.next, b.1);
           ended = subst (λ E. EndAlike (units_of E) [] f.ended []) (sym e) h.ended;
-          loose = l ∙ h.loose;
+          loose = still_loose w t l f h;
+          scale = still_scaled w t l f h;
         };
     vars = v;
   }
@@ -91,8 +102,8 @@ module _ (w t : Walk) where
   -- ---- a loop is left
 
   pub loosened_follows : t.next.states.entries ≡ top (stack_of w.aside) → stack_of t.aside ≡ below (stack_of w.aside) → t.ended ≡ w.ended →
-      t.loose ≡ added w.loose (total (at_least w.next.states.entries), total (at_most w.next.states.entries)) → t.next.vars ≡ w.next.vars → Follows left_loop w t
-  loosened_follows p q e l v = record {
+      t.loose ≡ added w.loose (total (at_least w.next.states.entries), total (at_most w.next.states.entries)) → t.doubled ≡ w.doubled → t.next.vars ≡ w.next.vars → Follows left_loop w t
+  loosened_follows p q e l d v = record {
     holds = λ f h.
         let a = topped (stack_of w.aside) f.aside h.aside in
         let b = merged_alike w.next.states.entries f.next h.next in record {
@@ -101,6 +112,7 @@ module _ (w t : Walk) where
           ended = subst (λ E. EndAlike (units_of E) [] f.ended []) (sym e) h.ended;
           loose = l ∙ ap (λ u. added u (total (at_least w.next.states.entries), total (at_most w.next.states.entries))) h.loose
               ∙ ap (λ n. added f.loose (n, total (at_most w.next.states.entries))) (b.least (λ s. 1)) ∙ ap (λ n. added f.loose (total (at_least f.next), n)) (b.most (λ s. 1));
+          scale = h.scale ∙ ap scale_of (sym d);
         };
     vars = v;
   }
@@ -176,14 +188,15 @@ module _ (w t : Walk) where
   of_ends : (stop : Pairs State → Pairs End) → EndsWith w.ended (stop es) t.ended → (f : Scaled) → Holds f w → EndAlike (units_of t.ended) [] (f.ended ++ stop (merged_pairs f.next)) []
   of_ends stop e f h = more_ends w.ended t.ended f.ended (stop (merged_pairs f.next)) h.ended (subst (λ J. EndsWith w.ended (stop J) t.ended) (own f h) e)
 
-  module _ (aside : stack_of t.aside ≡ stack_of w.aside) (loose : t.loose ≡ w.loose) (vars : t.next.vars ≡ w.next.vars) where
+  module _ (aside : stack_of t.aside ≡ stack_of w.aside) (loose : beside t ≡ beside w) (vars : t.next.vars ≡ w.next.vars) where
     pub set_follows : (x : ℕ) (e : Expression) → ts ≡ merged_pairs (set_go counted_pairs x (value_of e) es) → EndsWith w.ended (faults_go counted_pairs (value_of e) es) t.ended → Follows (statement_after 0 None (Set x e)) w t
     set_follows x e p q = record {
       holds = λ f h. record {
         next = of_table (set_go counted_pairs x (value_of e)) (order_set x (value_of e)) ts p f h;
         aside = as_aside _ _ f.aside aside h.aside;
         ended = of_ends (faults_go counted_pairs (value_of e)) q f h;
-        loose = loose ∙ h.loose;
+        loose = still_loose w t loose f h;
+        scale = still_scaled w t loose f h;
       };
       vars = vars;
     }
@@ -194,7 +207,8 @@ module _ (w t : Walk) where
         next = of_table (drawn_go (pairs_kind down up) x (value_of e) r) (order_drawn x (value_of e) r) ts p f h;
         aside = as_aside _ _ f.aside aside h.aside;
         ended = of_ends (undrawn_go (pairs_kind down up) (value_of e) r) q f h;
-        loose = loose ∙ h.loose;
+        loose = still_loose w t loose f h;
+        scale = still_scaled w t loose f h;
       };
       vars = vars;
     }
@@ -207,12 +221,13 @@ module _ (w t : Walk) where
         ended = of_ends (λ J. faults_go counted_pairs (value_of e) J ++ end_go counted_pairs failed (only_go counted_pairs (fails (value_of e)) J))
             (none_ends w.ended t.ended (faults_go counted_pairs (value_of e) es) (end_go counted_pairs failed (only_go counted_pairs (fails (value_of e)) es))
             (least_failed (only_go counted_pairs (fails (value_of e)) es)) (most_failed (only_go counted_pairs (fails (value_of e)) es)) q) f h;
-        loose = loose ∙ h.loose;
+        loose = still_loose w t loose f h;
+        scale = still_scaled w t loose f h;
       };
       vars = vars;
     }
 
-  module _ (loose : t.loose ≡ w.loose) (vars : t.next.vars ≡ w.next.vars) (second : Pairs State) (aside : stack_of t.aside ≡ second ∷ stack_of w.aside) where
+  module _ (loose : beside t ≡ beside w) (vars : t.next.vars ≡ w.next.vars) (second : Pairs State) (aside : stack_of t.aside ≡ second ∷ stack_of w.aside) where
     pub parted_follows : (e : Expression) → ts ≡ merged_pairs (only_go counted_pairs (holds (value_of e)) es) → second ≡ merged_pairs (only_go counted_pairs (fails (value_of e)) es) →
         EndsWith w.ended (faults_go counted_pairs (value_of e) es) t.ended → Follows (parted e) w t
     parted_follows e p q r = record {
@@ -220,7 +235,8 @@ module _ (w t : Walk) where
         next = of_table (only_go counted_pairs (holds (value_of e))) (order_only (holds (value_of e))) ts p f h;
         aside = as_aside _ _ (only_go counted_pairs (fails (value_of e)) (merged_pairs f.next) ∷ f.aside) aside (of_table (only_go counted_pairs (fails (value_of e))) (order_only (fails (value_of e))) second q f h, h.aside);
         ended = of_ends (faults_go counted_pairs (value_of e)) r f h;
-        loose = loose ∙ h.loose;
+        loose = still_loose w t loose f h;
+        scale = still_scaled w t loose f h;
       };
       vars = vars;
     }
@@ -242,7 +258,8 @@ module _ (w t : Walk) where
         next = of_table (class_pairs down up k.den r k.num) (order_class k.den r k.num) ts s.0 f h;
         aside = as_aside _ _ (class_pairs down up k.den r (k.den - k.num) (merged_pairs f.next) ∷ f.aside) aside (of_table (class_pairs down up k.den r (k.den - k.num)) (order_class k.den r (k.den - k.num)) second s.1 f h, h.aside);
         ended = undecided_ends k.den r s.2 f h;
-        loose = loose ∙ h.loose;
+        loose = still_loose w t loose f h;
+        scale = still_scaled w t loose f h;
       };
       vars = vars;
     }
@@ -260,7 +277,8 @@ module _ (w t : Walk) where
         next = as_merged _ _ _ (p ∙ own f h) (of_itself f.next h.next.in_order);
         aside = none_on_top f q h;
         ended = subst (λ E. EndAlike (units_of E) [] f.ended []) (sym r) h.ended;
-        loose = loose ∙ h.loose;
+        loose = still_loose w t loose f h;
+        scale = still_scaled w t loose f h;
       };
       vars = vars;
     }
@@ -271,7 +289,8 @@ module _ (w t : Walk) where
         next = as_merged _ _ _ (p ∙ own f h) (of_itself f.next h.next.in_order);
         aside = none_on_top f q h;
         ended = undecided_ends b r e f h;
-        loose = loose ∙ h.loose;
+        loose = still_loose w t loose f h;
+        scale = still_scaled w t loose f h;
       };
       vars = vars;
     }
@@ -284,14 +303,15 @@ module _ (w t : Walk) where
         next = record { is = p ∙ ap (λ J. merged_pairs (class_pairs down up b r c J)) (whole f m h); in_order = order_class b r c f.next h.next.in_order };
         aside = as_aside _ _ (f.next ∷ f.aside) aside (as_merged _ _ _ q h.next, h.aside);
         ended = subst (λ E. EndAlike (units_of E) [] f.ended []) (sym e) h.ended;
-        loose = loose ∙ h.loose;
+        loose = still_loose w t loose f h;
+        scale = still_scaled w t loose f h;
       };
       vars = vars;
     }
 
   -- ---- a turn of a loop
 
-  module _ (e : Expression) (loose : t.loose ≡ w.loose) (vars : t.next.vars ≡ w.next.vars) (first second : Pairs State)
+  module _ (e : Expression) (loose : beside t ≡ beside w) (vars : t.next.vars ≡ w.next.vars) (first second : Pairs State)
       (p : first ≡ merged_pairs (only_go counted_pairs (holds (value_of e)) es)) (q : second ≡ merged_pairs (only_go counted_pairs (fails (value_of e)) es)) where
     guarded : (test : State → Bool) (fs : Pairs State) → fs ≡ merged_pairs (only_go counted_pairs test es) → (f : Scaled) → IsMerged (at_most f.next) → Holds f w → IsMergedOf fs (only_go counted_pairs test f.next)
     guarded test fs p f m h = record { is = p ∙ ap (λ J. merged_pairs (only_go counted_pairs test J)) (whole f m h); in_order = order_only test f.next h.next.in_order }
@@ -306,7 +326,8 @@ module _ (w t : Walk) where
         aside = as_aside _ _ ((top f.aside ++ only_go counted_pairs (fails (value_of e)) f.next) ∷ below f.aside) a
             (both_merged _ _ (top f.aside) (only_go counted_pairs (fails (value_of e)) f.next) b.0 (guarded (fails (value_of e)) second q f m h), b.1);
         ended = faulty t.ended r f m h;
-        loose = loose ∙ h.loose;
+        loose = still_loose w t loose f h;
+        scale = still_scaled w t loose f h;
       };
       vars = vars;
     }
@@ -341,7 +362,8 @@ module _ (w t : Walk) where
                   let o = most_append G (faults_go counted_pairs (value_of e) f.next) (end_go counted_pairs (limit Turns) (only_go counted_pairs (holds (value_of e)) f.next)) in
                   omega arith;
             };
-            loose = loose ∙ h.loose;
+            loose = still_loose w t loose f h;
+            scale = still_scaled w t loose f h;
           };
       vars = vars;
     }

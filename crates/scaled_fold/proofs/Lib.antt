@@ -18,5 +18,8 @@ pub mod MoreEnded
 pub mod Powers
 pub mod Counting
 pub mod RowsBy
+pub mod LittleLimit
+pub mod UnderLimit
 pub mod Listed
+pub mod MostReads
 pub mod Others

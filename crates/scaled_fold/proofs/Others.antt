@@ -1,5 +1,5 @@
 -- Rows of bounds go on to hold, in order and close, beside a bound of the others that is enough.
-use Rattle.std.proofs.Common.{◌≡◌, ◌⊎◌, inl, inr, ℕ, zero, suc, ◌+◌, ◌*◌, ◌≤◌, ◌<◌, Option, sym, ap, ◌∙◌, arith}
+use Rattle.std.proofs.Common.{◌≡◌, ◌⊎◌, inl, inr, ⊎_elim, ℕ, zero, suc, ◌+◌, ◌*◌, ◌≤◌, ◌<◌, Option, sym, ap, ◌∙◌, arith}
 use Rattle.std.specs.Int.{div_ceil}
 use Rattle.std.proofs.lemmas.Bool.{cases_lt}
 use Rattle.std.proofs.lemmas.Grind.{div_ceil_times}
@@ -52,10 +52,10 @@ still_enclose p n r R rows k o h e = record {
 -- ---- close
 
 -- over plain numbers, where o * t1 is t0 * S
-closer : (S h0 h1 l0 l1 t0 t1 o g L D : ℕ) → 0 < L → t0 * S ≡ o * t1 → g * S ≤ D * L → D + 1 ≤ o →
-    h0 * (l1 * L * S) ≤ ((l0 * L + g * l1) * S + 2 * (l1 * L)) * h1 → h0 * (l1 * t1 * S) ≤ ((l0 * t1 + t0 * l1) * S + 1 * (l1 * t1)) * h1
-closer S h0 h1 l0 l1 t0 t1 o g L D some e d m near =
-    let far : g * S + L ≤ o * L = let x = mul-le-mul_right L m in omega (arith, x, d) in
+closer : (S h0 h1 l0 l1 t0 t1 o g L D s : ℕ) → 0 < L → t0 * S ≡ o * t1 → g * S ≤ D * L → D + 1 + s ≤ o →
+    h0 * (l1 * L * S) ≤ ((l0 * L + g * l1) * S + (2 + s) * (l1 * L)) * h1 → h0 * (l1 * t1 * S) ≤ ((l0 * t1 + t0 * l1) * S + 1 * (l1 * t1)) * h1
+closer S h0 h1 l0 l1 t0 t1 o g L D s some e d m near =
+    let far : g * S + L + s * L ≤ o * L = let x = mul-le-mul_right L m in omega (arith, x, d) in
     let a = mul-le-mul_left (t1 * l1 * h1) far in
     let b = mul-le-mul_left t1 near in
     let c = ap (λ z. z * (l1 * h1 * L)) e in
@@ -68,7 +68,7 @@ within_one S h0 h1 l0 l1 t0 t1 e m =
     omega (arith, a, b)
 
 -- a part of a whole is at most 1, rounded up
-part_most : (h d : ℕ) → h ≤ d → div_ceil (h * ALL) d ≤ ALL
+pub part_most : (h d : ℕ) → h ≤ d → div_ceil (h * ALL) d ≤ ALL
 part_most h zero m = by h m
   where
     by : (h : ℕ) → h ≤ 0 → div_ceil (h * ALL) 0 ≤ ALL
@@ -84,19 +84,23 @@ part_most h (suc d) m = by (cases_lt ALL (div_ceil (h * ALL) (suc d)))
         let c = mul-le-mul_right ALL m in
         absurd (omega (arith, a, b, c))
 
+-- what is within all is within any number that is all or else enough
+pub capped : (k o : ℕ) → k ≤ ALL → (o < ALL → k ≤ o) → k ≤ o
+capped k o h e = ⊎_elim (λ (l : o < ALL). e l) (λ (l : ALL ≤ o). omega (arith, h, l)) (cases_lt o ALL)
+
 below_one : (k : ℕ) → k ≤ ALL → (other_of k).0 ≤ (other_of k).1
 below_one k h = let a = at_most_one k h in omega (arith, a)
 
-pub bounds_close : (low : Fraction) (h d o g L : ℕ) → h ≤ d → 0 < L → o ≤ ALL → (o < ALL → div_ceil (g * ALL) L + 1 ≤ o) →
-    AtMost (rounded_up h d) (plus (plus low (g, L)) (2, ALL)) → AtMost (rounded_up h d) (plus (plus low (other_of o)) (1, ALL))
-bounds_close low h d o g L m some within apart near = by (cases_lt o ALL)
+pub bounds_close : (low : Fraction) (h d o g L s : ℕ) → h ≤ d → 0 < L → o ≤ ALL → (o < ALL → div_ceil (g * ALL) L + 1 + s ≤ o) →
+    AtMost (rounded_up h d) (plus (plus low (g, L)) (2 + s, ALL)) → AtMost (rounded_up h d) (plus (plus low (other_of o)) (1, ALL))
+bounds_close low h d o g L s m some within apart near = by (cases_lt o ALL)
   where
     high : Fraction
     high = rounded_up h d
 
     by : (o < ALL) ⊎ (ALL ≤ o) → AtMost (rounded_up h d) (plus (plus low (other_of o)) (1, ALL))
     by (inl l) =
-        closer ALL high.0 high.1 low.0 low.1 (other_of o).0 (other_of o).1 o g L (div_ceil (g * ALL) L) some (lowest_equal o ALL)
+        closer ALL high.0 high.1 low.0 low.1 (other_of o).0 (other_of o).1 o g L (div_ceil (g * ALL) L) s some (lowest_equal o ALL)
         (div_ceil_times (g * ALL) L some).0 (apart l) near
     by (inr l) =
         let is : o ≡ ALL = omega (arith, within, l) in

@@ -1,5 +1,5 @@
 -- Rows over outcomes in order: which there are, and what all of them have.
-use Rattle.std.proofs.Common.{◌≡◌, ◌⊎◌, inl, inr, ◌+◌, ◌*◌, Bool, true, Option, Some, None, [], ◌∷◌, ◌++◌, refl, sym, ap, ◌∙◌, subst, arith}
+use Rattle.std.proofs.Common.{◌≡◌, ◌⊎◌, inl, inr, ◌+◌, ◌*◌, ◌≤◌, Bool, true, Option, Some, None, [], ◌∷◌, ◌++◌, refl, sym, ap, ◌∙◌, subst, arith}
 use Rattle.std.specs.Prelude.{All, AllPairs, Contains}
 use Rattle.std.specs.Option.{is_some}
 use Rattle.std.proofs.lemmas.List.{append_assoc}
@@ -11,7 +11,7 @@ use Rattle.gcl_core.specs.weighing.Fractions.{Fraction}
 use Rattle.mass_fold.proofs.OutcomeRows.{ascending_rest, all_after}
 use Rattle.bounds_law.specs.Rows.{Rows, outcomes_of}
 use Rattle.bounds_law.proofs.Contained.{first_in, later_in, in_cons}
-use Rattle.units_law.specs.Units.{held}
+use Rattle.units_law.specs.Units.{held, total}
 use Rattle.scaled_law.specs.Pairs.{Pair, Pairs, added, at_least, at_most}
 use Rattle.scaled_fold.specs.inner.Listing.{Ascending, with_row, rows_by, kept_at, kept_by}
 use Rattle.scaled_fold.proofs.Counting.{bit, keys, with_pair}
@@ -86,6 +86,15 @@ module _ (bounds : Pair → Option (Fraction × Fraction)) where
           ((added (kept_at o e.1) (kept_by bounds K)).0 ≡ held (λ x. bit (test x)) (at_least (e ∷ K))) × ((added (kept_at o e.1) (kept_by bounds K)).1 ≡ held (λ x. bit (test x)) (at_most (e ∷ K)))
       by None p i = let a = ap (λ b. e.1.0 * bit b) p in let b = ap (λ b. e.1.1 * bit b) p in (omega (arith, a, i.0), omega (arith, b, i.1))
       by (Some r) p i = let a = ap (λ b. e.1.0 * bit b) p in let b = ap (λ b. e.1.1 * bit b) p in (omega (arith, a, i.0), omega (arith, b, i.1))
+
+  -- and they are no more than all
+  pub kept_within : (K : Pairs Outcome) → (kept_by bounds K).1 ≤ total (at_most K)
+  kept_within [] = omega arith
+  kept_within (e ∷ K) = by (bounds e.1) (kept_within K)
+    where
+      by : (o : Option (Fraction × Fraction)) → (kept_by bounds K).1 ≤ total (at_most K) → (added (kept_at o e.1) (kept_by bounds K)).1 ≤ total (at_most (e ∷ K))
+      by None i = omega (arith, i)
+      by (Some b) i = omega (arith, i)
 
   -- ---- a walk over the entries
 

@@ -6,3 +6,4 @@ pub mod Folding
 pub mod Sums
 pub mod Outcomes
 pub mod Listing
+pub mod Longest

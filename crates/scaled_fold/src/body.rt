@@ -24,6 +24,7 @@ fn begun(alloc: Global, vars: u32) -> Result<Walk, PairsError>
         aside: Stack::new(alloc, vars),
         ended: Ended::none(),
         loose: (0, 0),
+        doubled: 0,
     })
 }
 

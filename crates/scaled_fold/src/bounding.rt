@@ -19,23 +19,24 @@ pub struct Whole {
 }
 
 impl Whole {
-    /// The two bounds of an outcome with `w` units, where it has a part of 2^-120 at least.
-    pub fn bounds(self, w: (u128, u128)) -> Result<Option<(Frac, Frac)>, PairsError>
+    /// The two bounds of an outcome with `w` units, the lower one by `spare` parts of 2^-120 less than what these tell, where it then has a part at
+    /// least.
+    pub fn bounds(self, spare: u128, w: (u128, u128)) -> Result<Option<(Frac, Frac)>, PairsError>
         requires least { w.0 ≤ self.least }
         requires most { w.1 ≤ self.most }
-        ensures { IfOk result (λ b. b ≡ bounds_at self.least self.most self.rest w) }
+        ensures { IfOk result (λ b. b ≡ bounds_at self.least self.most self.rest spare w) }
     {
         if w.0 == 0 {
             return Ok(None);
         }
         let others = sum(self.most - w.1, self.rest)?;
         let part = over_down(w.0, sum(w.0, others)?)?;
-        if part == 0 {
+        if part <= spare {
             return Ok(None);
         }
         let most = sum(w.1, self.rest)?;
         let high = over_up(most, sum(most, self.least - w.0)?)?;
-        Ok(Some((Frac::of(part, ALL), Frac::of(high, ALL))))
+        Ok(Some((Frac::of(part - spare, ALL), Frac::of(high, ALL))))
     }
 
     // How far apart the two bounds of an outcome may be, and a unit; at most all.
@@ -54,14 +55,14 @@ impl Whole {
     }
 
     /// What all outcomes have together that have no row, and how far apart the two bounds of an outcome may be, in units of 2^-120, of which
-    /// there are no more than all. Those that have a row have the units `kept`.
-    pub fn others(self, kept: (u128, u128)) -> Result<u128, PairsError>
+    /// there are no more than all, and `spare` more. Those that have a row have the units `kept`.
+    pub fn others(self, spare: u128, kept: (u128, u128)) -> Result<u128, PairsError>
         requires { kept.1 ≤ self.most }
-        ensures { IfOk result (AreEnough self.least self.most self.rest kept) }
+        ensures { IfOk result (AreEnough self.least self.most self.rest spare kept) }
     {
         let unlisted = sum(self.most - kept.1, self.rest)?;
         let first = over_up(unlisted, sum(unlisted, kept.0)?)?;
-        let all = sum(first, self.apart()?)?;
+        let all = sum(sum(first, self.apart()?)?, spare)?;
         Ok(if all < ALL { all } else { ALL })
     }
 }

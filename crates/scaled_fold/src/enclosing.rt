@@ -50,8 +50,8 @@ pub fn enclose_in_pairs(
     if whole.least == 0 {
         return Err(PairsError::NothingLeft);
     }
-    let (rows, kept) = listed(alloc, whole, all_turns, ends.outcomes)?;
-    let units = whole.others(kept)?;
+    let (rows, kept) = listed(alloc, whole, 0, all_turns, ends.outcomes)?;
+    let units = whole.others(0, kept)?;
     Ok(Bounds {
         rows: BoundRows::of(rows),
         other: Frac::of(units, ALL),

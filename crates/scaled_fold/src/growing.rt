@@ -1,6 +1,6 @@
 // How units grow with what has not failed.
 
-ghost use Rattle.std.specs.Prelude.{◌≡◌, ◌≤◌, ◌^◌, IfOk};
+ghost use Rattle.std.specs.Prelude.{◌≡◌, ◌≤◌, ◌+◌, ◌^◌, IfOk};
 ghost use Rattle.scaled_law.specs.Growth.{left_of};
 ghost use Rattle.scaled_law.specs.Scaled.{Scaled, times_all};
 ghost use Rattle.scaled_fold.specs.Doubling.{doubled, doubling};
@@ -13,16 +13,16 @@ use crate::walk::Walk;
 use numbers::ALL;
 use std::alloc::Global;
 
-// Two to the number of times, at most `most`, that units may be doubled within `ALL`.
-fn doubled(most: u64, w: u128) -> u128
+// How often, at most `most` times, units may be doubled within `ALL`.
+fn doublings(most: u32, w: u128) -> u32
     requires { most ≤ 120 }
-    ensures value { result ≡ doubled most w }
-    ensures most { result ≤ 2 ^ most }
+    ensures value { 2 ^ result ≡ doubled most w }
+    ensures most { result ≤ most }
 {
     if most == 0 || w > ALL / 2 {
-        return 1;
+        return 0;
     }
-    2 * doubled(most - 1, 2 * w)
+    1 + doublings(most - 1, 2 * w)
 }
 
 // The units of what has not failed, at most.
@@ -35,25 +35,38 @@ fn left_of(walk: &Walk) -> Result<u128, PairsError>
     sum(next, sum(aside, ended)?)
 }
 
-// With `k` times as many units.
-fn multiplied_walk(alloc: Global, walk: Walk, k: u128) -> Result<Walk, PairsError>
-    ensures { IfOk result (Follows (times_all (k, 1)) walk) }
+// So often more.
+fn counted(doubled: u64, more: u32) -> Result<u64, PairsError>
+    ensures { IfOk result (λ n. n ≡ doubled + more) }
 {
+    match doubled.checked_add(u64::from(more)) {
+        Some(n) => Ok(n),
+        None => Err(PairsError::TooWide),
+    }
+}
+
+// With units doubled so often.
+fn doubled_walk(alloc: Global, walk: Walk, more: u32) -> Result<Walk, PairsError>
+    requires { more ≤ 120 }
+    ensures { IfOk result (Follows (times_all (2 ^ more, 1)) walk) }
+{
+    let k = 2u128.pow(more);
     Ok(Walk {
         next: multiplied(alloc, &walk.next, k)?,
         aside: walk.aside.multiplied(alloc, k)?,
         ended: walk.ended.times(k)?,
         loose: times(walk.loose, k)?,
+        doubled: counted(walk.doubled, more)?,
     })
 }
 
-/// With as many times as many units as what has not failed leaves room for.
+/// With units doubled as often as what has not failed leaves room for.
 pub fn grown(alloc: Global, walk: Walk) -> Result<Walk, PairsError>
     ensures { IfOk result (Follows (λ f. times_all (doubling.factor f) f) walk) }
 {
-    let k = doubled(120, left_of(&walk)?);
-    if k == 1 {
+    let more = doublings(120, left_of(&walk)?);
+    if more == 0 {
         return Ok(walk);
     }
-    multiplied_walk(alloc, walk, k)
+    doubled_walk(alloc, walk, more)
 }

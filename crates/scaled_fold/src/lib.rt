@@ -11,6 +11,11 @@
 //! most the bound of the others (`enclose`), which is at most 1 (`most`). Two bounds are no further apart than that and a unit of 2^-120
 //! (`close`). Rows are of possible outcomes, ascending (`ordered`).
 //!
+//! Under a limit of attempts `enclose_under_attempts` makes such rows of a round without that limit, where the outcome of the limit is shown to
+//! weigh one part of 2^-120 at most: by the bits that a round may read, all branches together, and by how many units pass of a whole, which the
+//! walk knows, since it counts how often units were doubled. Each lower bound is then by such a part less, and the bound of the others by one
+//! more (`enclose`).
+//!
 //! Draws take so many attempts at most, or as many as they need; what no attempt decides has the outcome of that limit, at least and at most.
 //! How units go at a draw is told by `Odds`, by which `enclose_fold` draws, too. Runs take as many rounds as they need.
 //!
@@ -26,7 +31,9 @@ mod ended;
 mod error;
 mod fold;
 mod growing;
+mod limiting;
 mod listing;
+mod longest;
 mod odds;
 mod outcomes;
 mod pair;
@@ -44,5 +51,6 @@ mod walking;
 
 pub use enclosing::enclose_in_pairs;
 pub use error::PairsError;
+pub use limiting::enclose_under_attempts;
 pub use odds::Odds;
 pub use rounds::{Ends, round_in_pairs};

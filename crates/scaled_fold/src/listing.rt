@@ -69,23 +69,25 @@ fn add_row(
     }
 }
 
-/// The rows of the outcomes that have a part of 2^-120 at least, and the units of all of them.
+/// The rows of the outcomes that have a part of 2^-120 at least once each lower bound is by `spare` parts less than what the units tell, and the
+/// units of all of them.
 pub fn listed(
     alloc: Global,
     whole: Whole,
+    spare: u128,
     all_turns: bool,
     units: BTreeMap<Outcome, (u128, u128)>,
 ) -> Result<(Vec<(Outcome, Frac, Frac)>, (u128, u128)), PairsError>
     requires least { total (at_least (counted all_turns units.entries)) ≡ whole.least }
     requires most { total (at_most (counted all_turns units.entries)) ≡ whole.most }
-    ensures rows { IfOk result (λ t. t.0.items ≡ rows_by (bounds_at whole.least whole.most whole.rest) (counted all_turns units.entries)) }
-    ensures kept { IfOk result (λ t. t.1 ≡ kept_by (bounds_at whole.least whole.most whole.rest) (counted all_turns units.entries)) }
+    ensures rows { IfOk result (λ t. t.0.items ≡ rows_by (bounds_at whole.least whole.most whole.rest spare) (counted all_turns units.entries)) }
+    ensures kept { IfOk result (λ t. t.1 ≡ kept_by (bounds_at whole.least whole.most whole.rest spare) (counted all_turns units.entries)) }
 {
     let mut rows = Vec::new(alloc);
     let mut kept = (0, 0);
     for (x, w) in units {
         let (counts, _) = sides(all_turns, &x, w);
-        let bounds = whole.bounds(counts)?;
+        let bounds = whole.bounds(spare, counts)?;
         kept = add_row(&mut rows, kept, x, counts, bounds)?;
     }
     Ok((rows, kept))

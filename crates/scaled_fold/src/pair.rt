@@ -18,8 +18,8 @@ pub fn sum(a: u128, b: u128) -> Result<u128, PairsError>
     }
 }
 
-// A multiple of units.
-fn multiple(a: u128, k: u128) -> Result<u128, PairsError>
+/// A multiple of units.
+pub fn multiple(a: u128, k: u128) -> Result<u128, PairsError>
     ensures { IfOk result (λ n. n ≡ a * k) }
 {
     match a.checked_mul(k) {

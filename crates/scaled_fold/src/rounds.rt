@@ -1,11 +1,13 @@
 // A round of a program over pairs of units.
 
-ghost use Rattle.std.specs.Prelude.{◌<◌, ℕ, Bool, true, IfOk};
+ghost use Rattle.std.specs.Prelude.{◌≡◌, ◌<◌, ◌*◌, ◌^◌, ℕ, Bool, true, IfOk};
+ghost use Rattle.numbers.specs.declared.units.TheConstants.{ALL};
 ghost use Rattle.gcl_core.specs.declared.answers.Outcome.{Outcome};
 ghost use Rattle.gcl_core.specs.meaning.Views.{source_of};
 ghost use Rattle.gcl_core.specs.weighing.Fractions.{IsBelowOne};
 ghost use Rattle.gcl_core.specs.weighing.Mass.{failed_mass};
 ghost use Rattle.units_law.specs.Holding.{IsFor};
+ghost use Rattle.scaled_fold.specs.Doubling.{doubled_round};
 ghost use Rattle.scaled_fold.specs.Ends.{LieBeside, least_given};
 ghost use Rattle.scaled_fold.specs.inner.Outcomes.{RoundGives};
 
@@ -18,11 +20,13 @@ use std::alloc::Global;
 use std::collections::BTreeMap;
 use units_law::products_are_rounded_down;
 
-/// What a round gives: the units of each outcome at least and at most, and at most what is loose, which belongs to no outcome yet.
+/// What a round gives: the units of each outcome at least and at most, at most what is loose, which belongs to no outcome yet, and how often
+/// units were doubled on the way: one whole is 2^120 units, doubled so often.
 #[derive(Drop)]
 pub struct Ends {
     pub outcomes: BTreeMap<Outcome, (u128, u128)>,
     pub loose: u128,
+    pub doubled: u64,
 }
 
 /// What the walk through a program leads to.
@@ -32,13 +36,15 @@ pub fn ends_of(
     turns: u64,
     attempts: Option<u64>,
 ) -> Result<Ends, PairsError>
-    ensures { IfOk result (λ e. RoundGives (source_of p.now) turns attempts e.outcomes.entries e.loose) }
+    ensures round { IfOk result (λ e. RoundGives (source_of p.now) turns attempts e.outcomes.entries e.loose) }
+    ensures scale { IfOk result (λ e. (doubled_round (source_of p.now) turns attempts).scale ≡ (ALL * 2 ^ e.doubled, 1)) }
 {
     let program = p.program();
     let walk = walk_through(alloc, p, turns, attempts)?;
     Ok(Ends {
         outcomes: outcomes_of(alloc, &program.result, &walk.next, walk.ended)?,
         loose: walk.loose.1,
+        doubled: walk.doubled,
     })
 }
 
@@ -65,6 +71,7 @@ pub fn round_in_pairs(
     ensures passes { IfOk result (λ e. (all_turns : Bool) (n : ℕ) → IsFor all_turns turns n →
         0 < least_given all_turns e.outcomes.entries e.loose (λ x. true) → IsBelowOne (failed_mass (source_of p.now) n attempts)) }
     ensures round { IfOk result (λ e. RoundGives (source_of p.now) turns attempts e.outcomes.entries e.loose) }
+    ensures scale { IfOk result (λ e. (doubled_round (source_of p.now) turns attempts).scale ≡ (ALL * 2 ^ e.doubled, 1)) }
 {
     products_are_rounded_down();
     products_are_rounded_up();

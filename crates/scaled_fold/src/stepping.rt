@@ -33,6 +33,7 @@ impl Walk {
             aside: self.aside,
             ended,
             loose: self.loose,
+            doubled: self.doubled,
         })
     }
 
@@ -54,6 +55,7 @@ impl Walk {
             aside: self.aside,
             ended,
             loose: self.loose,
+            doubled: self.doubled,
         })
     }
 
@@ -68,6 +70,7 @@ impl Walk {
             aside: self.aside,
             ended,
             loose: self.loose,
+            doubled: self.doubled,
         })
     }
 
@@ -82,6 +85,7 @@ impl Walk {
             aside: self.aside.topped(second)?,
             ended,
             loose: self.loose,
+            doubled: self.doubled,
         })
     }
 
@@ -98,6 +102,7 @@ impl Walk {
             aside: self.aside.topped(second)?,
             ended,
             loose: self.loose,
+            doubled: self.doubled,
         })
     }
 
@@ -111,6 +116,7 @@ impl Walk {
             aside: self.aside.topped(none)?,
             ended: self.ended,
             loose: self.loose,
+            doubled: self.doubled,
         })
     }
 
@@ -125,6 +131,7 @@ impl Walk {
             aside: self.aside.topped(none)?,
             ended,
             loose: self.loose,
+            doubled: self.doubled,
         })
     }
 
@@ -138,6 +145,7 @@ impl Walk {
             aside: self.aside.topped(self.next)?,
             ended: self.ended,
             loose: self.loose,
+            doubled: self.doubled,
         })
     }
 
@@ -152,6 +160,7 @@ impl Walk {
             aside: rest.topped(merge(before, self.next)?)?,
             ended: self.ended,
             loose: self.loose,
+            doubled: self.doubled,
         })
     }
 
@@ -167,6 +176,7 @@ impl Walk {
             aside: rest.topped(merge(before, second)?)?,
             ended,
             loose: self.loose,
+            doubled: self.doubled,
         })
     }
 
@@ -183,6 +193,7 @@ impl Walk {
             aside,
             ended,
             loose: self.loose,
+            doubled: self.doubled,
         })
     }
 
@@ -197,6 +208,7 @@ impl Walk {
             aside,
             ended: self.ended,
             loose,
+            doubled: self.doubled,
         })
     }
 }

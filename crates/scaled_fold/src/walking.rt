@@ -20,6 +20,7 @@ impl Walk {
             aside: rest.topped(self.next)?,
             ended: self.ended,
             loose: self.loose,
+            doubled: self.doubled,
         })
     }
 
@@ -33,6 +34,7 @@ impl Walk {
             aside,
             ended: self.ended,
             loose: self.loose,
+            doubled: self.doubled,
         })
     }
 
@@ -46,6 +48,7 @@ impl Walk {
             aside,
             ended: self.ended,
             loose: self.loose,
+            doubled: self.doubled,
         }
     }
 }

@@ -2,6 +2,7 @@
 use Rattle.std.specs.Prelude.{◌≡◌, ℕ, zero, suc, ◌+◌, ◌-◌, ◌*◌, ◌/◌, ◌≤◌, ◌<◌, Bool, true, cond, Option, Some, None, [], ◌∷◌, map, AllPairs}
 use Rattle.std.specs.Int.{div_ceil}
 use Rattle.numbers.specs.declared.units.TheConstants.{ALL}
+use Rattle.numbers.specs.Fraction.{lowest}
 use Rattle.gcl_core.specs.declared.answers.Outcome.{Outcome}
 use Rattle.gcl_core.specs.meaning.Order.{is_before}
 use Rattle.gcl_core.specs.weighing.Fractions.{Fraction}
@@ -61,16 +62,18 @@ module _ (least most rest : ℕ) where
   abbrev pub upper_at : Pair → Fraction
   upper_at w = rounded_up (w.1 + rest) (w.1 + rest + (least - w.0))
 
+  -- The lower bound is so many parts less than what the units tell, and where it would then have none there is no row.
   abbrev pub bounds_from : ℕ → Pair → Option (Fraction × Fraction)
   bounds_from zero w = None
-  bounds_from (suc k) w = Some (lower_at w, upper_at w)
+  bounds_from (suc k) w = Some (lowest (suc k, ALL), upper_at w)
 
-  abbrev pub bounds_at : Pair → Option (Fraction × Fraction)
-  bounds_at w = bounds_from (part_at w) w
+  module _ (spare : ℕ) where
+    abbrev pub bounds_at : Pair → Option (Fraction × Fraction)
+    bounds_at w = bounds_from (part_at w - spare) w
 
-  -- So many units are enough for all outcomes that have no row, where those that have one have so many; and, but where they are all, for how
-  -- far apart two bounds may be.
-  pub record AreEnough (kept : Pair) (units : ℕ) : Type 0 where
-    pub within : units ≤ ALL
-    pub unlisted : div_ceil ((most - kept.1 + rest) * ALL) (most - kept.1 + rest + kept.0) ≤ units
-    pub apart : units < ALL → div_ceil ((most + rest + rest - least) * ALL) least + 1 ≤ units
+    -- But where they are all, so many units are enough for all outcomes that have no row, where those that have one have so many, and for how far
+    -- apart two bounds may be; beside them so many are to spare.
+    pub record AreEnough (kept : Pair) (units : ℕ) : Type 0 where
+      pub within : units ≤ ALL
+      pub unlisted : units < ALL → div_ceil ((most - kept.1 + rest) * ALL) (most - kept.1 + rest + kept.0) + spare ≤ units
+      pub apart : units < ALL → div_ceil ((most + rest + rest - least) * ALL) least + 1 + spare ≤ units

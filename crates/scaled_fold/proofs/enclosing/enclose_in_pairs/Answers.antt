@@ -20,14 +20,14 @@ itself true n = le_refl n
 pub others-requires : goal.others-requires
 others-requires c =
     let whole = c.in_ok-whole.ensures in
-    kept_most (source_of c.args.p.now) c.args.turns c.args.attempts c.args.all_turns _ _ c.in_ok-ends.ensures (outcomes_ascend _ c.outcomes_are_ordered.ensures.outcomes _ c.is_ordered.ensures)
+    kept_most (source_of c.args.p.now) c.args.turns c.args.attempts c.args.all_turns _ _ c.in_ok-ends.ensures.round (outcomes_ascend _ c.outcomes_are_ordered.ensures.outcomes _ c.is_ordered.ensures)
     c.in_ok-whole.whole.least c.in_ok-whole.whole.most c.in_ok-whole.whole.rest whole.least whole.most whole.rest c.in_ok-rows.kept c.in_ok-rows.ensures.kept
 
 pub returns-clause-passes : goal.returns-clause-passes
 returns-clause-passes c =
     let p = source_of c.args.p.now in
     let ascending = outcomes_ascend _ c.outcomes_are_ordered.ensures.outcomes _ c.is_ordered.ensures in
-    let all = all_least_is p c.args.turns c.args.attempts c.args.all_turns _ _ c.in_ok-ends.ensures ascending in
+    let all = all_least_is p c.args.turns c.args.attempts c.args.all_turns _ _ c.in_ok-ends.ensures.round ascending in
     let unit : 0 < all_least p c.args.all_turns (doubled_round p c.args.turns c.args.attempts) = omega (arith, all, c.in_ok-whole.ensures.least, c.if-whole-eq0.false) in
     c.masses_lie_beside_others.ensures.passes down up c.products_are_rounded_down.ensures.below doubling doubling_positive p c.args.turns c.args.turns c.args.attempts c.args.all_turns c.is_kept.ensures.kept
     (itself c.args.all_turns c.args.turns) unit
@@ -38,11 +38,11 @@ returns-clause-ordered c =
     let whole = c.in_ok-whole.ensures in
     let ascending = outcomes_ascend _ c.outcomes_are_ordered.ensures.outcomes _ c.is_ordered.ensures in
     let rows = c.of.ensures ∙ c.in_ok-rows.ensures.rows in
-    let are = listed_rows p c.args.turns c.args.attempts c.args.all_turns _ _ c.in_ok-ends.ensures ascending
+    let are = listed_rows p c.args.turns c.args.attempts c.args.all_turns _ _ c.in_ok-ends.ensures.round ascending
     c.in_ok-whole.whole.least c.in_ok-whole.whole.most c.in_ok-whole.whole.rest whole.least whole.most whole.rest c.in_ok-rows.kept c.in_ok-rows.ensures.kept
     c.of.result rows c.in_ok-units.units c.in_ok-units.ensures in
     subst (AreOrdered c.of.result) (sym c.of-2.ensures.value)
-    (rows_ordered p c.args.turns c.args.attempts c.args.all_turns _ _ c.in_ok-ends.ensures ascending
+    (rows_ordered p c.args.turns c.args.attempts c.args.all_turns _ _ c.in_ok-ends.ensures.round ascending
     c.in_ok-whole.whole.least c.in_ok-whole.whole.most c.in_ok-whole.whole.rest whole.least whole.most whole.rest c.in_ok-rows.kept c.in_ok-rows.ensures.kept
     c.of.result rows c.in_ok-units.units c.in_ok-units.ensures
     (c.bounds_beside_others_hold.ensures.ordered down up doubling p c.args.turns c.args.attempts c.args.all_turns c.of.result _ are refl))
@@ -52,14 +52,14 @@ returns-clause-enclose c n is =
     let p = source_of c.args.p.now in
     let whole = c.in_ok-whole.ensures in
     let ascending = outcomes_ascend _ c.outcomes_are_ordered.ensures.outcomes _ c.is_ordered.ensures in
-    let all = all_least_is p c.args.turns c.args.attempts c.args.all_turns _ _ c.in_ok-ends.ensures ascending in
+    let all = all_least_is p c.args.turns c.args.attempts c.args.all_turns _ _ c.in_ok-ends.ensures.round ascending in
     let unit : 0 < all_least p c.args.all_turns (doubled_round p c.args.turns c.args.attempts) = omega (arith, all, whole.least, c.if-whole-eq0.false) in
     let rows = c.of.ensures ∙ c.in_ok-rows.ensures.rows in
-    let are = listed_rows p c.args.turns c.args.attempts c.args.all_turns _ _ c.in_ok-ends.ensures ascending
+    let are = listed_rows p c.args.turns c.args.attempts c.args.all_turns _ _ c.in_ok-ends.ensures.round ascending
     c.in_ok-whole.whole.least c.in_ok-whole.whole.most c.in_ok-whole.whole.rest whole.least whole.most whole.rest c.in_ok-rows.kept c.in_ok-rows.ensures.kept
     c.of.result rows c.in_ok-units.units c.in_ok-units.ensures in
     subst (Enclose p n c.args.attempts None c.of.result) (sym c.of-2.ensures.value)
-    (rows_enclose p c.args.turns c.args.attempts c.args.all_turns _ _ c.in_ok-ends.ensures ascending
+    (rows_enclose p c.args.turns c.args.attempts c.args.all_turns _ _ c.in_ok-ends.ensures.round ascending
     c.in_ok-whole.whole.least c.in_ok-whole.whole.most c.in_ok-whole.whole.rest whole.least whole.most whole.rest c.in_ok-rows.kept c.in_ok-rows.ensures.kept
     c.of.result rows c.in_ok-units.units c.in_ok-units.ensures n
     (c.bounds_beside_others_hold.ensures.enclose down up c.products_are_rounded_down.ensures.below c.products_are_rounded_up.ensures doubling doubling_positive p c.args.turns n c.args.attempts c.args.all_turns
@@ -70,14 +70,14 @@ returns-clause-close c =
     let p = source_of c.args.p.now in
     let whole = c.in_ok-whole.ensures in
     let ascending = outcomes_ascend _ c.outcomes_are_ordered.ensures.outcomes _ c.is_ordered.ensures in
-    let all = all_least_is p c.args.turns c.args.attempts c.args.all_turns _ _ c.in_ok-ends.ensures ascending in
+    let all = all_least_is p c.args.turns c.args.attempts c.args.all_turns _ _ c.in_ok-ends.ensures.round ascending in
     let unit : 0 < all_least p c.args.all_turns (doubled_round p c.args.turns c.args.attempts) = omega (arith, all, whole.least, c.if-whole-eq0.false) in
     let rows = c.of.ensures ∙ c.in_ok-rows.ensures.rows in
-    let are = listed_rows p c.args.turns c.args.attempts c.args.all_turns _ _ c.in_ok-ends.ensures ascending
+    let are = listed_rows p c.args.turns c.args.attempts c.args.all_turns _ _ c.in_ok-ends.ensures.round ascending
     c.in_ok-whole.whole.least c.in_ok-whole.whole.most c.in_ok-whole.whole.rest whole.least whole.most whole.rest c.in_ok-rows.kept c.in_ok-rows.ensures.kept
     c.of.result rows c.in_ok-units.units c.in_ok-units.ensures in
     subst (AreClose 1 c.of.result) (sym c.of-2.ensures.value)
-    (rows_close p c.args.turns c.args.attempts c.args.all_turns _ _ c.in_ok-ends.ensures ascending
+    (rows_close p c.args.turns c.args.attempts c.args.all_turns _ _ c.in_ok-ends.ensures.round ascending
     c.in_ok-whole.whole.least c.in_ok-whole.whole.most c.in_ok-whole.whole.rest whole.least whole.most whole.rest c.in_ok-rows.kept c.in_ok-rows.ensures.kept
     c.of.result rows c.in_ok-units.units c.in_ok-units.ensures (omega (arith, all, unit))
     (c.bounds_beside_others_hold.ensures.near down up c.products_are_rounded_down.ensures.below c.products_are_rounded_up.ensures doubling doubling_positive p c.args.turns c.args.attempts c.args.all_turns

@@ -11,5 +11,5 @@ invariant-loop-x l = record {
   finite : (goal.iterator-loop-x).is_finite l.x-iterator;
   least : total (at_least (counted l.all_turns l.x-iterator)) ≤ l.whole.least;
   most : total (at_most (counted l.all_turns l.x-iterator)) ≤ l.whole.most;
-  so_far : AreSoFar (bounds_at l.whole.least l.whole.most l.whole.rest) (counted l.all_turns l.fn.units.entries) (counted l.all_turns l.x-iterator) l.rows.items l.kept;
+  so_far : AreSoFar (bounds_at l.whole.least l.whole.most l.whole.rest l.spare) (counted l.all_turns l.fn.units.entries) (counted l.all_turns l.x-iterator) l.rows.items l.kept;
 }

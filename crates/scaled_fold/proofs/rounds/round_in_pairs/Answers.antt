@@ -12,7 +12,7 @@ returns-clause-between c =
     IfOk-weaker c.ends_of.result _ _
     (λ e g all_turns n is passes meant. lie_beside p c.args.turns c.args.attempts e.outcomes.entries e.loose g all_turns n meant
     (c.masses_lie_beside_others.ensures.between down up c.products_are_rounded_down.ensures.below c.products_are_rounded_up.ensures doubling doubling_positive p c.args.turns n c.args.attempts all_turns c.is_kept.ensures.kept is passes meant))
-    c.ends_of.ensures
+    c.ends_of.ensures.round
 
 pub returns-clause-passes : goal.returns-clause-passes
 returns-clause-passes c =
@@ -20,4 +20,4 @@ returns-clause-passes c =
     IfOk-weaker c.ends_of.result _ _
     (λ e g all_turns n is some. c.masses_lie_beside_others.ensures.passes down up c.products_are_rounded_down.ensures.below doubling doubling_positive p c.args.turns n c.args.attempts all_turns c.is_kept.ensures.kept is
     (some_given p c.args.turns c.args.attempts e.outcomes.entries e.loose g all_turns some))
-    c.ends_of.ensures
+    c.ends_of.ensures.round
