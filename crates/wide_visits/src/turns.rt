@@ -1,8 +1,9 @@
 // The visits of a loop. Nothing is promised of them.
 
 use crate::error::VisitsError;
-use crate::limbs::copied;
 use crate::places::{Places, is_at, sum_at};
+use crate::weight::Weight;
+use crate::wide_turns::WideTurns;
 use numbers::Frac;
 use std::alloc::Global;
 use std::collections::BTreeMap;
@@ -13,15 +14,9 @@ use wide_numbers::WideFraction;
 /// told by numbers.
 #[derive(Drop)]
 pub struct Turns {
-    entered: Vec<(u64, Entered)>,
-    turns: visit_finder::Turns,
-}
-
-// A weight with which a loop is entered, in limbs.
-#[derive(Drop)]
-struct Entered {
-    num: Vec<u64>,
-    den: Vec<u64>,
+    entered: Vec<(u64, Weight)>,
+    narrow: visit_finder::Turns,
+    wide: WideTurns,
 }
 
 // How often five primes are tried: a sum of visits has two parts of 4,096 bits and a little more at most, which 27 times five primes
@@ -35,7 +30,8 @@ impl Turns {
     pub fn none(alloc: Global) -> Turns {
         Turns {
             entered: Vec::new(alloc),
-            turns: visit_finder::Turns::none(alloc),
+            narrow: visit_finder::Turns::none(alloc),
+            wide: WideTurns::none(alloc),
         }
     }
 
@@ -46,18 +42,47 @@ impl Turns {
         state: u64,
         weight: &WideFraction,
     ) -> Result<(), VisitsError> {
-        let weight = Entered {
-            num: copied(alloc, weight.num().limbs())?,
-            den: copied(alloc, weight.den().limbs())?,
-        };
-        self.entered.push((state, weight))?;
+        self.entered.push((state, Weight::of(alloc, weight)?))?;
         Ok(())
     }
 
     /// One turn leads from one state to another with this weight.
     pub fn lead(&mut self, from: u64, to: u64, weight: &Frac) -> Result<(), VisitsError> {
-        self.turns.lead(from, to, *weight)?;
+        self.narrow.lead(from, to, *weight)?;
         Ok(())
+    }
+
+    /// The same, with a weight of any width. What was told by [`lead`](Turns::lead) counts no more then.
+    pub fn lead_on(
+        &mut self,
+        alloc: Global,
+        from: u64,
+        to: u64,
+        weight: &WideFraction,
+    ) -> Result<(), VisitsError> {
+        self.wide.lead(alloc, from, to, weight)
+    }
+
+    // The states below `states` from which the loop is left with some weight.
+    fn leaving(&self, alloc: Global, states: u64) -> Result<BTreeMap<u64, bool>, VisitsError> {
+        if self.wide.is_empty() {
+            return Ok(self.narrow.leaving(alloc, states)?);
+        }
+        self.wide.leaving(alloc, states, START)
+    }
+
+    // The visits of the states that may be left, at some primes.
+    fn visits_at(
+        &self,
+        alloc: Global,
+        moduli: &mut Moduli,
+        leaving: &BTreeMap<u64, bool>,
+    ) -> Result<BTreeMap<u64, Residues>, VisitsError> {
+        let entered = self.entered_at(alloc, moduli, leaving)?;
+        if self.wide.is_empty() {
+            return Ok(self.narrow.visits_at(alloc, moduli, entered, leaving)?);
+        }
+        self.wide.visits_at(alloc, moduli, entered, leaving)
     }
 
     // The weights with which the loop is entered in states that may be left, at some primes.
@@ -70,9 +95,7 @@ impl Turns {
         let mut entered = BTreeMap::new(alloc);
         for (state, weight) in &self.entered {
             if leaving.contains_key(state) {
-                let over = moduli.inverse(&moduli.of_limbs(&weight.den));
-                let part = moduli.product(&moduli.of_limbs(&weight.num), &over);
-                entered.insert(*state, part)?;
+                entered.insert(*state, weight.at(moduli))?;
             }
         }
         Ok(entered)
@@ -85,15 +108,14 @@ impl Turns {
         alloc: Global,
         states: u64,
     ) -> Result<BTreeMap<u64, WideFraction>, VisitsError> {
-        let leaving = self.turns.leaving(alloc, states)?;
+        let leaving = self.leaving(alloc, states)?;
         let mut places = Places::none(alloc);
         let mut told = None;
         let mut last = START;
         for _ in 0..TRIES {
             let mut moduli = Moduli::above(last).ok_or(VisitsError::TooWide)?;
             last = moduli.primes()[4].p;
-            let entered = self.entered_at(alloc, &mut moduli, &leaving)?;
-            let visits = self.turns.visits_at(alloc, &mut moduli, entered, &leaving)?;
+            let visits = self.visits_at(alloc, &mut moduli, &leaving)?;
             if moduli.hold() {
                 let sum = sum_at(&moduli, &visits);
                 places.add(alloc, &moduli, visits, &sum)?;
