@@ -37,6 +37,16 @@ fn put_wide(
     table.put(alloc, state, weight)
 }
 
+/// One state, with the weight 1, where it has so many variables.
+pub fn single(alloc: Global, vars: u32, state: &State) -> Result<WideTable, WideFoldError>
+    ensures { IfOk result (λ t. t.vars ≡ vars) }
+{
+    if state.values().len() != vars as usize {
+        return Err(WideFoldError::NotSettled);
+    }
+    WideTable::alone(alloc, vars, state)
+}
+
 impl WideFound {
     // Nothing is visited, and each state is left.
     fn none(alloc: Global, vars: u32) -> WideFound
@@ -122,6 +132,20 @@ impl Seen {
         for (state, weight) in &table.states {
             let to = self.number(alloc, state)?;
             self.turns.lead(from, to, weight)?;
+        }
+        Ok(())
+    }
+
+    /// The same, in wide fractions.
+    pub fn lead_on(
+        &mut self,
+        alloc: Global,
+        from: u64,
+        table: &WideTable,
+    ) -> Result<(), WideFoldError> {
+        for (state, weight) in &table.states {
+            let to = self.number(alloc, state)?;
+            self.turns.lead_on(alloc, from, to, weight)?;
         }
         Ok(())
     }
