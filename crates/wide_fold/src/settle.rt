@@ -87,15 +87,15 @@ fn settle_stmt(
             let (first, second) = split(alloc, e, table, ended)?;
             let mut left = settle_block(alloc, a, first, ended, work, depth)?;
             let right = settle_block(alloc, c, second, ended, work, depth)?;
-            merge(alloc, &mut left, right)?;
+            merge(alloc, &mut left, right, work)?;
             Ok(left)
         }
         Stmt::While(e, body) => settle_while(alloc, body, e, table, ended, work, depth),
         Stmt::Choice(p, a, c) => {
-            let (first, second) = sides(alloc, *p, &table)?;
+            let (first, second) = sides(alloc, *p, &table, work)?;
             let mut left = settle_block(alloc, a, first, ended, work, depth)?;
             let right = settle_block(alloc, c, second, ended, work, depth)?;
-            merge(alloc, &mut left, right)?;
+            merge(alloc, &mut left, right, work)?;
             Ok(left)
         }
         Stmt::Choose(arms) => settle_arms(alloc, arms, total(arms), &table, ended, work, depth),
@@ -124,9 +124,9 @@ fn settle_arms(
 {
     let mut out = WideTable::new(alloc, table.vars);
     for (count, block) in &arms.arms {
-        let part = side(alloc, *count, all, table)?;
+        let part = side(alloc, *count, all, table, work)?;
         let left = settle_block(alloc, block, part, ended, work, depth)?;
-        merge(alloc, &mut out, left)?;
+        merge(alloc, &mut out, left, work)?;
     }
     Ok(out)
 }
@@ -151,7 +151,7 @@ fn settle_while(
     ensures vars { IfOk result (λ t. t.vars ≡ table.vars) }
 {
     let seen = explored(alloc, body, guard, &table, work, depth)?;
-    let found = seen.found(alloc, table.vars)?;
+    let found = seen.found(alloc, table.vars, work)?;
     settle_loop(alloc, body, guard, found, table, ended, work, depth)
 }
 
@@ -206,7 +206,7 @@ fn turned(
     }
     let next = settle_turn(alloc, body, found.visits, ended, work, depth)?;
     let mut all = table;
-    merge(alloc, &mut all, next)?;
+    merge(alloc, &mut all, next, work)?;
     let seen = leaving(alloc, &found.closed, all)?;
     let (on, exits) = split(alloc, guard, seen, ended)?;
     if !same(&on, &found.copy) {

@@ -11,13 +11,19 @@ ghost use Rattle.mass_fold.specs.inner.Steps.{DrawsTo};
 use crate::error::WideFoldError;
 use crate::table::WideTable;
 use crate::widened::product;
+use crate::work::Work;
 use gcl_core::Weight;
 use mass_fold::is_ordered;
 use std::alloc::Global;
 use wide_numbers::{Wide, WideFraction};
 
 // The table with each weight multiplied.
-fn scale(alloc: Global, times: &WideFraction, table: &WideTable) -> Result<WideTable, WideFoldError>
+fn scale(
+    alloc: Global,
+    times: &WideFraction,
+    table: &WideTable,
+    work: &mut Work,
+) -> Result<WideTable, WideFoldError>
     requires { 1 ≤ times.now.0 }
     ensures ok { IfOk result (λ t. (E : Ended) → DrawsTo (λ s. times.now) (λ s. times.now) all_kept none_stopped
         table.now.states.entries E t.states.entries E) }
@@ -26,6 +32,7 @@ fn scale(alloc: Global, times: &WideFraction, table: &WideTable) -> Result<WideT
     let _den = times.den();
     let mut next = WideTable::new(alloc, table.vars);
     for (state, weight) in &table.states {
+        work.work_with(1, weight)?;
         let part = product(alloc, weight, times)?;
         next.put(alloc, state.copy(alloc)?, part)?;
     }
@@ -48,6 +55,7 @@ pub fn side(
     count: u64,
     all: u64,
     table: &WideTable,
+    work: &mut Work,
 ) -> Result<WideTable, WideFoldError>
     requires { 1 ≤ all }
     ensures ok { IfOk result (λ t. WeighedBy (1, all) count table.now.states.entries t.states.entries) }
@@ -59,7 +67,7 @@ pub fn side(
     }
     let times = parts(alloc, count, all)?;
     let _den = times.den();
-    scale(alloc, &times, table)
+    scale(alloc, &times, table, work)
 }
 
 /// The table of the first side of a choice and that of the second, each state with its weight times that of the side.
@@ -67,13 +75,14 @@ pub fn sides(
     alloc: Global,
     p: Weight,
     table: &WideTable,
+    work: &mut Work,
 ) -> Result<(WideTable, WideTable), WideFoldError>
     requires { IsWeight p }
     ensures ok { IfOk result (λ t. (E : Ended) →
         SidesTo p None table.now.states.entries E t.0.states.entries t.1.states.entries E) }
     ensures vars { IfOk result (λ t. (t.0.vars ≡ table.now.vars) × (t.1.vars ≡ table.now.vars)) }
 {
-    let first = side(alloc, p.num, p.den, table)?;
-    let second = side(alloc, p.den - p.num, p.den, table)?;
+    let first = side(alloc, p.num, p.den, table, work)?;
+    let second = side(alloc, p.den - p.num, p.den, table, work)?;
     Ok((first, second))
 }

@@ -26,11 +26,13 @@ fn add_led(
     times: &WideFraction,
     table: &Table,
     out: &mut WideTable,
+    work: &mut Work,
 ) -> Result<(), WideFoldError>
     requires { table.now.vars ≡ out.old.vars }
     ensures ok { OnOk result (AddsLed times.now table.now.states.entries out.old.states.entries out.new.states.entries) }
     ensures vars { out.new.vars ≡ out.old.vars }
 {
+    work.work_with(table.states.len() as u64, times)?;
     for (state, weight) in &table.states {
         let part = widened(alloc, weight)?;
         let added = product(alloc, times, &part)?;
@@ -58,7 +60,7 @@ pub fn from_each(
         let one = alone(alloc, table.vars, state)?;
         let mut gone = Ended::none();
         let next = settle_stmt(alloc, statement, one, &mut gone, &mut work.parts)?;
-        add_led(alloc, weight, &next, &mut out)?;
+        add_led(alloc, weight, &next, &mut out, work)?;
         ended.add_times(alloc, weight, &gone)?;
     }
     Ok(out)
@@ -83,7 +85,7 @@ pub fn block_from_each(
         let one = alone(alloc, table.vars, state)?;
         let mut gone = Ended::none();
         let next = settle_block(alloc, block, one, &mut gone, &mut work.parts)?;
-        add_led(alloc, weight, &next, &mut out)?;
+        add_led(alloc, weight, &next, &mut out, work)?;
         ended.add_times(alloc, weight, &gone)?;
     }
     Ok(out)

@@ -15,6 +15,7 @@ ghost use Rattle.exact_fold.specs.inner.Turning.{AllInside, outside};
 use crate::ended::WideEnded;
 use crate::error::WideFoldError;
 use crate::table::WideTable;
+use crate::work::Work;
 use exact_fold::turning::stands;
 use gcl_core::{Expr, Fault, eval};
 use mass_fold::{Gone, State, Table};
@@ -38,13 +39,19 @@ pub fn leaving(alloc: Global, closed: &Table, table: WideTable) -> Result<WideTa
 }
 
 /// All entries of one table come into another, where equal states become one with both weights.
-pub fn merge(alloc: Global, into: &mut WideTable, table: WideTable) -> Result<(), WideFoldError>
+pub fn merge(
+    alloc: Global,
+    into: &mut WideTable,
+    table: WideTable,
+    work: &mut Work,
+) -> Result<(), WideFoldError>
     requires { table.vars ≡ into.old.vars }
     ensures ok { OnOk result
         ((E : Ended) → StepsTo all_kept none_stopped into.old.states.entries table.states.entries E into.new.states.entries E) }
     ensures vars { into.new.vars ≡ into.old.vars }
 {
     for (state, weight) in table.states {
+        work.work_with(1, &weight)?;
         into.put(alloc, state, weight)?;
     }
     Ok(())

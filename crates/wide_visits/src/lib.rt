@@ -15,4 +15,4 @@ mod weight;
 mod wide_turns;
 
 pub use error::VisitsError;
-pub use turns::Turns;
+pub use turns::{Turns, Visits};
