@@ -2,7 +2,7 @@
 
 use crate::programs::program;
 use exact_fold::ExactError;
-use gcl_core::Outcome;
+use gcl_core::{Fault, Outcome};
 use std::alloc::Global;
 use std::test::Fail;
 use wide_masses::{Masses, WideMasses, exact};
@@ -41,9 +41,103 @@ const RUIN: Case = Case {
 const NEVER_PASSES: &str =
     "x := 1; while x > 0 and x < 131 { choice 1/3 { x := x + 1; } or { x := x - 1; } } observe x = 5; return x;";
 
-// The ruin inside a choice, where a loop is settled in 128 bits.
-const INSIDE: &str =
-    "choice 1/2 { x := 1; while x > 0 and x < 131 { choice 1/3 { x := x + 1; } or { x := x - 1; } } } or { } return x;";
+// The ruin in one side of a choice.
+const IN_A_CHOICE: Case = Case {
+    text: "choice 1/2 { x := 1; while x > 0 and x < 131 { choice 1/3 { x := x + 1; } or { x := x - 1; } } } or { } return x;",
+    rows: &[
+        (
+            Outcome::Value(0),
+            (
+                "5444517870735015415413993718908291383293",
+                "5444517870735015415413993718908291383294",
+            ),
+        ),
+        (
+            Outcome::Value(131),
+            ("1", "5444517870735015415413993718908291383294"),
+        ),
+    ],
+    endless: ("0", "1"),
+};
+
+// The ruin in a loop, which goes on with 1/2 behind each that comes to 131.
+const IN_A_LOOP: Case = Case {
+    text: "while y = 0 { x := 1; while x > 0 and x < 131 { choice 1/3 { x := x + 1; } or { x := x - 1; } }
+        if x = 0 { y := 1; } else { choice 1/2 { y := 2; } or { } } } return y;",
+    rows: &[
+        (
+            Outcome::Value(1),
+            (
+                "5444517870735015415413993718908291383292",
+                "5444517870735015415413993718908291383293",
+            ),
+        ),
+        (
+            Outcome::Value(2),
+            ("1", "5444517870735015415413993718908291383293"),
+        ),
+    ],
+    endless: ("0", "1"),
+};
+
+// One statement with three choices of 62 bits each.
+const CHOICES: Case = Case {
+    text: "if x = 0 { choice 1/4611686018427387847 { x := 1; } or { x := 2; } choice 1/4611686018427387817 { y := 1; } or { y := 2; }
+        choice 1/4611686018427387787 { z := 1; } or { z := 2; } } else { } return x * y * z;",
+    rows: &[
+        (
+            Outcome::Value(1),
+            (
+                "1",
+                "98079714615416881384078099339811203072338023935079032213",
+            ),
+        ),
+        (
+            Outcome::Value(2),
+            (
+                "13835058055282163448",
+                "98079714615416881384078099339811203072338023935079032213",
+            ),
+        ),
+        (
+            Outcome::Value(4),
+            (
+                "63802943797675959464412521163795748668",
+                "98079714615416881384078099339811203072338023935079032213",
+            ),
+        ),
+        (
+            Outcome::Value(8),
+            (
+                "98079714615416881320275155542135243594090444716001120096",
+                "98079714615416881384078099339811203072338023935079032213",
+            ),
+        ),
+    ],
+    endless: ("0", "1"),
+};
+
+// The guard of a loop is a fault at 0.
+const GUARD: Case = Case {
+    text: "x := 3; while 6 / x > 0 { choice 17592186044423/35184372088891 { x := x + 1; } or { x := x - 1; } } return x;",
+    rows: &[
+        (
+            Outcome::Value(7),
+            (
+                "88928324534698622215311269016920848072995966585811675564477584881112923700867597",
+                "207499423915358333069087132029732711564708204613506861726398248183318170711005133",
+            ),
+        ),
+        (
+            Outcome::Fault(Fault::ZeroDivisor),
+            (
+                "118571099380659710853775863012811863491712238027695186161920663302205247010137536",
+                "207499423915358333069087132029732711564708204613506861726398248183318170711005133",
+            ),
+        ),
+    ],
+    endless: ("0", "1"),
+};
 
 // The digits of a number, the least first, are those of the text, the greatest first.
 fn is_written(alloc: Global, number: &Wide, text: &str) -> bool {
@@ -114,8 +208,23 @@ fn rounds_that_all_fail_in_wide_fractions(rt: HostRuntime) {
 }
 
 #[test]
-fn a_wide_loop_inside_a_choice(rt: HostRuntime) {
-    assert!(rt; is_refused(rt.alloc(), INSIDE, ExactError::TooWide));
+fn a_ruin_in_a_choice(rt: HostRuntime) {
+    assert!(rt; is_as_told(rt.alloc(), &IN_A_CHOICE));
+}
+
+#[test]
+fn a_ruin_in_a_loop(rt: HostRuntime) {
+    assert!(rt; is_as_told(rt.alloc(), &IN_A_LOOP));
+}
+
+#[test]
+fn choices_in_one_statement(rt: HostRuntime) {
+    assert!(rt; is_as_told(rt.alloc(), &CHOICES));
+}
+
+#[test]
+fn a_guard_that_is_a_fault(rt: HostRuntime) {
+    assert!(rt; is_as_told(rt.alloc(), &GUARD));
 }
 
 #[test]

@@ -15,4 +15,5 @@ mod wide;
 pub use error::FinderError;
 pub use primes::Prime;
 pub use residues::{Moduli, Residues};
-pub use turns::Turns;
+pub use solving::solved;
+pub use turns::{Turns, left};

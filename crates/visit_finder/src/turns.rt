@@ -6,7 +6,7 @@ use crate::residues::{Moduli, Residues};
 use crate::solving::solved;
 use numbers::Frac;
 use std::alloc::Global;
-use std::collections::BTreeMap;
+use std::collections::{BTreeMap, BTreeSet};
 
 /// Where one turn leads from each state of a loop on which its guard holds. States are told by numbers.
 #[derive(Drop)]
@@ -26,6 +26,39 @@ fn fractions(
         fractions.insert(*number, fraction)?;
     }
     Ok(fractions)
+}
+
+/// The states below `states` from which a loop is left with some weight: those that are not `whole`, from which a turn leads on with
+/// all weight, and those from which a turn leads to one of them; `sources` says from which one leads to each.
+pub fn left(
+    alloc: Global,
+    states: u64,
+    whole: &BTreeSet<u64>,
+    sources: BTreeMap<u64, Vec<u64>>,
+) -> Result<BTreeMap<u64, bool>, FinderError> {
+    let mut sources = sources;
+    let mut leaving = BTreeMap::new(alloc);
+    let mut waiting = Vec::new(alloc);
+    for number in 0..states {
+        if !whole.contains(&number) {
+            leaving.insert(number, true)?;
+            waiting.push(number)?;
+        }
+    }
+    for _ in 0..states {
+        let Some(to) = waiting.pop() else {
+            break;
+        };
+        if let Some(list) = sources.remove(&to) {
+            for from in list {
+                if !leaving.contains_key(&from) {
+                    leaving.insert(from, true)?;
+                    waiting.push(from)?;
+                }
+            }
+        }
+    }
+    Ok(leaving)
 }
 
 impl Turns {
@@ -67,33 +100,14 @@ impl Turns {
     /// The states from which the loop is left with some weight: those from which a turn leads on with less than all, and those
     /// from which a turn leads to one of them.
     pub fn leaving(&self, alloc: Global, states: u64) -> Result<BTreeMap<u64, bool>, FinderError> {
-        let (sums, mut sources) = self.sums_and_sources(alloc)?;
-        let mut leaving = BTreeMap::new(alloc);
-        let mut waiting = Vec::new(alloc);
-        for number in 0..states {
-            let leaves = match sums.get(&number) {
-                Some(sum) => sum.num() != sum.den(),
-                None => true,
-            };
-            if leaves {
-                leaving.insert(number, true)?;
-                waiting.push(number)?;
+        let (sums, sources) = self.sums_and_sources(alloc)?;
+        let mut whole = BTreeSet::new(alloc);
+        for (number, sum) in &sums {
+            if sum.num() == sum.den() {
+                whole.insert(*number)?;
             }
         }
-        for _ in 0..states {
-            let Some(to) = waiting.pop() else {
-                break;
-            };
-            if let Some(list) = sources.remove(&to) {
-                for from in list {
-                    if !leaving.contains_key(&from) {
-                        leaving.insert(from, true)?;
-                        waiting.push(from)?;
-                    }
-                }
-            }
-        }
-        Ok(leaving)
+        left(alloc, states, &whole, sources)
     }
 
     // The part of each turn between states that may be left, at these moduli. Neighbours often have one denominator, and 1 over it

@@ -1,3 +1,4 @@
 pub mod Insertion
 pub mod Weights
 pub mod FromEach
+pub mod Parted

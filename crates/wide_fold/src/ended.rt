@@ -1,12 +1,13 @@
 // What has ended, by the way it ended, in wide fractions.
 
-ghost use Rattle.std.specs.Prelude.{◌≡◌, IfOk, OnOk};
-ghost use Rattle.mass_fold.specs.inner.Ended.{IsNone, IsNoWeight};
+ghost use Rattle.std.specs.Prelude.{◌≡◌, true, IfOk, OnOk};
+ghost use Rattle.mass_fold.specs.inner.Ended.{EndGives, IsNone, IsNoWeight, rows_of, weight_of, with_weight};
+ghost use Rattle.exact_fold.specs.inner.Turning.{NothingIn};
 ghost use Rattle.wide_fold.specs.inner.Adding.{with_times, AddsTimes};
 
 use crate::error::WideFoldError;
 use crate::widened::{product, sum, widened};
-use mass_fold::Ended;
+use mass_fold::{Ended, Gone};
 use numbers::Frac;
 use std::alloc::Global;
 use std::marker::Model;
@@ -80,6 +81,53 @@ impl WideEnded {
             turns: nothing(alloc)?,
             attempts: nothing(alloc)?,
         })
+    }
+
+    fn weight(&self, x: Gone) -> &WideFraction
+        ensures { result.now ≡ weight_of self.now x }
+    {
+        match x {
+            Gone::Failed => &self.failed,
+            Gone::Overflow => &self.overflow,
+            Gone::Divisor => &self.divisor,
+            Gone::Bound => &self.bound,
+            Gone::Turns => &self.turns,
+            Gone::Attempts => &self.attempts,
+        }
+    }
+
+    fn replace(&mut self, x: Gone, f: WideFraction)
+        ensures { self.new ≡ with_weight self.old x f }
+    {
+        match x {
+            Gone::Failed => self.failed = f,
+            Gone::Overflow => self.overflow = f,
+            Gone::Divisor => self.divisor = f,
+            Gone::Bound => self.bound = f,
+            Gone::Turns => self.turns = f,
+            Gone::Attempts => self.attempts = f,
+        }
+    }
+
+    /// Adds weight to one way to end.
+    pub fn add(&mut self, alloc: Global, x: Gone, f: &WideFraction) -> Result<(), WideFoldError>
+        ensures { OnOk result (EndGives self.old self.new x f.now) }
+    {
+        let weight = sum(alloc, self.weight(x), f)?;
+        self.replace(x, weight);
+        Ok(())
+    }
+
+    /// Whether nothing has ended.
+    pub fn is_none(&self) -> bool
+        ensures { result ≡ true → NothingIn (rows_of self.now) }
+    {
+        self.failed.num().is_zero()
+            && self.overflow.num().is_zero()
+            && self.divisor.num().is_zero()
+            && self.bound.num().is_zero()
+            && self.turns.num().is_zero()
+            && self.attempts.num().is_zero()
     }
 
     /// Adds what has ended from a state, times the weight of the state.

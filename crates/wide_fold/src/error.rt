@@ -9,8 +9,12 @@ use wide_visits::VisitsError;
 /// Why a block is not settled in wide fractions.
 #[derive(Clone, Copy, PartialEq, Eq, Debug)]
 pub enum WideFoldError {
-    /// A number has more than 4,096 bits, or what comes of one state alone is wider than 128 bits.
+    /// A number has more than 4,096 bits.
     TooWide,
+    /// What comes of one state alone is wider than 128 bits.
+    StateTooWide,
+    /// It would take more steps than [`MOST_WORK`](crate::MOST_WORK).
+    TooMuchWork,
     /// More than 65,536 states at one point, or on the guard of one loop, or more parts of turns than are made.
     TooManyStates,
     /// Memory ran out.
@@ -22,10 +26,9 @@ pub enum WideFoldError {
 impl From<SettleError> for WideFoldError {
     fn from(error: SettleError) -> Self {
         match error {
-            SettleError::TooWide => WideFoldError::TooWide,
+            SettleError::TooWide | SettleError::NotSettled => WideFoldError::StateTooWide,
             SettleError::TooManyStates => WideFoldError::TooManyStates,
             SettleError::OutOfMemory => WideFoldError::OutOfMemory,
-            SettleError::NotSettled => WideFoldError::NotSettled,
         }
     }
 }

@@ -5,6 +5,7 @@ ghost use Rattle.std.specs.Prelude.{◌≡◌, IfOk};
 use crate::error::WideFoldError;
 use crate::settle::WideFound;
 use crate::table::WideTable;
+use crate::work::Work;
 use exact_fold::finding::put;
 use mass_fold::{State, Table};
 use numbers::Frac;
@@ -35,6 +36,16 @@ fn put_wide(
         return Err(WideFoldError::NotSettled);
     }
     table.put(alloc, state, weight)
+}
+
+/// One state, with the weight 1, where it has so many variables.
+pub fn single(alloc: Global, vars: u32, state: &State) -> Result<WideTable, WideFoldError>
+    ensures { IfOk result (λ t. t.vars ≡ vars) }
+{
+    if state.values().len() != vars as usize {
+        return Err(WideFoldError::NotSettled);
+    }
+    WideTable::alone(alloc, vars, state)
 }
 
 impl WideFound {
@@ -126,15 +137,37 @@ impl Seen {
         Ok(())
     }
 
+    /// The same, in wide fractions.
+    pub fn lead_on(
+        &mut self,
+        alloc: Global,
+        from: u64,
+        table: &WideTable,
+    ) -> Result<(), WideFoldError> {
+        for (state, weight) in &table.states {
+            let to = self.number(alloc, state)?;
+            self.turns.lead_on(alloc, from, to, weight)?;
+        }
+        Ok(())
+    }
+
     /// The visits of the states that may be left, and the states that are never left.
-    pub fn found(&self, alloc: Global, vars: u32) -> Result<WideFound, WideFoldError>
+    pub fn found(
+        &self,
+        alloc: Global,
+        vars: u32,
+        work: &mut Work,
+    ) -> Result<WideFound, WideFoldError>
         ensures visits { IfOk result (λ f. f.visits.vars ≡ vars) }
         ensures closed { IfOk result (λ f. f.closed.vars ≡ vars) }
     {
-        let visits = self.turns.visits(alloc, self.states.len() as u64)?;
+        let found_at = self
+            .turns
+            .visits(alloc, self.states.len() as u64, work.left())?;
+        work.add(found_at.steps)?;
         let mut found = WideFound::none(alloc, vars);
         for (state, number) in &self.numbers {
-            match visits.get(number) {
+            match found_at.visits.get(number) {
                 Some(weight) => found.visit(alloc, state, weight)?,
                 None => found.close(alloc, state)?,
             }

@@ -1,4 +1,4 @@
-// A statement from each state of a table alone, and what comes of each, by the weight of the state.
+// A statement or a block from each state of a table alone, and what comes of each, by the weight of the state.
 
 ghost use Rattle.std.specs.Prelude.{◌≡◌, IfOk, OnOk};
 ghost use Rattle.gcl_core.specs.meaning.Bounds.{StatementIsWeighed, BlockIsWeighed, StatementBelow, BlockBelow};
@@ -12,8 +12,8 @@ use crate::ended::WideEnded;
 use crate::error::WideFoldError;
 use crate::table::WideTable;
 use crate::widened::{product, widened};
-use exact_fold::parts::Parts;
-use exact_fold::settle::settle_stmt;
+use crate::work::Work;
+use exact_fold::settle::{settle_block, settle_stmt};
 use exact_fold::turning::alone;
 use gcl_core::{Block, Stmt};
 use mass_fold::{Ended, Table};
@@ -26,11 +26,13 @@ fn add_led(
     times: &WideFraction,
     table: &Table,
     out: &mut WideTable,
+    work: &mut Work,
 ) -> Result<(), WideFoldError>
     requires { table.now.vars ≡ out.old.vars }
     ensures ok { OnOk result (AddsLed times.now table.now.states.entries out.old.states.entries out.new.states.entries) }
     ensures vars { out.new.vars ≡ out.old.vars }
 {
+    work.work_with(table.states.len() as u64, times)?;
     for (state, weight) in &table.states {
         let part = widened(alloc, weight)?;
         let added = product(alloc, times, &part)?;
@@ -45,7 +47,7 @@ pub fn from_each(
     statement: &Stmt,
     table: &WideTable,
     ended: &mut WideEnded,
-    made: &mut Parts,
+    work: &mut Work,
 ) -> Result<WideTable, WideFoldError>
     requires below { StatementBelow table.now.vars (statement_of statement.now) }
     requires weights { StatementIsWeighed (statement_of statement.now) }
@@ -57,20 +59,20 @@ pub fn from_each(
     for (state, weight) in &table.states {
         let one = alone(alloc, table.vars, state)?;
         let mut gone = Ended::none();
-        let next = settle_stmt(alloc, statement, one, &mut gone, made)?;
-        add_led(alloc, weight, &next, &mut out)?;
+        let next = settle_stmt(alloc, statement, one, &mut gone, &mut work.parts)?;
+        add_led(alloc, weight, &next, &mut out, work)?;
         ended.add_times(alloc, weight, &gone)?;
     }
     Ok(out)
 }
 
-/// The table after a block whose statements are settled so, one after the other.
+/// The table after a block, which is settled from each of its states alone; what ended is added.
 pub fn block_from_each(
     alloc: Global,
     block: &Block,
     table: WideTable,
     ended: &mut WideEnded,
-    made: &mut Parts,
+    work: &mut Work,
 ) -> Result<WideTable, WideFoldError>
     requires below { BlockBelow table.vars (statements_of block.now) }
     requires weights { BlockIsWeighed (statements_of block.now) }
@@ -78,9 +80,13 @@ pub fn block_from_each(
         table.states.entries ended.old t.states.entries ended.new) }
     ensures vars { IfOk result (λ t. t.vars ≡ table.vars) }
 {
-    let mut now = table;
-    for statement in &block.stmts {
-        now = from_each(alloc, statement, &now, ended, made)?;
+    let mut out = WideTable::new(alloc, table.vars);
+    for (state, weight) in &table.states {
+        let one = alone(alloc, table.vars, state)?;
+        let mut gone = Ended::none();
+        let next = settle_block(alloc, block, one, &mut gone, &mut work.parts)?;
+        add_led(alloc, weight, &next, &mut out, work)?;
+        ended.add_times(alloc, weight, &gone)?;
     }
-    Ok(now)
+    Ok(out)
 }

@@ -5,6 +5,7 @@ ghost use Rattle.std.specs.BTreeMap.{keys};
 ghost use Rattle.std.proofs.Props.{props};
 ghost use Rattle.gcl_core.specs.meaning.Outcomes.{zeros};
 ghost use Rattle.mass_fold.specs.inner.Amounts.{PutGives, order};
+ghost use Rattle.exact_fold.specs.inner.Turning.{Alone};
 ghost use Rattle.wide_fold.specs.inner.Adding.{SumsAt, IsAdded};
 
 use crate::error::WideFoldError;
@@ -84,6 +85,17 @@ impl WideTable {
         let weight = one(alloc)?;
         states.insert(zeros, weight)?;
         Ok(WideTable { vars, states })
+    }
+
+    /// One state, with the weight 1.
+    pub fn alone(alloc: Global, vars: u32, state: &State) -> Result<WideTable, WideFoldError>
+        requires { length state.now ≡ vars }
+        ensures one { IfOk result (λ t. Alone state.now t.states.entries) }
+        ensures vars { IfOk result (λ t. t.vars ≡ vars) }
+    {
+        let mut table = WideTable::new(alloc, vars);
+        table.put(alloc, state.copy(alloc)?, one(alloc)?)?;
+        Ok(table)
     }
 
     /// Adds the weight of a state.

@@ -5,7 +5,8 @@ use wide_fold::WideFoldError;
 /// Why there are no masses in wide fractions.
 #[derive(Clone, Copy, PartialEq, Eq, Debug)]
 pub enum Refusal {
-    /// The body of the program is not settled in wide fractions, or a mass has a number of more than 4,096 bits.
+    /// The body of the program is not settled in wide fractions, or not within the steps that are taken for it, or a mass has a number
+    /// of more than 4,096 bits.
     NotFound,
     /// In the limit of turns every round fails.
     AllFailed,
@@ -21,9 +22,11 @@ impl From<WideFoldError> for Refusal {
 
     fn from(error: WideFoldError) -> Self {
         match error {
-            WideFoldError::TooWide | WideFoldError::TooManyStates | WideFoldError::NotSettled => {
-                Refusal::NotFound
-            }
+            WideFoldError::TooWide
+            | WideFoldError::StateTooWide
+            | WideFoldError::TooMuchWork
+            | WideFoldError::TooManyStates
+            | WideFoldError::NotSettled => Refusal::NotFound,
             WideFoldError::OutOfMemory => Refusal::OutOfMemory,
         }
     }

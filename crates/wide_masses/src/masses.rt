@@ -45,8 +45,8 @@ fn in_wide_fractions(alloc: Global, program: &Checked) -> Result<Masses, ExactEr
 /// The mass of each outcome of a program in the limit of turns, and that with which it runs for ever.
 ///
 /// They are those of [`exact_fold::exact`]. Where that refuses a program as too wide, the body of its forgetful program is settled
-/// in fractions of up to 4,096 bits: what comes of one state alone, by a statement that is no loop, still has 128 bits. `TooWide`
-/// comes only where both walks refuse it, and only for a cause of the first.
+/// in fractions of up to 4,096 bits. `TooWide` comes only where both walks refuse it, the second too where it would take more than
+/// [`MOST_WORK`](wide_fold::MOST_WORK) steps, and only for a cause of the first.
 pub fn exact(alloc: Global, program: &Checked) -> Result<Masses, ExactError>
     ensures masses { IfOk result (λ m. IsExact (forgetful_of (source_of program.now)) (rows_of m) (endless_of m)) }
     ensures limits { IfOk result (λ m. IsExactInTheLimit (source_of program.now) (rows_of m) (endless_of m)) }

@@ -11,6 +11,8 @@ mod limbs;
 mod places;
 mod ratio;
 mod turns;
+mod weight;
+mod wide_turns;
 
 pub use error::VisitsError;
-pub use turns::Turns;
+pub use turns::{Turns, Visits};

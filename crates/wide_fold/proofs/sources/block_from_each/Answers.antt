@@ -1,30 +1,38 @@
 use Rattle.std.proofs.Common.{sym, ◌∙◌, subst}
-use Rattle.gcl_core.specs.meaning.Bounds.{StatementBelow}
-use Rattle.gcl_core.specs.meaning.Views.{statement_of, list_of}
+use Rattle.std.specs.Map.Iter.{deref_pair}
+use Rattle.gcl_core.specs.meaning.Bounds.{BlockBelow}
+use Rattle.gcl_core.specs.meaning.Views.{statements_of}
+use Rattle.mass_fold.proofs.Sizes.{sized_at}
 use Rattle.unlimited_law.specs.Alike.{Alike}
 use Rattle.unlimited_law.specs.Settling.{BlockSettles}
-use Rattle.mass_fold.proofs.Fitting.{list_step, below_next, weights_next, along_list, below_list}
-use Rattle.exact_fold.proofs.Steps.{rest_next, rest_none}
+use Rattle.wide_fold.proofs.FromEach.{block_linear, sources_start, sources_next, sources_end}
 use Rattle.wide_fold.proofs.sources.block_from_each.Goals as goal
 
-pub from_each-requires : goal.from_each-requires
-from_each-requires c =
-    let p = list_step c.deref-statement-items.result.now c.loop-statement.statement-index c.statement-item.result c.loop-statement-test.true c.statement-item.is in
-    let m = c.args.table.vars in record {
-      below = subst (λ m. StatementBelow m (statement_of c.statement-item.result)) (sym c.loop-statement.invariant.vars) (below_next m _ _ _ p (c.loop-statement.invariant.below m (below_list m _ _ c.deref-statement-items.ensures.value c.requires.below))).0;
-      weights = (weights_next _ _ _ p (c.loop-statement.invariant.weights (along_list _ _ c.deref-statement-items.ensures.value c.requires.weights))).0;
-    }
+pub loop-state-init : goal.loop-state-init
+loop-state-init c = record {
+  next = tt;
+  finite = tt;
+  vars = c.new-out.ensures.vars;
+  so_far = sources_start (BlockSettles Alike Alike (statements_of c.args.block.now)) (block_linear (statements_of c.args.block.now) c.requires.weights) _ _ _ _ c.into_iter-state-iterator.ensures.into_iter_gives.0 c.new-out.ensures.empty;
+}
 
-pub loop-statement-preserved : goal.loop-statement-preserved
-loop-statement-preserved c =
-    let p = list_step c.deref-statement-items.result.now c.loop-statement.statement-index c.statement-item.result c.loop-statement-test.true c.statement-item.is in
-    record {
-      below = λ m h. (below_next m _ _ _ p (c.loop-statement.invariant.below m h)).1;
-      weights = λ h. (weights_next _ _ _ p (c.loop-statement.invariant.weights h)).1;
-      vars = c.in_ok-now.ensures.vars ∙ c.loop-statement.invariant.vars;
-      so_far = rest_next (BlockSettles Alike Alike (list_of c.deref-statement-items.result.now)) _ _ _ _ _ _ _ _ _ p c.loop-statement.invariant.so_far c.in_ok-now.ensures.ok;
-    }
+pub alone-requires : goal.alone-requires
+alone-requires c = sized_at _ _ c.args.table.sized deref_pair _ _ _ _ _ _ c.into_iter-state-iterator.ensures.into_iter_gives.0 c.loop-state.yielded_by c.in-Some.is c.next.ensures.steps
+
+pub settle_block-requires : goal.settle_block-requires
+settle_block-requires c = record { below = subst (λ m. BlockBelow m (statements_of c.args.block.now)) (sym c.in_ok-one.ensures.vars) c.requires.below; weights = c.requires.weights }
+
+pub add_led-requires : goal.add_led-requires
+add_led-requires c = c.in_ok-next.ensures.vars ∙ c.in_ok-one.ensures.vars ∙ sym c.loop-state.invariant.vars
+
+pub loop-state-preserved : goal.loop-state-preserved
+loop-state-preserved c = record {
+  next = tt;
+  finite = tt;
+  vars = c.add_led.ensures.vars ∙ c.loop-state.invariant.vars;
+  so_far = sources_next (BlockSettles Alike Alike (statements_of c.args.block.now)) (block_linear (statements_of c.args.block.now) c.requires.weights) _ _ _ _ _ _ _ _ c.in-Some.state.now c.in-Some.weight.now _ _ _ _ c.in-Some.ensures.steps c.in_ok-one.ensures.one c.none-gone.ensures c.in_ok-next.ensures.ok
+      c.in_ok-add_led.ensures.ok c.in_ok-add_times.ensures c.loop-state.invariant.so_far;
+}
 
 pub returns-clause-ok : goal.returns-clause-ok
-returns-clause-ok c =
-    rest_none c.deref-statement-items.result.now c.args.block.now.stmts.items c.loop-statement.statement-index _ _ _ _ c.loop-statement-test.false c.deref-statement-items.ensures.value c.loop-statement.invariant.so_far
+returns-clause-ok c = sources_end (BlockSettles Alike Alike (statements_of c.args.block.now)) (block_linear (statements_of c.args.block.now) c.requires.weights) _ _ _ _ _ c.in-None.ensures.steps.0 c.loop-state.invariant.so_far

@@ -1,15 +1,14 @@
-use Rattle.std.proofs.Common.{◌≡◌, ℕ, drop}
-use Rattle.gcl_core.specs.meaning.Bounds.{BlockIsWeighed, BlockBelow}
-use Rattle.gcl_core.specs.meaning.Views.{list_of}
+use Rattle.std.proofs.Common.{◌≡◌}
+use Rattle.gcl_core.specs.meaning.Views.{statements_of}
 use Rattle.unlimited_law.specs.Alike.{Alike}
 use Rattle.unlimited_law.specs.Settling.{BlockSettles}
-use Rattle.exact_fold.proofs.Steps.{SettlesRest}
+use Rattle.wide_fold.proofs.FromEach.{SourcesOn}
 use Rattle.wide_fold.proofs.sources.block_from_each.Given as goal
 
-abbrev pub invariant-loop-statement : goal.invariant-loop-statement
-invariant-loop-statement l = record {
-  below : (m : ℕ) → BlockBelow m (list_of l.statement-items) → BlockBelow m (list_of (drop l.statement-index l.statement-items));
-  weights : BlockIsWeighed (list_of l.statement-items) → BlockIsWeighed (list_of (drop l.statement-index l.statement-items));
-  vars : l.now.vars ≡ l.fn.table.vars;
-  so_far : SettlesRest (BlockSettles Alike Alike (list_of l.statement-items)) (list_of (drop l.statement-index l.statement-items)) l.fn.table.states.entries l.fn.ended l.now.states.entries l.ended;
+abbrev pub invariant-loop-state : goal.invariant-loop-state
+invariant-loop-state l = record {
+  next : (goal.iterator-loop-state).can_next l.state-iterator;
+  finite : (goal.iterator-loop-state).is_finite l.state-iterator;
+  vars : l.out.vars ≡ l.fn.table.vars;
+  so_far : SourcesOn (BlockSettles Alike Alike (statements_of l.block)) l.fn.table.states.entries l.fn.ended l.state-iterator l.out.states.entries l.ended;
 }

@@ -3,7 +3,9 @@ use Rattle.std.specs.Map.Iter.{deref_pair}
 use Rattle.gcl_core.specs.meaning.Bounds.{StatementBelow}
 use Rattle.gcl_core.specs.meaning.Views.{statement_of}
 use Rattle.mass_fold.proofs.Sizes.{sized_at}
-use Rattle.wide_fold.proofs.FromEach.{sources_start, sources_next, sources_end}
+use Rattle.unlimited_law.specs.Alike.{Alike}
+use Rattle.unlimited_law.specs.Settling.{StatementSettles}
+use Rattle.wide_fold.proofs.FromEach.{statement_linear, sources_start, sources_next, sources_end}
 use Rattle.wide_fold.proofs.sources.from_each.Goals as goal
 
 pub loop-state-init : goal.loop-state-init
@@ -11,7 +13,7 @@ loop-state-init c = record {
   next = tt;
   finite = tt;
   vars = c.new-out.ensures.vars;
-  so_far = sources_start (statement_of c.args.statement.now) _ _ _ _ c.into_iter-state-iterator.ensures.into_iter_gives.0 c.new-out.ensures.empty;
+  so_far = sources_start (StatementSettles Alike Alike (statement_of c.args.statement.now)) (statement_linear (statement_of c.args.statement.now) c.requires.weights) _ _ _ _ c.into_iter-state-iterator.ensures.into_iter_gives.0 c.new-out.ensures.empty;
 }
 
 pub alone-requires : goal.alone-requires
@@ -28,9 +30,9 @@ loop-state-preserved c = record {
   next = tt;
   finite = tt;
   vars = c.add_led.ensures.vars ∙ c.loop-state.invariant.vars;
-  so_far = sources_next (statement_of c.args.statement.now) c.requires.weights _ _ _ _ _ _ _ _ c.in-Some.state.now c.in-Some.weight.now _ _ _ _ c.in-Some.ensures.steps c.in_ok-one.ensures.one c.none-gone.ensures c.in_ok-next.ensures.ok
+  so_far = sources_next (StatementSettles Alike Alike (statement_of c.args.statement.now)) (statement_linear (statement_of c.args.statement.now) c.requires.weights) _ _ _ _ _ _ _ _ c.in-Some.state.now c.in-Some.weight.now _ _ _ _ c.in-Some.ensures.steps c.in_ok-one.ensures.one c.none-gone.ensures c.in_ok-next.ensures.ok
       c.in_ok-add_led.ensures.ok c.in_ok-add_times.ensures c.loop-state.invariant.so_far;
 }
 
 pub returns-clause-ok : goal.returns-clause-ok
-returns-clause-ok c = sources_end (statement_of c.args.statement.now) c.requires.weights _ _ _ _ _ c.in-None.ensures.steps.0 c.loop-state.invariant.so_far
+returns-clause-ok c = sources_end (StatementSettles Alike Alike (statement_of c.args.statement.now)) (statement_linear (statement_of c.args.statement.now) c.requires.weights) _ _ _ _ _ c.in-None.ensures.steps.0 c.loop-state.invariant.so_far

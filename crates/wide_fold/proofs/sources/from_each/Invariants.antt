@@ -1,5 +1,7 @@
 use Rattle.std.proofs.Common.{◌≡◌}
 use Rattle.gcl_core.specs.meaning.Views.{statement_of}
+use Rattle.unlimited_law.specs.Alike.{Alike}
+use Rattle.unlimited_law.specs.Settling.{StatementSettles}
 use Rattle.wide_fold.proofs.FromEach.{SourcesOn}
 use Rattle.wide_fold.proofs.sources.from_each.Given as goal
 
@@ -8,5 +10,5 @@ invariant-loop-state l = record {
   next : (goal.iterator-loop-state).can_next l.state-iterator;
   finite : (goal.iterator-loop-state).is_finite l.state-iterator;
   vars : l.out.vars ≡ l.table.vars;
-  so_far : SourcesOn (statement_of l.statement) l.table.states.entries l.fn.ended l.state-iterator l.out.states.entries l.ended;
+  so_far : SourcesOn (StatementSettles Alike Alike (statement_of l.statement)) l.table.states.entries l.fn.ended l.state-iterator l.out.states.entries l.ended;
 }

@@ -2,7 +2,6 @@ use Rattle.std.proofs.Common.{◌≡◌, []}
 use Rattle.gcl_core.specs.meaning.Views.{expression_of}
 use Rattle.gcl_core.specs.meaning.Value.{value_of}
 use Rattle.table_flow.specs.Tables.{holds, fails}
-use Rattle.mass_fold.specs.declared.ended.Ended.{Ended}
 use Rattle.mass_fold.specs.inner.Steps.{StepsOn}
 use Rattle.table_flow.specs.Counts.{kept_if, stopped}
 use Rattle.wide_fold.proofs.turning.split.Given as goal
@@ -13,6 +12,6 @@ invariant-loop-s l = record {
   finite : (goal.iterator-loop-s).is_finite l.s-iterator;
   first_vars : l.first.vars ≡ l.fn.table.vars;
   second_vars : l.second.vars ≡ l.fn.table.vars;
-  first : (E : Ended) → StepsOn (kept_if (holds (value_of (expression_of l.guard)))) (stopped (value_of (expression_of l.guard))) [] l.fn.table.states.entries E l.first.states.entries E l.s-iterator;
-  second : (E : Ended) → StepsOn (kept_if (fails (value_of (expression_of l.guard)))) (stopped (value_of (expression_of l.guard))) [] l.fn.table.states.entries E l.second.states.entries E l.s-iterator;
+  first : StepsOn (kept_if (holds (value_of (expression_of l.guard)))) (stopped (value_of (expression_of l.guard))) [] l.fn.table.states.entries l.fn.ended l.first.states.entries l.ended l.s-iterator;
+  second : StepsOn (kept_if (fails (value_of (expression_of l.guard)))) (stopped (value_of (expression_of l.guard))) [] l.fn.table.states.entries l.fn.ended l.second.states.entries l.ended l.s-iterator;
 }

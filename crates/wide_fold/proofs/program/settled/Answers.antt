@@ -3,7 +3,7 @@ use Rattle.gcl_core.specs.meaning.Outcomes.{zeros}
 use Rattle.gcl_core.specs.meaning.Views.{source_of}
 use Rattle.exact_fold.specs.inner.Settled.{ProgramSettlesTo}
 use Rattle.exact_fold.proofs.Programs.{program_settles}
-use Rattle.wide_fold.proofs.program.settle_program.Goals as goal
+use Rattle.wide_fold.proofs.program.settled.Goals as goal
 
 pub returns : goal.returns
 returns c =
