@@ -1,2 +1,3 @@
 pub mod NarrowRows
 mod NarrowLines
+pub mod BitPrice

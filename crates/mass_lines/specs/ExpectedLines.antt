@@ -1,7 +1,8 @@
 -- The line of what a run costs on average where nothing is limited, behind its word: of bits, and of whatever else is counted.
 use Rattle.std.specs.Prelude.{◌≡◌, ℕ, List, ◌++◌, codes}
 use Rattle.bits_law.specs.InTheLimit.{ComesTo, HasNoBound}
-use Rattle.cost_law.specs.ExpectedBits.{expected_bits}
+use Rattle.bits_law.specs.Price.{bits_price}
+use Rattle.bits_law.specs.RunPrice.{expected_price}
 use Rattle.gcl_core.specs.declared.answers.Limits.{Limits}
 use Rattle.gcl_core.specs.meaning.Syntax.{SourceProgram}
 use Rattle.gcl_core.specs.weighing.Fractions.{Fraction}
@@ -26,4 +27,4 @@ module _ (word : List ℕ) where
     without_bound : HasNoBound under → text ≡ unbounded_count_text → IsCountLine under d text
 
 abbrev pub IsExpectedLine : SourceProgram → ℕ → List ℕ → Type 0
-IsExpectedLine p = IsCountLine (codes "bits") (expected_bits p)
+IsExpectedLine p = IsCountLine (codes "bits") (expected_price bits_price p)
