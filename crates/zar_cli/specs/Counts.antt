@@ -2,7 +2,7 @@
 use Rattle.std.specs.Prelude.{◌≡◌, ℕ, ◌++◌, List, length, Result, Ok}
 use Rattle.count_lines.specs.TallyLines.{AreTallyLines}
 use Rattle.gcl_core.specs.text.Canonical.{canonical_text}
-use Rattle.gcl_core.specs.text.StatementCounts.{count_all}
+use Rattle.gcl_core.specs.text.ReadingOrder.{listed}
 use Rattle.gcl_core.specs.meaning.Syntax.{SourceProgram}
 use Rattle.generated_program.specs.Generated.{generated}
 use Rattle.report_text.specs.Lines.{number_text}
@@ -24,7 +24,7 @@ ShowsBehind front Is output = (text : List ℕ) × Is text × (output ≡ Ok (Sh
 
 -- how large a program is, and how many streams it is tallied over
 abbrev pub size_text : SourceProgram → List ℕ
-size_text p = number_text Statements (count_all p.body) ++ number_text Bytes (length (canonical_text p))
+size_text p = number_text Statements (length (listed p.body)) ++ number_text Bytes (length (canonical_text p))
     ++ number_text Streams GENERATED_STREAMS
 
 -- the first streams of the seed k

@@ -1,3 +1,4 @@
+use Rattle.count_lines.proofs.Counted.{counted_keys}
 use Rattle.gcl_core.specs.meaning.Runs.{run_on}
 use Rattle.gcl_core.specs.meaning.Views.{source_of}
 use Rattle.zar_c.proofs.counting.tally_of.Goals as goal
@@ -8,6 +9,6 @@ returns c =
     let l = c.args.l.now in
     record {
       rows = c.in_ok-found.found;
-      counted = c.in_ok-found.ensures.rows (run_on p l) (c.in_ok-sampler.ensures.sampler.runs l c.requires.limits);
+      counted = counted_keys p l c.args.range.now c.in_ok-found.found (c.in_ok-found.ensures.rows (run_on p l) (c.in_ok-sampler.ensures.sampler.runs l c.requires.limits));
       lines = c.in_ok-text.ensures;
     }

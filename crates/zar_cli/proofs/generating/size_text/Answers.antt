@@ -1,5 +1,7 @@
-use Rattle.std.proofs.Common.{◌≡◌, ℕ, List, [], ◌++◌, length, ◌∙◌, ap, arith}
+use Rattle.std.proofs.Common.{◌≡◌, ℕ, List, [], ◌++◌, length, ◌∙◌, sym, ap, arith}
+use Rattle.gcl_core.proofs.Listed.{listed_all}
 use Rattle.gcl_core.specs.text.Canonical.{canonical_text}
+use Rattle.gcl_core.specs.text.ReadingOrder.{listed}
 use Rattle.gcl_core.specs.text.StatementCounts.{count_all}
 use Rattle.gcl_core.specs.meaning.Views.{source_of, statements_of}
 use Rattle.report_text.specs.Lines.{number_text}
@@ -11,8 +13,9 @@ three_lines t t' t'' t''' a b c e f g h = h ∙ ap (λ s. s ++ c) (g ∙ ap (λ 
 
 pub returns : goal.returns
 returns c =
-    let statements : c.bytes.result.now ≡ number_text Statements (count_all (source_of c.args.program.now).body) =
-    c.bytes.ensures.text ∙ c.number_line.ensures ∙ ap (number_text Statements) (c.count_statements.ensures ∙ ap (λ p. count_all (statements_of p.body)) c.program-p.ensures.same) in
+    let body = (source_of c.args.program.now).body in
+    let counted = c.count_statements.ensures ∙ ap (λ p. count_all (statements_of p.body)) c.program-p.ensures.same ∙ sym (listed_all body) in
+    let statements : c.bytes.result.now ≡ number_text Statements (length (listed body)) = c.bytes.ensures.text ∙ c.number_line.ensures ∙ ap (number_text Statements) counted in
     let length_of : c.len.result ≡ length c.in_ok-printed.printed.items = omega (arith, c.len.ensures, c.in_ok-printed.printed.ok.0) in
     let bytes : c.bytes-2.result.now ≡ number_text Bytes (length (canonical_text (source_of c.args.program.now))) =
     c.bytes-2.ensures.text ∙ c.number_line-2.ensures
