@@ -7,7 +7,7 @@ use wide_numbers::WideError;
 /// Why no visits are found.
 #[derive(Clone, Copy, PartialEq, Eq, Debug)]
 pub enum VisitsError {
-    /// A number has more than 4,096 bits, or a turn leads on with a weight of more than 128.
+    /// A number has more than 4,096 bits, a sum of weights that were told in 128 has more, or it would take more steps than are allowed.
     TooWide,
     /// Memory ran out.
     OutOfMemory,
