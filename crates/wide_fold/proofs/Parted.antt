@@ -1,12 +1,12 @@
 -- The sides of a choice in wide fractions, and one more weight among what has ended.
-use Rattle.std.proofs.Common.{◌≡◌, ℕ, zero, suc, ◌+◌, ◌*◌, ◌-◌, ◌≤◌, ◌<◌, [], ◌∷◌, ◌++◌, None, refl, sym, ap, ◌∙◌, subst, append-nil, arith}
+use Rattle.std.proofs.Common.{◌≡◌, ℕ, zero, suc, ◌+◌, ◌*◌, ◌-◌, ◌<◌, None, refl, sym, ap, ◌∙◌, subst, append-nil, arith}
 use Rattle.std.specs.Map.{keys_of}
 use Rattle.std.specs.List.Sorted.{IsStrictlySortedBy}
 use Rattle.gcl_core.specs.declared.syntax.Weight.{Weight}
 use Rattle.gcl_core.specs.meaning.Bounds.{IsWeight}
 use Rattle.gcl_core.specs.meaning.Value.{State}
 use Rattle.gcl_core.specs.weighing.Fractions.{Fraction, plus, times}
-use Rattle.numbers.specs.Fraction.{IsEqual, lowest}
+use Rattle.numbers.specs.Fraction.{lowest}
 use Rattle.numbers.proofs.Divisors.{cancel, lowest_equal}
 use Rattle.table_flow.specs.Scale.{whole, Whole, Wholes}
 use Rattle.table_flow.specs.Counts.{all_kept, none_stopped}

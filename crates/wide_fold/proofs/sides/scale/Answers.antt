@@ -1,4 +1,4 @@
-use Rattle.std.proofs.Common.{◌<◌, ◌∙◌, length, sym, ap, arith}
+use Rattle.std.proofs.Common.{◌∙◌, length, sym, ap, arith}
 use Rattle.std.specs.Map.Iter.{deref_pair}
 use Rattle.table_flow.specs.Counts.{all_kept, none_stopped}
 use Rattle.mass_fold.proofs.Sizes.{sized_at}
