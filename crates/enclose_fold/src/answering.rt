@@ -32,6 +32,23 @@ fn is_less(a: &Frac, b: &Frac) -> bool
     }
 }
 
+// Whether there are bounds, and the others have at most 2^-80.
+fn are_narrow(found: &Option<Bounds>) -> bool {
+    match found {
+        Some(bounds) => !is_less(&Frac::of(1, 1 << 80), &bounds.other),
+        None => false,
+    }
+}
+
+// Whether there are bounds, and the others have less by them than by those beside, if there are any.
+fn have_less(found: &Option<Bounds>, beside: &Option<Bounds>) -> bool {
+    match (found, beside) {
+        (Some(bounds), Some(more)) => is_less(&bounds.other, &more.other),
+        (Some(_), None) => true,
+        (None, _) => false,
+    }
+}
+
 // The bounds by pairs under a limit of attempts that weighs next to nothing, where there are any, from a round without that limit.
 fn under_attempts(
     alloc: Global,
@@ -78,7 +95,7 @@ fn within_attempts(
     }
 }
 
-// The bounds by pairs, where there are any.
+// The bounds by pairs, where there are any: from a round without the limit of attempts only where that with it is wide.
 fn in_pairs(
     alloc: Global,
     p: &Checked,
@@ -89,9 +106,15 @@ fn in_pairs(
     ensures ok { IfOk result (λ found. IfSome found (λ b. ArePaired (source_of p.now) turns attempts all_turns b.rows b.other)) }
     ensures cause { IfErr result (λ e. e ≡ OutOfMemory) }
 {
-    match under_attempts(alloc, p, turns, attempts, all_turns)? {
-        Some(pairs) => Ok(Some(pairs)),
-        None => within_attempts(alloc, p, turns, attempts, all_turns),
+    let within = within_attempts(alloc, p, turns, attempts, all_turns)?;
+    if are_narrow(&within) {
+        return Ok(within);
+    }
+    let under = under_attempts(alloc, p, turns, attempts, all_turns)?;
+    if have_less(&under, &within) {
+        Ok(under)
+    } else {
+        Ok(within)
     }
 }
 
