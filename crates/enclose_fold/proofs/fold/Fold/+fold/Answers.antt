@@ -703,9 +703,9 @@ stmt-returns-in_ok-merge-in-Choice-clause-ok t c =
     let rest = end_units (limit Attempts) (rest_units down c.in-Choice.p.den attempts entries) in
     let one_part = class_units down c.in-Choice.p.den attempts c.in-Choice.p.num entries in
     let other_part = class_units down c.in-Choice.p.den attempts (c.in-Choice.p.den - c.in-Choice.p.num) entries in
-    gives_as turns attempts _ _ entries _ ended _ form
-    (both_give turns attempts rest (statements_of c.in-Choice.a) (statements_of c.in-Choice.c) one_part other_part _ _ _ _ _ first second ended _ _ _
-    undecided c.in_ok-left-in-Choice.ensures.ok c.in_ok-right-in-Choice.ensures.ok c.in_ok-merge-in-Choice.ensures.ok)
+    let both = both_give turns attempts rest (statements_of c.in-Choice.a) (statements_of c.in-Choice.c) one_part other_part _ _ _ _ _ first second ended _ _ _
+    undecided c.in_ok-left-in-Choice.ensures.ok c.in_ok-right-in-Choice.ensures.ok c.in_ok-merge-in-Choice.ensures.ok in
+    gives_as turns attempts _ _ entries _ ended _ form (record { next = both.next; ended = both.ended })
 
 pub stmt-returns-in_err-merge-in-Choice-clause-cause : goal.stmt-returns-in_err-merge-in-Choice-clause-cause
 stmt-returns-in_err-merge-in-Choice-clause-cause t c =
