@@ -4,7 +4,7 @@ use Rattle.std.proofs.Common.{◌≡◌, ℕ, zero, suc, ◌+◌, ◌-◌, ◌�
 use Rattle.std.specs.Prelude.{not, ◌==◌, slice_set, if◌then◌else◌}
 use Rattle.gcl_core.specs.declared.answers.Limits.{Limits}
 use Rattle.gcl_core.specs.meaning.Arms.{parts_of}
-use Rattle.gcl_core.specs.meaning.Blocks.{on, by_truth, by_side, by_class, value_in, loop_in, uniform_in}
+use Rattle.gcl_core.specs.meaning.Blocks.{on, by_truth, by_side, by_class, value_in, loop_in, uniform_in, statement_in, arm_in}
 use Rattle.gcl_core.specs.meaning.Draw.{last_end, choice_ends, uniform_ends}
 use Rattle.gcl_core.specs.meaning.Outcomes.{zeros}
 use Rattle.gcl_core.specs.meaning.Parts.{partial_sums}
@@ -22,7 +22,7 @@ use Rattle.forgetting.specs.SameMeaning.{SameMeaning}
 use Rattle.forgetting.proofs.Agreeing.{Agree, agree_on, set_agrees, forgotten_agrees, value_agrees, left_or, right_or}
 use Rattle.forgetting.proofs.Forgetting.{same_parts}
 use Rattle.bits_law.specs.Price.{Price, price_of_draw}
-use Rattle.bits_law.specs.RunPrice.{statement_with, arm_with, turn_price, class_price, block_price, round_price, expected_price}
+use Rattle.bits_law.specs.RunPrice.{turn_price, class_price, block_price, round_price, expected_price}
 
 -- what follows looks at what matters alone
 abbrev Looks : Names → (State → Fraction) → (State → Fraction) → Type 0
@@ -94,10 +94,10 @@ module _ (price : Price) (n r : ℕ) where
   cost = block_price price n r
 
   abbrev statement_cost : Statement → State → Bits
-  statement_cost = statement_with end_bits then_bits (class_price price r) (turn_price price.turns) n
+  statement_cost = statement_in end_bits then_bits (class_price price r) (turn_price price.turns) n
 
   abbrev arm_cost : ArmList → ℕ → State → Bits
-  arm_cost = arm_with end_bits then_bits (class_price price r) (turn_price price.turns) n
+  arm_cost = arm_in end_bits then_bits (class_price price r) (turn_price price.turns) n
 
   draws_alike : (L : Names) (cs : List ℕ) (k l : ℕ → Bits) → ((i : ℕ) → i < length cs → Alike L (k i) (l i)) → Alike L (class_price price r cs k) (class_price price r cs l)
   draws_alike L cs k l h = record {

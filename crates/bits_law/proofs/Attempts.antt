@@ -6,7 +6,7 @@ use Rattle.gcl_core.specs.declared.answers.Fault.TheVariants.{BadBound}
 use Rattle.gcl_core.specs.declared.answers.Limit.TheVariants.{Turns}
 use Rattle.gcl_core.specs.meaning.Arms.{parts_of}
 use Rattle.gcl_core.specs.meaning.Bounds.{StatementIsWeighed, BlockIsWeighed, ArmsAreWeighed}
-use Rattle.gcl_core.specs.meaning.Blocks.{End, on, failed, fault, limit, by_truth, by_side, by_class, value_in, loop_in, uniform_in}
+use Rattle.gcl_core.specs.meaning.Blocks.{End, on, failed, fault, limit, by_truth, by_side, by_class, value_in, loop_in, uniform_in, statement_in, block_in, arm_in}
 use Rattle.gcl_core.specs.meaning.Draw.{last_end, choice_ends, uniform_ends, rejected_numbers}
 use Rattle.gcl_core.specs.meaning.Parts.{partial_sums}
 use Rattle.gcl_core.specs.meaning.Syntax.{Statement, Skip, Set, If, While, Choice, Choose, Uniform, Observe, Statements, done, ◌▸◌, ArmList, no_arm, arm}
@@ -22,7 +22,6 @@ use Rattle.unlimited_law.proofs.FractionNumbers.{of}
 use Rattle.unlimited_law.proofs.Integrals.{integral, integral_append, integral_same, integral_sum, integral_times}
 use Rattle.unlimited_law.proofs.Bounded.{draw_small}
 use Rattle.unlimited_law.proofs.OneScale.{Each, none, next, together, le_from, at_sum}
-use Rattle.bits_law.specs.RunPrice.{statement_with, block_with, arm_with}
 use Rattle.bits_law.proofs.Readers.{Reads, AtMostReads, end_counts, then_reads, turn_reads, turn_rises, class_counts}
 use Rattle.bits_law.proofs.Tends.{two_halves, then_near, beside, left_max, right_max}
 use Rattle.bits_law.proofs.LoopTends.{small_part}
@@ -193,7 +192,7 @@ module _ (cost : Option ℕ → List ℕ → Rational) (cost_share : (cs : List 
     draws r = class_counts (cost r) r
 
     abbrev blocks : Option ℕ → Statements → State → Reads
-    blocks r = block_with (end_counts H) then_reads (draws r) (turn_reads turns) n
+    blocks r = block_in (end_counts H) then_reads (draws r) (turn_reads turns) n
 
     closes_uniform : (x : ℕ) (z : ℤ) (s : State) → Closes (λ r. uniform_in (end_counts H) then_reads (draws (Some r)) x z s) (uniform_in (end_counts H) then_reads (draws None) x z s)
     closes_uniform x (pos zero) s = closes_end H (fault BadBound)
@@ -213,7 +212,7 @@ module _ (cost : Option ℕ → List ℕ → Rational) (cost_share : (cs : List 
 
     mutual
       closes_statement : (st : Statement) → StatementIsWeighed st → (s : State) →
-          Closes (λ r. statement_with (end_counts H) then_reads (draws (Some r)) (turn_reads turns) n st s) (statement_with (end_counts H) then_reads (draws None) (turn_reads turns) n st s)
+          Closes (λ r. statement_in (end_counts H) then_reads (draws (Some r)) (turn_reads turns) n st s) (statement_in (end_counts H) then_reads (draws None) (turn_reads turns) n st s)
       closes_statement Skip w s = closes_end H (on s)
       closes_statement (Set x e) w s = closes_value H (value_of e s) _ _ (λ z. closes_end H (on (slice_set s x z)))
       closes_statement (Observe e) w s = closes_value H (value_of e s) _ _ (λ z. closes_truth z (λ r. end_counts H (on s)) (λ r. end_counts H failed) _ _ (closes_end H (on s)) (closes_end H failed))
@@ -226,18 +225,18 @@ module _ (cost : Option ℕ → List ℕ → Rational) (cost_share : (cs : List 
           (λ i. closes_side i (λ r. blocks (Some r) a s) (λ r. blocks (Some r) c s) _ _ (closes_block a w.1 s) (closes_block c w.2 s))
       closes_statement (Choose arms) w s =
           let d = w.0 in
-          closes_class (partial_sums (parts_of arms)) (let l = last_is (parts_of arms) in let z = d.positive in omega arith) (sums_ascend 0 (parts_of arms)) (λ r i. arm_with (end_counts H) then_reads (draws (Some r)) (turn_reads turns) n arms i s)
-          (λ i. arm_with (end_counts H) then_reads (draws None) (turn_reads turns) n arms i s) (λ i. closes_arm arms w.1 i s)
+          closes_class (partial_sums (parts_of arms)) (let l = last_is (parts_of arms) in let z = d.positive in omega arith) (sums_ascend 0 (parts_of arms)) (λ r i. arm_in (end_counts H) then_reads (draws (Some r)) (turn_reads turns) n arms i s)
+          (λ i. arm_in (end_counts H) then_reads (draws None) (turn_reads turns) n arms i s) (λ i. closes_arm arms w.1 i s)
       closes_statement (While e a) w s =
           closes_loop (value_of e) (λ r s. turn_reads turns (blocks (Some r) a s)) (λ s. turn_reads turns (blocks None a s)) (λ s. closes_turn turns (λ r. blocks (Some r) a s) (blocks None a s) (closes_block a w s)) n s
 
       pub closes_block : (b : Statements) → BlockIsWeighed b → (s : State) → Closes (λ r. blocks (Some r) b s) (blocks None b s)
       closes_block done w s = closes_end H (on s)
       closes_block (st ▸ b) w s =
-          closes_then (λ r. statement_with (end_counts H) then_reads (draws (Some r)) (turn_reads turns) n st s) _ (λ r. blocks (Some r) b) (blocks None b) (closes_statement st w.0 s) (closes_block b w.1)
+          closes_then (λ r. statement_in (end_counts H) then_reads (draws (Some r)) (turn_reads turns) n st s) _ (λ r. blocks (Some r) b) (blocks None b) (closes_statement st w.0 s) (closes_block b w.1)
 
       closes_arm : (arms : ArmList) → ArmsAreWeighed arms → (i : ℕ) (s : State) →
-          Closes (λ r. arm_with (end_counts H) then_reads (draws (Some r)) (turn_reads turns) n arms i s) (arm_with (end_counts H) then_reads (draws None) (turn_reads turns) n arms i s)
+          Closes (λ r. arm_in (end_counts H) then_reads (draws (Some r)) (turn_reads turns) n arms i s) (arm_in (end_counts H) then_reads (draws None) (turn_reads turns) n arms i s)
       closes_arm no_arm w i s = closes_end H (on s)
       closes_arm (arm p b arms) w zero s = closes_block b w.0 s
       closes_arm (arm p b arms) w (suc i) s = closes_arm arms w.1 i s

@@ -1,5 +1,5 @@
 -- What a round counts and fails with under limits, as rational numbers: both rise with the limits to what they come to in the limit.
-use Rattle.std.proofs.Common.{◌≡◌, ℕ, suc, ◌+◌, ◌*◌, ◌≤◌, ◌<◌, max, Bool, false, List, Option, Some, None, length, refl, sym, ap, ◌∙◌, subst, arith}
+use Rattle.std.proofs.Common.{◌≡◌, ℕ, suc, ◌+◌, ◌*◌, ◌≤◌, ◌<◌, max, Bool, false, List, Option, Some, None, length, refl, ap, subst, arith}
 use Rattle.std.proofs.Math.Path.{fun_ext}
 use Rattle.gcl_core.specs.declared.answers.Limit.TheVariants.{Turns, Attempts}
 use Rattle.gcl_core.specs.meaning.Bounds.{BlockIsWeighed}
@@ -7,7 +7,7 @@ use Rattle.gcl_core.specs.meaning.Checked.{IsChecked}
 use Rattle.gcl_core.specs.meaning.Outcomes.{zeros}
 use Rattle.gcl_core.specs.meaning.Syntax.{Statements, SourceProgram}
 use Rattle.gcl_core.specs.meaning.Value.{State}
-use Rattle.gcl_core.specs.meaning.Blocks.{End, on, failed, fault, limit, by_class}
+use Rattle.gcl_core.specs.meaning.Blocks.{End, on, failed, fault, limit, by_class, block_in}
 use Rattle.gcl_core.specs.meaning.Draw.{last_end}
 use Rattle.gcl_core.specs.weighing.Mass.{is_failed, failed_mass}
 use Rattle.gcl_core.specs.weighing.WeightedEnds.{sure, weighted_classes, weighted_ends}
@@ -24,8 +24,7 @@ use Rattle.unlimited_law.proofs.Near.{Near, near_same}
 use Rattle.unlimited_law.proofs.Covers.{sign}
 use Rattle.unlimited_law.proofs.SameWeights.{sum_some, sum_is}
 use Rattle.unlimited_law.proofs.BlockLimits.{all_fractions, event_test, settled_some, settled_is, test_near}
-use Rattle.bits_law.specs.RunPrice.{block_with}
-use Rattle.bits_law.proofs.Readers.{Reads, end_counts, then_reads, class_counts, block_counts, turn_reads, turn_rises, block_counts_rise, block_plain}
+use Rattle.bits_law.proofs.Readers.{Reads, end_counts, then_reads, class_counts, block_counts, turn_reads, turn_rises, block_counts_rise}
 use Rattle.bits_law.proofs.Tends.{left_max, right_max, two_halves, then_near}
 use Rattle.bits_law.proofs.LoopTends.{small_part}
 use Rattle.bits_law.proofs.Shares.{share}
@@ -90,9 +89,9 @@ module _ (p : SourceProgram) (ok : IsChecked p) where
       (cost_share : (cs : List ℕ) (some : 0 < last_end cs) (r : ℕ) → cost (Some r) cs ≃ share cs some r ⊗ cost None cs) (turns : Bool) where
     -- what the body counts by at most so many attempts, or by as many as it takes
     abbrev pub counted : Option ℕ → ℕ → Rational
-    counted r n = block_with (end_counts H) then_reads (class_counts (cost r) r) (turn_reads turns) n p.body start after
+    counted r n = block_in (end_counts H) then_reads (class_counts (cost r) r) (turn_reads turns) n p.body start after
 
-    closes : (n : ℕ) → Closes (λ r. block_with (end_counts H) then_reads (class_counts (cost (Some r)) (Some r)) (turn_reads turns) n p.body start) (block_with (end_counts H) then_reads (class_counts (cost None) None) (turn_reads turns) n p.body start)
+    closes : (n : ℕ) → Closes (λ r. block_in (end_counts H) then_reads (class_counts (cost (Some r)) (Some r)) (turn_reads turns) n p.body start) (block_in (end_counts H) then_reads (class_counts (cost None) None) (turn_reads turns) n p.body start)
     closes n = closes_block cost cost_share H turns n p.body weights start
 
     same_after : (s : State) → after s ⊑ after s
@@ -147,7 +146,7 @@ module _ (p : SourceProgram) (ok : IsChecked p) where
   failed_of : (n : ℕ) (r : Option ℕ) → of (failed_mass p n r) ≃ failing r n
   failed_of n r =
       same_trans (sum_is is_failed (weighted_ends n r p.body start) (all_fractions (weighted_ends n r p.body start) (ends_positive n r p.body start weights)))
-      (subst (λ m. integral fails (weighted_ends n r p.body start) ≃ m after) (play_block fails no_cost r n p.body start ∙ sym (block_plain (end_counts fails) then_reads (class_counts (no_cost r) r) n p.body start))
+      (subst (λ m. integral fails (weighted_ends n r p.body start) ≃ m after) (play_block fails no_cost r n p.body start)
       (subst (λ m. integral fails m ≃ play_counts fails no_cost r (play n) after) (weighed_block r n p.body start) (fails_are r (play n))))
 
   pub failed_is : (n r : ℕ) → of (failed_mass p n (Some r)) ≃ fails_at n r

@@ -5,7 +5,7 @@ use Rattle.std.proofs.lemmas.Nat.{pow_pos}
 use Rattle.gcl_core.specs.declared.answers.Fault.TheVariants.{BadBound}
 use Rattle.gcl_core.specs.declared.answers.Limit.TheVariants.{Turns}
 use Rattle.gcl_core.specs.meaning.Arms.{parts_of}
-use Rattle.gcl_core.specs.meaning.Blocks.{End, on, failed, fault, limit, by_truth, by_side, by_class, value_in, loop_in, uniform_in}
+use Rattle.gcl_core.specs.meaning.Blocks.{End, on, failed, fault, limit, by_truth, by_side, by_class, value_in, loop_in, uniform_in, statement_in, arm_in}
 use Rattle.gcl_core.specs.meaning.Draw.{bits_for, last_end, choice_ends, uniform_ends}
 use Rattle.gcl_core.specs.meaning.Parts.{partial_sums}
 use Rattle.gcl_core.specs.meaning.Syntax.{Statement, Skip, Set, If, While, Choice, Choose, Uniform, Observe, Statements, done, ◌▸◌, ArmList, no_arm, arm}
@@ -19,7 +19,7 @@ use Rattle.unlimited_law.proofs.Numbers.{◌≃◌, nought, unit, same_refl, sam
 use Rattle.unlimited_law.proofs.FractionNumbers.{of, of_plus, of_zero, of_pos}
 use Rattle.unlimited_law.proofs.Integrals.{integral_same}
 use Rattle.bits_law.specs.Price.{Price, price_of_draw}
-use Rattle.bits_law.specs.RunPrice.{statement_with, arm_with, turn_price, class_price, block_price}
+use Rattle.bits_law.specs.RunPrice.{turn_price, class_price, block_price}
 use Rattle.bits_law.proofs.Readers.{Reads, AtMostReads, end_reads, then_reads, turn_reads, class_costs, statement_costs, block_costs, arm_costs, turn_rises, statement_rises, block_rises}
 use Rattle.bits_law.proofs.TableReads.{Counted, average_some, average_is}
 
@@ -114,7 +114,7 @@ module _ (price : Price) (r : ℕ) where
     priced = block_price price n r
 
     mutual
-      stands_statement : (st : Statement) (s : State) → Stands (statement_with end_bits then_bits (class_price price r) (turn_price price.turns) n st s) (statement_costs price (Some r) n st s)
+      stands_statement : (st : Statement) (s : State) → Stands (statement_in end_bits then_bits (class_price price r) (turn_price price.turns) n st s) (statement_costs price (Some r) n st s)
       stands_statement Skip s = stands_end (on s)
       stands_statement (Set x e) s = stands_value (value_of e s) _ _ (λ z. stands_end (on (slice_set s x z)))
       stands_statement (Observe e) s = stands_value (value_of e s) _ _ (λ z. stands_truth z _ _ _ _ (stands_end (on s)) (stands_end failed))
@@ -130,10 +130,10 @@ module _ (price : Price) (r : ℕ) where
       pub stands_block : (b : Statements) (s : State) → Stands (priced b s) (block_costs price (Some r) n b s)
       stands_block done s = stands_end (on s)
       stands_block (st ▸ b) s =
-          stands_then (statement_with end_bits then_bits (class_price price r) (turn_price price.turns) n st s) (statement_costs price (Some r) n st s) (priced b) (block_costs price (Some r) n b)
+          stands_then (statement_in end_bits then_bits (class_price price r) (turn_price price.turns) n st s) (statement_costs price (Some r) n st s) (priced b) (block_costs price (Some r) n b)
           (statement_rises price (Some r) n n (omega arith) st s) (stands_statement st s) (stands_block b)
 
-      stands_arm : (arms : ArmList) (i : ℕ) (s : State) → Stands (arm_with end_bits then_bits (class_price price r) (turn_price price.turns) n arms i s) (arm_costs price (Some r) n arms i s)
+      stands_arm : (arms : ArmList) (i : ℕ) (s : State) → Stands (arm_in end_bits then_bits (class_price price r) (turn_price price.turns) n arms i s) (arm_costs price (Some r) n arms i s)
       stands_arm no_arm i s = stands_end (on s)
       stands_arm (arm p b arms) zero s = stands_block b s
       stands_arm (arm p b arms) (suc i) s = stands_arm arms i s

@@ -1,7 +1,6 @@
 -- What a block counts on average in rational numbers: each draw its cost, each end what is given for it, and each state in which it ends
 -- what follows; and what it costs, by the price of draws and turns. It rises with what follows and with the limit of turns.
-use Rattle.std.proofs.Common.{◌≡◌, ℕ, zero, suc, ◌≤◌, ℤ, pos, negsuc, Bool, true, false, cond, List, Ok, Err, Option, Some, None, refl, ap, ◌∙◌, subst, arith}
-use Rattle.std.proofs.Math.Path.{fun_ext}
+use Rattle.std.proofs.Common.{ℕ, zero, suc, ◌≤◌, ℤ, pos, negsuc, Bool, true, false, cond, List, Ok, Err, Option, Some, None, arith}
 use Rattle.std.specs.Prelude.{slice_set}
 use Rattle.gcl_core.specs.declared.answers.Fault.TheVariants.{BadBound}
 use Rattle.gcl_core.specs.declared.answers.Limit.TheVariants.{Turns}
@@ -16,7 +15,6 @@ use Rattle.unlimited_law.proofs.Numbers.{Rational, ◌⊕◌, ◌⊑◌, nought,
 use Rattle.unlimited_law.proofs.FractionNumbers.{of}
 use Rattle.unlimited_law.proofs.Integrals.{integral, integral_below}
 use Rattle.bits_law.specs.Price.{Price, bits_price, price_of_draw}
-use Rattle.bits_law.specs.RunPrice.{statement_with, block_with, arm_with}
 
 abbrev pub Reads : Type 0
 Reads = (State → Rational) → Rational
@@ -32,7 +30,7 @@ abbrev pub class_counts : (List ℕ → Rational) → Option ℕ → List ℕ �
 class_counts cost r cs go more = cost cs ⊕ integral (λ class. by_class class nought (λ i. go i more)) (weighted_classes cs r)
 
 abbrev pub block_counts : (End → Rational) → (List ℕ → Rational) → Option ℕ → ℕ → Statements → State → Reads
-block_counts H cost r n = block_in (end_counts H) then_reads (class_counts cost r) n
+block_counts H cost r n = block_in (end_counts H) then_reads (class_counts cost r) (λ m. m) n
 
 -- ---- what costs something
 abbrev pub quiet : End → Rational
@@ -63,13 +61,13 @@ module _ (price : Price) (r : Option ℕ) where
 
   module _ (n : ℕ) where
     abbrev pub statement_costs : Statement → State → Reads
-    statement_costs = statement_with end_reads then_reads class_costs (turn_reads price.turns) n
+    statement_costs = statement_in end_reads then_reads class_costs (turn_reads price.turns) n
 
     abbrev pub block_costs : Statements → State → Reads
-    block_costs = block_with end_reads then_reads class_costs (turn_reads price.turns) n
+    block_costs = block_in end_reads then_reads class_costs (turn_reads price.turns) n
 
     abbrev pub arm_costs : ArmList → ℕ → State → Reads
-    arm_costs = arm_with end_reads then_reads class_costs (turn_reads price.turns) n
+    arm_costs = arm_in end_reads then_reads class_costs (turn_reads price.turns) n
 
 -- ---- bits
 abbrev pub statement_reads : Option ℕ → ℕ → Statement → State → Reads
@@ -130,11 +128,11 @@ module _ (H : End → Rational) (spared : H (limit Turns) ⊑ nought) where
 
     module _ (turn : Reads → Reads) (turn_rises : (m o : Reads) → AtMostReads m o → AtMostReads (turn m) (turn o)) where
       abbrev blocks : ℕ → Statements → State → Reads
-      blocks n = block_with (end_counts H) then_reads (class_counts cost r) turn n
+      blocks n = block_in (end_counts H) then_reads (class_counts cost r) turn n
 
       module _ (n n' : ℕ) (le : n ≤ n') where
         mutual
-          pub statement_counts_rise : (st : Statement) (s : State) → AtMostReads (statement_with (end_counts H) then_reads (class_counts cost r) turn n st s) (statement_with (end_counts H) then_reads (class_counts cost r) turn n' st s)
+          pub statement_counts_rise : (st : Statement) (s : State) → AtMostReads (statement_in (end_counts H) then_reads (class_counts cost r) turn n st s) (statement_in (end_counts H) then_reads (class_counts cost r) turn n' st s)
           statement_counts_rise Skip s = end_rises (on s)
           statement_counts_rise (Set x e) s = value_rises (value_of e s) _ _ (λ z. end_rises (on (slice_set s x z)))
           statement_counts_rise (Observe e) s = value_rises (value_of e s) _ _ (λ z. truth_rises z _ _ _ _ (end_rises (on s)) (end_rises failed))
@@ -147,46 +145,17 @@ module _ (H : End → Rational) (spared : H (limit Turns) ⊑ nought) where
           pub block_counts_rise : (b : Statements) (s : State) → AtMostReads (blocks n b s) (blocks n' b s)
           block_counts_rise done s = end_rises (on s)
           block_counts_rise (st ▸ b) s =
-              then_rises (statement_with (end_counts H) then_reads (class_counts cost r) turn n st s) (statement_with (end_counts H) then_reads (class_counts cost r) turn n' st s) (blocks n b) (blocks n' b)
+              then_rises (statement_in (end_counts H) then_reads (class_counts cost r) turn n st s) (statement_in (end_counts H) then_reads (class_counts cost r) turn n' st s) (blocks n b) (blocks n' b)
               (statement_counts_rise st s) (block_counts_rise b)
 
-          arm_counts_rise : (arms : ArmList) (i : ℕ) (s : State) → AtMostReads (arm_with (end_counts H) then_reads (class_counts cost r) turn n arms i s) (arm_with (end_counts H) then_reads (class_counts cost r) turn n' arms i s)
+          arm_counts_rise : (arms : ArmList) (i : ℕ) (s : State) → AtMostReads (arm_in (end_counts H) then_reads (class_counts cost r) turn n arms i s) (arm_in (end_counts H) then_reads (class_counts cost r) turn n' arms i s)
           arm_counts_rise no_arm i s = end_rises (on s)
           arm_counts_rise (arm p b arms) zero s = block_counts_rise b s
           arm_counts_rise (arm p b arms) (suc i) s = arm_counts_rise arms i s
 
--- a turn that costs nothing besides is the body
-mutual
-  statement_plain : {M : Type 0} (end : End → M) (go_on : M → (State → M) → M) (draw : List ℕ → (ℕ → M) → M) (n : ℕ) (st : Statement) (s : State) → statement_with end go_on draw (λ m. m) n st s ≡ statement_in end go_on draw n st s
-  statement_plain end go_on draw n Skip s = refl
-  statement_plain end go_on draw n (Set x e) s = refl
-  statement_plain end go_on draw n (Observe e) s = refl
-  statement_plain end go_on draw n (Uniform x e) s = refl
-  statement_plain end go_on draw n (If e a c) s =
-      ap (λ z. value_in end go_on (value_of e s) (λ v. by_truth v z (block_with end go_on draw (λ m. m) n c s))) (block_plain end go_on draw n a s)
-      ∙ ap (λ z. value_in end go_on (value_of e s) (λ v. by_truth v (block_in end go_on draw n a s) z)) (block_plain end go_on draw n c s)
-  statement_plain end go_on draw n (Choice p a c) s =
-      ap (λ z. draw (choice_ends p) (λ i. by_side i z (block_with end go_on draw (λ m. m) n c s))) (block_plain end go_on draw n a s)
-      ∙ ap (λ z. draw (choice_ends p) (λ i. by_side i (block_in end go_on draw n a s) z)) (block_plain end go_on draw n c s)
-  statement_plain end go_on draw n (Choose arms) s = ap (λ k. draw (partial_sums (parts_of arms)) k) (fun_ext (λ i. arm_plain end go_on draw n arms i s))
-  statement_plain end go_on draw n (While e a) s = ap (λ body. loop_in end go_on (value_of e) body n s) (fun_ext (block_plain end go_on draw n a))
-
-  pub block_plain : {M : Type 0} (end : End → M) (go_on : M → (State → M) → M) (draw : List ℕ → (ℕ → M) → M) (n : ℕ) (b : Statements) (s : State) → block_with end go_on draw (λ m. m) n b s ≡ block_in end go_on draw n b s
-  block_plain end go_on draw n done s = refl
-  block_plain end go_on draw n (st ▸ b) s =
-      ap (λ z. go_on z (block_with end go_on draw (λ m. m) n b)) (statement_plain end go_on draw n st s) ∙ ap (λ k. go_on (statement_in end go_on draw n st s) k) (fun_ext (block_plain end go_on draw n b))
-
-  arm_plain : {M : Type 0} (end : End → M) (go_on : M → (State → M) → M) (draw : List ℕ → (ℕ → M) → M) (n : ℕ) (arms : ArmList) (i : ℕ) (s : State) → arm_with end go_on draw (λ m. m) n arms i s ≡ arm_in end go_on draw n arms i s
-  arm_plain end go_on draw n no_arm i s = refl
-  arm_plain end go_on draw n (arm p b arms) zero s = block_plain end go_on draw n b s
-  arm_plain end go_on draw n (arm p b arms) (suc i) s = arm_plain end go_on draw n arms i s
-
 -- what counts ends, where no turn costs anything
 pub counts_rise : (H : End → Rational) → H (limit Turns) ⊑ nought → (cost : List ℕ → Rational) (r : Option ℕ) (n n' : ℕ) → n ≤ n' → (b : Statements) (s : State) → AtMostReads (block_counts H cost r n b s) (block_counts H cost r n' b s)
-counts_rise H spared cost r n n' le b s =
-    subst (λ x. AtMostReads x (block_counts H cost r n' b s)) (block_plain (end_counts H) then_reads (class_counts cost r) n b s)
-    (subst (λ x. AtMostReads (block_with (end_counts H) then_reads (class_counts cost r) (λ m. m) n b s) x) (block_plain (end_counts H) then_reads (class_counts cost r) n' b s)
-    (block_counts_rise H spared cost r (λ m. m) (λ m o h. h) n n' le b s))
+counts_rise H spared cost r n n' le b s = block_counts_rise H spared cost r (λ m. m) (λ m o h. h) n n' le b s
 
 pub loop_rises : (v : State → Value) (a c : State → Reads) → ((s : State) → AtMostReads (a s) (c s)) → (t u : ℕ) → t ≤ u → (s : State) → AtMostReads (loop_reads v a t s) (loop_reads v c u s)
 loop_rises = turns_rise quiet (below_refl nought)

@@ -459,7 +459,7 @@ module _ (n r : ℕ) where
     bits_of_arms b (arm q a arms) s = plus (times (class_weight b (Some r) q) (block_bits n r a s more)) (bits_of_arms b arms s)
 
     abbrev arm_bits : ArmList → ℕ → State → Bits
-    arm_bits = arm_in end_bits then_bits (class_bits r) n
+    arm_bits = arm_in end_bits then_bits (class_bits r) (λ m. m) n
 
     bits_of_arms_pos : (b : ℕ) → 0 < b → (arms : ArmList) (s : State) → 0 < (bits_of_arms b arms s).1
     bits_of_arms_pos b h no_arm s = omega arith
@@ -486,7 +486,7 @@ module _ (n r : ℕ) where
         ∙ ap (plus (times (class_weight b (Some r) q) (block_bits n r a s more))) (rest ∙ arm_by_arm b (d + q) arms s)
 
   abbrev statement_bits : Statement → State → Bits
-  statement_bits = statement_in end_bits then_bits (class_bits r) n
+  statement_bits = statement_in end_bits then_bits (class_bits r) (λ m. m) n
 
   abbrev GoesStatement : Statement → Type 0
   GoesStatement st = (I : Table) → Positive I → (more : State → Fraction) → ((s : State) → 0 < (more s).1) →

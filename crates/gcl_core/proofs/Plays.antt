@@ -32,13 +32,13 @@ abbrev pub loop_play : (State → Value) → (State → Play) → ℕ → State 
 loop_play = loop_in ended with_end
 
 abbrev pub statement_play : ℕ → Statement → State → Play
-statement_play n = statement_in ended with_end drawing n
+statement_play n = statement_in ended with_end drawing (λ m. m) n
 
 abbrev pub block_play : ℕ → Statements → State → Play
-block_play n = block_in ended with_end drawing n
+block_play n = block_in ended with_end drawing (λ m. m) n
 
 abbrev pub arm_play : ℕ → ArmList → ℕ → State → Play
-arm_play n = arm_in ended with_end drawing n
+arm_play n = arm_in ended with_end drawing (λ m. m) n
 
 -- ---- a fold of plays
 module _ {M : Type 0} (end : End → M) (go_on : M → (State → M) → M) (draw : List ℕ → (ℕ → M) → M) (fold : Play → M)
@@ -76,7 +76,7 @@ module _ {M : Type 0} (end : End → M) (go_on : M → (State → M) → M) (dra
 
   module _ (n : ℕ) where
     mutual
-      pub statement_folds : (st : Statement) (s : State) → fold (statement_play n st s) ≡ statement_in end go_on draw n st s
+      pub statement_folds : (st : Statement) (s : State) → fold (statement_play n st s) ≡ statement_in end go_on draw (λ m. m) n st s
       statement_folds Skip s = of_end (on s)
       statement_folds (Set x e) s = value_folds (value_of e s) _ _ (λ z. of_end _)
       statement_folds (Observe e) s = value_folds (value_of e s) _ _ (λ z. truth_folds z _ _ _ _ (of_end (on s)) (of_end failed))
@@ -86,11 +86,11 @@ module _ {M : Type 0} (end : End → M) (go_on : M → (State → M) → M) (dra
       statement_folds (Uniform x e) s = value_folds (value_of e s) _ _ (λ z. uniform_folds x z s)
       statement_folds (While e a) s = loop_folds (value_of e) _ _ (block_folds a) n s
 
-      pub block_folds : (b : Statements) (s : State) → fold (block_play n b s) ≡ block_in end go_on draw n b s
+      pub block_folds : (b : Statements) (s : State) → fold (block_play n b s) ≡ block_in end go_on draw (λ m. m) n b s
       block_folds done s = of_end (on s)
       block_folds (st ▸ b) s = then_folds (statement_play n st s) _ _ _ (statement_folds st s) (block_folds b)
 
-      arm_folds : (arms : ArmList) (i : ℕ) (s : State) → fold (arm_play n arms i s) ≡ arm_in end go_on draw n arms i s
+      arm_folds : (arms : ArmList) (i : ℕ) (s : State) → fold (arm_play n arms i s) ≡ arm_in end go_on draw (λ m. m) n arms i s
       arm_folds no_arm i s = of_end (on s)
       arm_folds (arm p b arms) zero s = block_folds b s
       arm_folds (arm p b arms) (suc i) s = arm_folds arms i s

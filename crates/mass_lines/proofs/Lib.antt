@@ -1,3 +1,2 @@
 pub mod NarrowRows
 mod NarrowLines
-pub mod BitPrice

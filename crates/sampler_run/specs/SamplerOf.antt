@@ -9,8 +9,6 @@ use Rattle.gcl_core.specs.meaning.Runs.{run_on}
 use Rattle.gcl_core.specs.meaning.Syntax.{SourceProgram}
 use Rattle.weighing_law.specs.LimitsCost.{LimitsCost, MayPass}
 use Rattle.weighing_law.specs.Weighing.{WeighsExactly}
-use Rattle.many_runs.specs.Fronts.{FollowsFronts}
-use Rattle.many_runs.specs.RowWeights.{RowsWeighExactly}
 
 pub record IsSamplerOf (p : SourceProgram) (Answers : Limits → List Bool → Answer → Type 0) : Type 0 where
   -- on all bits it answers as the program's run does,
@@ -21,7 +19,3 @@ pub record IsSamplerOf (p : SourceProgram) (Answers : Limits → List Bool → A
   pub weighs : (l : Limits) → WeighsExactly (run_on p l) p l
   -- what the limits of attempts and of rounds cost is no more than they weigh
   pub cost : (l : Limits) → MayPass p l → LimitsCost p l
-  -- the strings on which runs in a row end in some outcomes weigh the product of their masses
-  pub rows : (l : Limits) → RowsWeighExactly p l
-  -- on streams of bits the runs end in an outcome as often as these begin with the strings just read to it
-  pub fronts : (l : Limits) → FollowsFronts (run_on p l) p l

@@ -19,4 +19,4 @@ loop_weighted = loop_in sure end_weighted
 
 -- the arm with a number
 abbrev pub arm_weighted : ℕ → Option ℕ → ArmList → ℕ → State → Weighted End
-arm_weighted n r = arm_in sure end_weighted (draw_weighted r) n
+arm_weighted n r = arm_in sure end_weighted (draw_weighted r) (λ m. m) n

@@ -58,7 +58,8 @@ by_end (limit l) stop go = stop (limit l)
 -- M is what something is done in. In it:
 --   end e        ends at once, by the end e;
 --   go_on m k    does m, and goes on with k s where m ends in a state s; every other end of m is the end of it all;
---   draw cs k    draws a class, where cs are the ends of the classes, and goes on with k i where it is class i.
+--   draw cs k    draws a class, where cs are the ends of the classes, and goes on with k i where it is class i;
+--   turn m       does m as one turn of a loop.
 module _ {M : Type 0} (end : End → M) (go_on : M → (State → M) → M) where
   -- with a value; a fault ends the block
   abbrev pub value_in : Value → (ℤ → M) → M
@@ -75,7 +76,7 @@ module _ {M : Type 0} (end : End → M) (go_on : M → (State → M) → M) wher
     uniform_in x v s = by_bound v (end (fault BadBound)) (λ m. draw (uniform_ends m) (λ i. end (on (slice_set s x (pos i)))))
 
     -- under a limit of n turns for each entry of a loop
-    module _ (n : ℕ) where
+    module _ (turn : M → M) (n : ℕ) where
       abbrev mutual
         pub statement_in : Statement → State → M
         statement_in Skip s = end (on s)
@@ -85,7 +86,7 @@ module _ {M : Type 0} (end : End → M) (go_on : M → (State → M) → M) wher
         statement_in (Choice p a c) s = draw (choice_ends p) (λ i. by_side i (block_in a s) (block_in c s))
         statement_in (Choose arms) s = draw (partial_sums (parts_of arms)) (λ i. arm_in arms i s)
         statement_in (Uniform x e) s = value_in (value_of e s) (λ v. uniform_in x v s)
-        statement_in (While e a) s = loop_in (value_of e) (block_in a) n s
+        statement_in (While e a) s = loop_in (value_of e) (λ s. turn (block_in a s)) n s
 
         pub block_in : Statements → State → M
         block_in done s = end (on s)
@@ -116,7 +117,7 @@ draw_on_bits r cs go w = class_on (draw_on cs r w) go
 
 -- under limits of n turns for each entry of a loop and r attempts for each draw
 abbrev pub statement_on : (n r : ℕ) → Statement → State → List Bool → Reading End
-statement_on n r = statement_in gives go_on_bits (draw_on_bits r) n
+statement_on n r = statement_in gives go_on_bits (draw_on_bits r) (λ m. m) n
 
 abbrev pub block_on : (n r : ℕ) → Statements → State → List Bool → Reading End
-block_on n r = block_in gives go_on_bits (draw_on_bits r) n
+block_on n r = block_in gives go_on_bits (draw_on_bits r) (λ m. m) n

@@ -61,7 +61,7 @@ draw_weighted r cs go = class_weighted (weighted_classes cs r) go
 
 -- under a limit of n turns for each entry of a loop, and of r attempts for each draw or none
 abbrev pub statement_weighted : ℕ → Option ℕ → Statement → State → Weighted End
-statement_weighted n r = statement_in sure end_weighted (draw_weighted r) n
+statement_weighted n r = statement_in sure end_weighted (draw_weighted r) (λ m. m) n
 
 abbrev pub weighted_ends : ℕ → Option ℕ → Statements → State → Weighted End
-weighted_ends n r = block_in sure end_weighted (draw_weighted r) n
+weighted_ends n r = block_in sure end_weighted (draw_weighted r) (λ m. m) n
