@@ -1,7 +1,7 @@
 -- The forgetful program: it does what the program does, and sets each variable to 0 where its value no longer matters, unless it
 -- is 0 there in any case. So states that differ in such variables alone become one. This project's own rule.
 use Rattle.std.specs.Prelude.{ℕ, zero, suc, pos, false, not, ◌&&◌, ◌||◌, ◌==◌, if◌then◌else◌, length}
-use Rattle.gcl_core.specs.meaning.Syntax.{Num, Statement, Skip, Set, If, While, Choice, Choose, Uniform, Observe, Statements, done, ◌▸◌, ArmList, no_arm, arm, SourceProgram}
+use Rattle.gcl_core.specs.meaning.Syntax.{Num, Statement, Set, If, While, Choice, Choose, Uniform, Observe, Statements, done, ◌▸◌, ArmList, no_arm, arm, SourceProgram}
 use Rattle.forgetting.specs.Liveness.{Names, no_names, both, reads, before_statement, before}
 use Rattle.forgetting.specs.Filling.{behind_statement}
 
@@ -13,22 +13,17 @@ forget (suc x) old kept b =
 
 -- the variables that may stop to matter at the end of a statement, if they do not matter after it; a choice forgets in its blocks
 abbrev pub ends_with : Statement → Names → Names
-ends_with Skip after x = false
 ends_with (Set y e) after x = x == y || reads x e
 ends_with (Uniform y e) after x = x == y || reads x e
 ends_with (Observe e) after x = reads x e
-ends_with (If e a c) after x = false
 ends_with (While e a) after x = before_statement (While e a) after x
-ends_with (Choice w a c) after x = false
-ends_with (Choose arms) after x = false
+ends_with _ after x = false
 
 module _ (count : ℕ) where
   abbrev mutual
     -- From the variables that may differ from 0 before it, and those that matter after it. What mattered at a fork and does not
     -- matter to a branch is forgotten where the branch begins.
     pub forgetful_statement : Statement → Names → Names → Statement
-    forgetful_statement Skip filled after = Skip
-    forgetful_statement (Set x e) filled after = Set x e
     forgetful_statement (If e a c) filled after =
         let old = both (before_statement (If e a c) after) filled in
         If e (forget count old (before a after) (forgetful a filled after)) (forget count old (before c after) (forgetful c filled after))
@@ -41,8 +36,7 @@ module _ (count : ℕ) where
         Choice w (forget count old (before a after) (forgetful a filled after)) (forget count old (before c after) (forgetful c filled after))
     forgetful_statement (Choose arms) filled after =
         Choose (forgetful_arms arms (both (before_statement (Choose arms) after) filled) filled after)
-    forgetful_statement (Uniform x e) filled after = Uniform x e
-    forgetful_statement (Observe e) filled after = Observe e
+    forgetful_statement s filled after = s
 
     pub forgetful : Statements → Names → Names → Statements
     forgetful done filled after = done

@@ -1,4 +1,4 @@
--- Texts: their pieces and words, the program that these derive, which programs are accepted, and how they are printed.
+-- Texts: their pieces and words, the program that these derive, and which programs are accepted.
 pub mod Names
 pub mod Numbers
 pub mod Levels
@@ -19,6 +19,4 @@ pub mod Targets
 pub mod ReadingOrder
 pub mod StatementCounts
 pub mod Acceptance
-pub mod Marks
-pub mod Canonical
 pub mod Texts

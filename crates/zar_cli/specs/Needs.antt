@@ -1,7 +1,7 @@
 -- What a command needs: the files that it names, and memory.
-use Rattle.std.specs.Prelude.{Bool, true, false, List, [], ◌∷◌, Some, None}
+use Rattle.std.specs.Prelude.{Bool, true, false, List, [], ◌∷◌, Some}
 use Rattle.zar_cli.specs.declared.command.Command.{Command}
-use Rattle.zar_cli.specs.declared.command.Command.TheVariants.{Checked, Show, Gen, Fast, Roll, Help}
+use Rattle.zar_cli.specs.declared.command.Command.TheVariants.{Checked, Show, Fast, Roll, Help}
 use Rattle.zar_cli.specs.declared.command.Source.{Source}
 use Rattle.zar_cli.specs.declared.command.Source.TheVariants.{File, Stream}
 use Rattle.zar_cli.specs.declared.command.Work.{Work}
@@ -21,12 +21,9 @@ names_in_work _ = []
 abbrev pub names_in : Command → List CallWord
 names_in (Checked program work) = program ∷ names_in_work work
 names_in (Show program) = program ∷ []
-names_in (Gen k) = []
 names_in (Fast labels flips (Some source) d) = names_of_bits source
-names_in (Fast labels flips None d) = []
 names_in (Roll weights flips (Some source) d) = names_of_bits source
-names_in (Roll weights flips None d) = []
-names_in (Help topic) = []
+names_in _ = []
 
 -- whether it takes memory: help takes none, nor does a roll of `fast` on the bits of a stream
 abbrev pub takes_memory : Command → Bool

@@ -100,11 +100,8 @@ abbrev pub is_given : Setting → Options → Bool
 is_given s o = is_some (value_named o s.0)
 
 abbrev pub number_of : Form → CallWord → Option ℕ
-number_of form.Name word = None
 number_of (form.Number least most) word = number_in least most word
-number_of form.Wanted word = None
-number_of form.Weights word = None
-number_of form.Alone word = None
+number_of _ word = None
 
 abbrev pub number_given : Setting → Options → Option ℕ
 number_given s o = option_and_then (number_of s.1) (value_of s.0 o)

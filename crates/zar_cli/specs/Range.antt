@@ -8,11 +8,11 @@ use Rattle.mass_fold.specs.Refused.{IsLimit}
 use Rattle.stream_runs.specs.Ranges.{IsRange, IsWorkers}
 use Rattle.weighted_roll.specs.Weights.{AreWeights}
 use Rattle.zar_cli.specs.declared.command.Command.{Command}
-use Rattle.zar_cli.specs.declared.command.Command.TheVariants.{Checked, Show, Gen, Fast, Roll, Help}
+use Rattle.zar_cli.specs.declared.command.Command.TheVariants.{Checked, Gen, Fast, Roll}
 use Rattle.zar_cli.specs.declared.command.Source.{Source}
 use Rattle.zar_cli.specs.declared.command.Source.TheVariants.{File, Stream}
 use Rattle.zar_cli.specs.declared.command.Work.{Work}
-use Rattle.zar_cli.specs.declared.command.Work.TheVariants.{Sample, Mass, Cost, HowLong, Posterior, Exact, Enclose, Audit, Tally, Runs, Hunt, Check, Code, Forgetful}
+use Rattle.zar_cli.specs.declared.command.Work.TheVariants.{Sample, Mass, Cost, Posterior, Enclose, Audit, Tally, Runs, Hunt}
 use Rattle.zar_io.specs.declared.stream_bits.TheConstants.{MOST_BUDGET}
 use Rattle.audit_walk.specs.declared.auditing.TheConstants.{MOST_DEPTH}
 
@@ -24,24 +24,19 @@ abbrev pub WorkHasRange : Work → Type 0
 WorkHasRange (Sample source limits) = InRange limits × SourceHasRange source
 WorkHasRange (Mass turns attempts rounds d) = (turns ≤ MOST_LIMIT) × IfSome attempts IsLimit × IfSome rounds IsLimit
 WorkHasRange (Cost limits d) = IfSome limits InRange
-WorkHasRange (HowLong d) = Unit {0}
 WorkHasRange (Posterior turns d) = turns ≤ MOST_LIMIT
-WorkHasRange (Exact d) = Unit {0}
 WorkHasRange (Enclose turns attempts rounds all_turns d) =
     (turns ≤ MOST_LIMIT) × IfSome attempts IsLimit × IfSome rounds IsLimit
 WorkHasRange (Audit depth limits d) = (depth ≤ MOST_DEPTH) × InRange limits
 WorkHasRange (Tally range limits named) = InRange limits × IsRange range × IsWorkers range.workers
 WorkHasRange (Runs range limits named) = InRange limits × IsRange range × IsWorkers range.workers
 WorkHasRange (Hunt range limits want named) = InRange limits × IsRange range × IsWorkers range.workers
-WorkHasRange Check = Unit {0}
-WorkHasRange Code = Unit {0}
-WorkHasRange Forgetful = Unit {0}
+WorkHasRange _ = Unit {0}
 
 abbrev pub HasRange : Command → Type 0
 HasRange (Checked program work) = WorkHasRange work
-HasRange (Show program) = Unit {0}
 HasRange (Gen k) = k ≤ GREATEST_NUMBER
 HasRange (Fast labels flips source d) =
     (LEAST_LABELS ≤ labels) × (labels ≤ MOST_LABELS) × (flips ≤ MOST_FLIPS) × IfSome source SourceHasRange
 HasRange (Roll weights flips source d) = AreWeights weights × (flips ≤ MOST_FLIPS) × IfSome source SourceHasRange
-HasRange (Help topic) = Unit {0}
+HasRange _ = Unit {0}

@@ -3,7 +3,7 @@ use Rattle.std.specs.Prelude.{ℕ, ◌/◌, List, [], ◌∷◌, map}
 use Rattle.gcl_core.specs.declared.syntax.Weight.{Weight}
 use Rattle.gcl_core.specs.meaning.Arms.{parts_of}
 use Rattle.gcl_core.specs.meaning.Divisor.{common_divisor}
-use Rattle.gcl_core.specs.meaning.Syntax.{Statement, Skip, Set, If, While, Choice, Choose, Uniform, Observe, Statements, done, ◌▸◌, ArmList, no_arm, arm, SourceProgram}
+use Rattle.gcl_core.specs.meaning.Syntax.{Statement, If, While, Choice, Choose, Statements, done, ◌▸◌, ArmList, no_arm, arm, SourceProgram}
 
 abbrev pub lowest_terms : Weight → Weight
 lowest_terms w =
@@ -28,10 +28,7 @@ abbrev mutual
   statement_in_lowest (While e a) = While e (block_in_lowest a)
   statement_in_lowest (Choice w a c) = Choice (lowest_terms w) (block_in_lowest a) (block_in_lowest c)
   statement_in_lowest (Choose arms) = Choose (lowest_arms (arms_in_lowest arms))
-  statement_in_lowest Skip = Skip
-  statement_in_lowest (Set x e) = Set x e
-  statement_in_lowest (Uniform x e) = Uniform x e
-  statement_in_lowest (Observe e) = Observe e
+  statement_in_lowest s = s
 
   pub block_in_lowest : Statements → Statements
   block_in_lowest done = done

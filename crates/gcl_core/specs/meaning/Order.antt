@@ -26,8 +26,7 @@ kind_number (outcome.Limit Rounds) = 6
 -- the value, and 0 where there is none
 abbrev pub value_in : Outcome → ℤ
 value_in (outcome.Value v) = v
-value_in (outcome.Fault f) = pos 0
-value_in (outcome.Limit l) = pos 0
+value_in _ = pos 0
 
 abbrev pub is_before : Outcome → Outcome → Bool
 is_before x y = nat_lt (kind_number x) (kind_number y) || ((kind_number x == kind_number y) && int_lt (value_in x) (value_in y))

@@ -26,8 +26,7 @@ result_kind _ = Truth
 abbrev pub same_kind : Kind → Kind → Bool
 same_kind Number Number = true
 same_kind Truth Truth = true
-same_kind Number Truth = false
-same_kind Truth Number = false
+same_kind _ _ = false
 
 -- the expression is of this kind, and so are all operands in it of the kinds that they have to be
 abbrev pub has_kind : Kind → Expression → Bool

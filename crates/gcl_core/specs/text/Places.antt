@@ -4,19 +4,16 @@
 use Rattle.std.specs.Prelude.{ℕ, suc, List, [], ◌∷◌, ◌++◌, length}
 use Rattle.gcl_core.specs.declared.words.Word.{Word}
 use Rattle.gcl_core.specs.meaning.Syntax.{Expression, Statement, Statements, ArmList}
-use Rattle.gcl_core.specs.text.Grammar.{ReadsStatement, a_skip, an_assignment, a_uniform, an_observation, an_if, a_while, a_choice, a_choose, ReadsArms, last_arm, one_more_arm, ReadsStatements, no_statement, a_statement, ReadsBlock, in_braces, ReadsElse, no_else, an_else, ReadsProgram}
+use Rattle.gcl_core.specs.text.Grammar.{ReadsStatement, an_if, a_while, a_choice, a_choose, ReadsArms, last_arm, one_more_arm, ReadsStatements, no_statement, a_statement, ReadsBlock, in_braces, ReadsElse, no_else, an_else, ReadsProgram}
 
 abbrev mutual
   -- those of the blocks of a statement
   pub places_inside : {ts rest : List Word} {s : Statement} → ReadsStatement ts s rest → List ℕ
-  places_inside a_skip = []
-  places_inside (an_assignment e) = []
-  places_inside (a_uniform e) = []
-  places_inside (an_observation e) = []
   places_inside (an_if e a c) = places_in_block a ++ places_in_else c
   places_inside (a_while e a) = places_in_block a
   places_inside (a_choice a c) = places_in_block a ++ places_in_block c
   places_inside (a_choose b arms) = places_in_block b ++ places_in_arms arms
+  places_inside _ = []
 
   pub places_in_arms : {k : ℕ} {ts rest : List Word} {arms : ArmList} → ReadsArms k ts arms rest → List ℕ
   places_in_arms (last_arm b) = places_in_block b

@@ -1,7 +1,7 @@
 -- A program's statements in the order in which its text is read. This project's own rule: a statement's number is its place in
 -- this order, from 0, and the result comes after the last of them.
 use Rattle.std.specs.Prelude.{List, [], ◌∷◌, ◌++◌}
-use Rattle.gcl_core.specs.meaning.Syntax.{Statement, Skip, Set, If, While, Choice, Choose, Uniform, Observe, Statements, done, ◌▸◌, ArmList, no_arm, arm}
+use Rattle.gcl_core.specs.meaning.Syntax.{Statement, If, While, Choice, Choose, Statements, done, ◌▸◌, ArmList, no_arm, arm}
 
 -- a statement comes before those of its blocks
 abbrev mutual
@@ -10,10 +10,7 @@ abbrev mutual
   statement_listed (While e a) = While e a ∷ listed a
   statement_listed (Choice w a c) = Choice w a c ∷ listed a ++ listed c
   statement_listed (Choose arms) = Choose arms ∷ arms_listed arms
-  statement_listed Skip = Skip ∷ []
-  statement_listed (Set x e) = Set x e ∷ []
-  statement_listed (Uniform x e) = Uniform x e ∷ []
-  statement_listed (Observe e) = Observe e ∷ []
+  statement_listed s = s ∷ []
 
   pub listed : Statements → List Statement
   listed done = []
