@@ -8,16 +8,17 @@ use Rattle.gcl_core.specs.declared.kinds.Kind.TheVariants.{Number}
 use Rattle.gcl_core.specs.text.Acceptance.{Flaw, zero_denominator, weight_above_one, too_fine, ProgramRefusal, too_many_names, expression_flaw, weight_flaw, parts_flaw, statement_flaw, first_refusal, flaws_of, IsAccepted}
 use Rattle.gcl_core.specs.meaning.Bounds.{BlockBelow, StatementBelow, ArmsBelow, VariablesBelow, BlockFits, StatementFits, ArmsFit, NumbersFit, IsWeight, BlockWeights, StatementWeights, ArmsWeights, BlockIsWeighed, BlockCounted, HaveArmCount, AreParts}
 use Rattle.gcl_core.specs.meaning.Arms.{parts_of}
-use Rattle.std.specs.List.{sum}
+use Rattle.std.specs.List.{sum, list_any}
+use Rattle.std.proofs.lemmas.List.Folds.{list_any-append}
 use Rattle.gcl_core.specs.meaning.Checked.{IsChecked}
 use Rattle.gcl_core.specs.text.ReadingOrder.{statement_listed, listed, arms_listed}
 use Rattle.gcl_core.specs.meaning.Divisor.{common_divisor}
 use Rattle.gcl_core.specs.meaning.Lowest.{lowest_terms, lowest_parts, divided, lowest_arms, statement_in_lowest, block_in_lowest, arms_in_lowest, in_lowest}
 use Rattle.gcl_core.specs.meaning.Syntax.{Statement, Skip, Set, If, While, Choice, Choose, Uniform, Observe, Statements, done, ◌▸◌, ArmList, no_arm, arm, SourceProgram}
-use Rattle.gcl_core.specs.text.Targets.{statement_sets, sets, arms_set}
+use Rattle.gcl_core.specs.text.Targets.{is_set_by, sets}
 use Rattle.gcl_core.proofs.LowestTerms.{lowest_positive, lowest_at_most_one, lowest_again}
 use Rattle.gcl_core.proofs.LowestParts.{from_all, lowest_sum_positive, one_divides_left, divisor_left, parts_again, lowest_count}
-use Rattle.gcl_core.proofs.ArmsInLowest.{parts_divided, parts_same, parts_lowest, divided_by_one, listed_divided, set_divided, lowest_divided, below_divided, fit_divided, weights_divided}
+use Rattle.gcl_core.proofs.ArmsInLowest.{parts_divided, parts_same, parts_lowest, divided_by_one, listed_divided, lowest_divided, below_divided, fit_divided, weights_divided}
 
 -- ---- a weight
 by_three : (a b c : Bool) (x y z : Flaw) → (if a then Some x else if b then Some y else if c then Some z else None) ≡ None → (a ≡ false) × (b ≡ false) × (c ≡ false)
@@ -182,24 +183,35 @@ module _ (known : ℕ → Bool) where
           let both = split_map (statement_flaw known) (listed b) (arms_listed arms) all in (block_weights b n.0 both.0, arms_weights arms n.1 both.1)
 
 -- ---- what lowest terms leave
-mutual
-  statement_sets_same : (s : Statement) (x : ℕ) → statement_sets (statement_in_lowest s) x ≡ statement_sets s x
-  statement_sets_same (If e a c) x = ap (λ t. t || sets (block_in_lowest c) x) (sets_same a x) ∙ ap (λ t. sets a x || t) (sets_same c x)
-  statement_sets_same (While e a) x = sets_same a x
-  statement_sets_same (Choice w a c) x = ap (λ t. t || sets (block_in_lowest c) x) (sets_same a x) ∙ ap (λ t. sets a x || t) (sets_same c x)
-  statement_sets_same (Choose arms) x = set_divided (common_divisor (parts_of (arms_in_lowest arms))) (arms_in_lowest arms) x ∙ arms_set_same arms x
-  statement_sets_same Skip x = refl
-  statement_sets_same (Set y e) x = refl
-  statement_sets_same (Uniform y e) x = refl
-  statement_sets_same (Observe e) x = refl
+module _ (x : ℕ) where
+  abbrev set_in : List Statement → Bool
+  set_in = list_any (is_set_by x)
 
-  sets_same : (b : Statements) (x : ℕ) → sets (block_in_lowest b) x ≡ sets b x
-  sets_same done x = refl
-  sets_same (s ▸ b) x = ap (λ t. t || sets (block_in_lowest b) x) (statement_sets_same s x) ∙ ap (λ t. statement_sets s x || t) (sets_same b x)
+  joined_same : (ss ts us vs : List Statement) → set_in ss ≡ set_in us → set_in ts ≡ set_in vs → set_in (ss ++ ts) ≡ set_in (us ++ vs)
+  joined_same ss ts us vs p q =
+      list_any-append (is_set_by x) ss ts ∙ ap (λ t. t || set_in ts) p ∙ ap (λ t. set_in us || t) q ∙ sym (list_any-append (is_set_by x) us vs)
 
-  arms_set_same : (arms : ArmList) (x : ℕ) → arms_set (arms_in_lowest arms) x ≡ arms_set arms x
-  arms_set_same no_arm x = refl
-  arms_set_same (arm p b arms) x = ap (λ t. t || arms_set (arms_in_lowest arms) x) (sets_same b x) ∙ ap (λ t. sets b x || t) (arms_set_same arms x)
+  mutual
+    one_same : (s : Statement) → set_in (statement_listed (statement_in_lowest s)) ≡ set_in (statement_listed s)
+    one_same (If e a c) = joined_same (listed (block_in_lowest a)) (listed (block_in_lowest c)) (listed a) (listed c) (all_same a) (all_same c)
+    one_same (While e a) = all_same a
+    one_same (Choice w a c) = joined_same (listed (block_in_lowest a)) (listed (block_in_lowest c)) (listed a) (listed c) (all_same a) (all_same c)
+    one_same (Choose arms) = ap set_in (listed_divided (common_divisor (parts_of (arms_in_lowest arms))) (arms_in_lowest arms)) ∙ arms_same arms
+    one_same Skip = refl
+    one_same (Set y e) = refl
+    one_same (Uniform y e) = refl
+    one_same (Observe e) = refl
+
+    all_same : (b : Statements) → set_in (listed (block_in_lowest b)) ≡ set_in (listed b)
+    all_same done = refl
+    all_same (s ▸ b) = joined_same (statement_listed (statement_in_lowest s)) (listed (block_in_lowest b)) (statement_listed s) (listed b) (one_same s) (all_same b)
+
+    arms_same : (arms : ArmList) → set_in (arms_listed (arms_in_lowest arms)) ≡ set_in (arms_listed arms)
+    arms_same no_arm = refl
+    arms_same (arm p b arms) = joined_same (listed (block_in_lowest b)) (arms_listed (arms_in_lowest arms)) (listed b) (arms_listed arms) (all_same b) (arms_same arms)
+
+sets_same : (b : Statements) (x : ℕ) → sets (block_in_lowest b) x ≡ sets b x
+sets_same b x = all_same x b
 
 module _ (count : ℕ) where
   mutual

@@ -1,5 +1,5 @@
 -- The arms of a choice among several with its parts in lowest terms: the parts alone change.
-use Rattle.std.proofs.Common.{◌≡◌, ◌∙◌, ℕ, ◌/◌, ◌||◌, map, refl, ap}
+use Rattle.std.proofs.Common.{◌≡◌, ◌∙◌, ℕ, ◌/◌, map, refl, ap}
 use Rattle.std.proofs.Math.Nat.{div-one}
 use Rattle.std.specs.Prelude.{List, ◌++◌}
 use Rattle.gcl_core.specs.declared.syntax.Weight.{Weight}
@@ -9,7 +9,6 @@ use Rattle.gcl_core.specs.text.ReadingOrder.{listed, arms_listed}
 use Rattle.gcl_core.specs.meaning.Divisor.{common_divisor}
 use Rattle.gcl_core.specs.meaning.Lowest.{lowest_parts, divided, lowest_arms, arms_in_lowest, block_in_lowest}
 use Rattle.gcl_core.specs.meaning.Syntax.{ArmList, no_arm, arm}
-use Rattle.gcl_core.specs.text.Targets.{sets, arms_set}
 
 -- ---- the parts
 pub parts_divided : (g : ℕ) (arms : ArmList) → parts_of (divided g arms) ≡ map (λ p. p / g) (parts_of arms)
@@ -32,10 +31,6 @@ module _ (g : ℕ) where
   pub listed_divided : (arms : ArmList) → arms_listed (divided g arms) ≡ arms_listed arms
   listed_divided no_arm = refl
   listed_divided (arm p b arms) = ap (λ ss. listed b ++ ss) (listed_divided arms)
-
-  pub set_divided : (arms : ArmList) (x : ℕ) → arms_set (divided g arms) x ≡ arms_set arms x
-  set_divided no_arm x = refl
-  set_divided (arm p b arms) x = ap (λ t. sets b x || t) (set_divided arms x)
 
   pub lowest_divided : (arms : ArmList) → arms_in_lowest (divided g arms) ≡ divided g (arms_in_lowest arms)
   lowest_divided no_arm = refl
