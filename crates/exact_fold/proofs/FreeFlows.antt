@@ -1,5 +1,8 @@
 -- In a block without a loop nothing ends but failed or in a fault, so nothing at a limit, where no draw has a limit of attempts.
-use Rattle.std.proofs.Common.{◌≡◌, refl, ℕ, true, false, Bool, cond, None, [], ◌∷◌, ◌++◌}
+use Rattle.std.proofs.Common.{◌≡◌, ◌∙◌, refl, sym, ℕ, true, false, Bool, ◌||◌, cond, None, List, [], ◌∷◌, ◌++◌}
+use Rattle.std.proofs.lemmas.List.Folds.{list_any-append}
+use Rattle.std.specs.List.{list_any}
+use Rattle.gcl_core.specs.text.ReadingOrder.{statement_listed, listed, arms_listed}
 use Rattle.gcl_core.specs.meaning.Syntax.{Statement, Skip, Set, If, While, Choice, Choose, Uniform, Observe, Statements, done, ◌▸◌, ArmList, no_arm, arm}
 use Rattle.gcl_core.specs.meaning.Blocks.{End, on, failed, fault, limit}
 use Rattle.gcl_core.specs.meaning.Value.{State, Value}
@@ -10,32 +13,38 @@ use Rattle.table_flow.proofs.EachMember.{Each, Anything, each_anything}
 use Rattle.table_flow.proofs.KeptEntries.{KeepsEntries, faults_keep, statement_kept, block_kept}
 use Rattle.unlimited_law.specs.Ended.{TurnsSuffice}
 use Rattle.unlimited_law.specs.LoopFree.{StatementFree, BlockFree, ArmsFree}
-use Rattle.exact_fold.specs.Loops.{one_loops, any_loops, arm_loops}
+use Rattle.exact_fold.specs.Loops.{is_loop, any_loops}
 use Rattle.exact_fold.specs.inner.Settled.{AreUnlimited}
 
 -- ---- no loop
-neither : (a b : Bool) → cond a true b ≡ false → (a ≡ false) × (b ≡ false)
+neither : (a b : Bool) → (a || b) ≡ false → (a ≡ false) × (b ≡ false)
 neither true b e = absurd (cc)
 neither false b e = (refl, e)
 
+abbrev has_loop : List Statement → Bool
+has_loop = list_any is_loop
+
+none_in_both : (ss ts : List Statement) → has_loop (ss ++ ts) ≡ false → (has_loop ss ≡ false) × (has_loop ts ≡ false)
+none_in_both ss ts h = neither (has_loop ss) (has_loop ts) (sym (list_any-append is_loop ss ts) ∙ h)
+
 mutual
-  one_free : (s : Statement) → one_loops s ≡ false → StatementFree s
+  one_free : (s : Statement) → has_loop (statement_listed s) ≡ false → StatementFree s
   one_free Skip h = tt
   one_free (Set x e) h = tt
-  one_free (If e a c) h = let n = neither (any_loops a) (any_loops c) h in (no_loop a n.0, no_loop c n.1)
+  one_free (If e a c) h = let n = none_in_both (listed a) (listed c) h in (no_loop a n.0, no_loop c n.1)
   one_free (While e a) h = absurd (cc)
-  one_free (Choice w a c) h = let n = neither (any_loops a) (any_loops c) h in (no_loop a n.0, no_loop c n.1)
+  one_free (Choice w a c) h = let n = none_in_both (listed a) (listed c) h in (no_loop a n.0, no_loop c n.1)
   one_free (Choose arms) h = arms_free arms h
   one_free (Uniform x e) h = tt
   one_free (Observe e) h = tt
 
   pub no_loop : (b : Statements) → any_loops b ≡ false → BlockFree b
   no_loop done h = tt
-  no_loop (s ▸ b) h = let n = neither (one_loops s) (any_loops b) h in (one_free s n.0, no_loop b n.1)
+  no_loop (s ▸ b) h = let n = none_in_both (statement_listed s) (listed b) h in (one_free s n.0, no_loop b n.1)
 
-  arms_free : (arms : ArmList) → arm_loops arms ≡ false → ArmsFree arms
+  arms_free : (arms : ArmList) → has_loop (arms_listed arms) ≡ false → ArmsFree arms
   arms_free no_arm h = tt
-  arms_free (arm p b arms) h = let n = neither (any_loops b) (arm_loops arms) h in (no_loop b n.0, arms_free arms n.1)
+  arms_free (arm p b arms) h = let n = none_in_both (listed b) (arms_listed arms) h in (no_loop b n.0, arms_free arms n.1)
 
 -- ---- what ended has failed or is a fault
 abbrev pub IsStopped : Fraction × End → Type 0

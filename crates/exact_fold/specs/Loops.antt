@@ -1,22 +1,13 @@
 -- Whether a block has a loop.
-use Rattle.std.specs.Prelude.{Bool, true, false, cond}
-use Rattle.gcl_core.specs.meaning.Syntax.{Statement, Skip, Set, If, While, Choice, Choose, Uniform, Observe, Statements, done, ◌▸◌, ArmList, no_arm, arm}
+use Rattle.std.specs.Prelude.{Bool, true, false}
+use Rattle.std.specs.List.{list_any}
+use Rattle.gcl_core.specs.meaning.Syntax.{Statement, While, Statements}
+use Rattle.gcl_core.specs.text.ReadingOrder.{listed}
 
-abbrev mutual
-  pub one_loops : Statement → Bool
-  one_loops Skip = false
-  one_loops (Set x e) = false
-  one_loops (If e a c) = cond (any_loops a) true (any_loops c)
-  one_loops (While e a) = true
-  one_loops (Choice w a c) = cond (any_loops a) true (any_loops c)
-  one_loops (Choose arms) = arm_loops arms
-  one_loops (Uniform x e) = false
-  one_loops (Observe e) = false
+abbrev pub is_loop : Statement → Bool
+is_loop (While e a) = true
+is_loop _ = false
 
-  pub any_loops : Statements → Bool
-  any_loops done = false
-  any_loops (s ▸ b) = cond (one_loops s) true (any_loops b)
-
-  pub arm_loops : ArmList → Bool
-  arm_loops no_arm = false
-  arm_loops (arm p b arms) = cond (any_loops b) true (arm_loops arms)
+-- some statement of the block is one, or of the blocks in it
+abbrev pub any_loops : Statements → Bool
+any_loops b = list_any is_loop (listed b)

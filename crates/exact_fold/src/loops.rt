@@ -2,7 +2,9 @@
 
 ghost use Rattle.std.specs.Prelude.{◌≡◌};
 ghost use Rattle.gcl_core.specs.meaning.Views.{statement_of, statements_of, list_of_arms};
-ghost use Rattle.exact_fold.specs.Loops.{one_loops, any_loops, arm_loops};
+ghost use Rattle.exact_fold.specs.Loops.{is_loop, any_loops};
+ghost use Rattle.gcl_core.specs.text.ReadingOrder.{statement_listed, arms_listed};
+ghost use Rattle.std.specs.List.{list_any};
 
 use gcl_core::{Arms, Block, Stmt};
 
@@ -21,7 +23,7 @@ pub fn block_loops(block: &Block) -> bool
 
 #[cycle(loops)]
 fn arms_loop(arms: &Arms) -> bool
-    ensures { result ≡ arm_loops (list_of_arms arms.now) }
+    ensures { result ≡ list_any is_loop (arms_listed (list_of_arms arms.now)) }
 {
     for (_, block) in &arms.arms {
         if block_loops(block) {
@@ -34,7 +36,7 @@ fn arms_loop(arms: &Arms) -> bool
 #[cycle(loops)]
 #[tactic(auto, using(gcl_core::proofs::ViewLemmas::views))]
 pub fn statement_loops(statement: &Stmt) -> bool
-    ensures { result ≡ one_loops (statement_of statement.now) }
+    ensures { result ≡ list_any is_loop (statement_listed (statement_of statement.now)) }
 {
     match statement {
         Stmt::If(_, first, second) => block_loops(first) || block_loops(second),
