@@ -1,6 +1,7 @@
 pub mod Uniform
 pub mod Steps
 pub mod Sizes
+pub mod TiedCode
 pub mod Readings
 pub mod Runs
 pub mod Costs

@@ -5,7 +5,8 @@ use Rattle.gcl_core.specs.meaning.LimitRange.{InRange}
 use Rattle.bit_tree.specs.Tree.{TiedTree}
 use Rattle.bit_tree.specs.Meaning.{tied_on}
 use Rattle.bit_tree.specs.Sampleable.{TiedIsSampleable}
-use Rattle.sampler_code.specs.Assembled.{Assembled, assembled, IsRunOf, ReachesOne}
+use Rattle.sampler_code.specs.Assembled.{Assembled, IsRunOf, ReachesOne}
+use Rattle.sampler_code.specs.TreeCode.{assembled}
 use Rattle.sampler_code.specs.Fits.{TiedFits}
 
 -- The code does what the tied tree does: under all limits in range the tree's run is the code's, and nothing else is reached.

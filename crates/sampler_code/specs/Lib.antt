@@ -3,6 +3,7 @@ pub mod Depths
 pub mod Targets
 pub mod Views
 pub mod Code
+pub mod TreeCode
 pub mod Machine
 pub mod Running
 pub mod Fits

@@ -9,9 +9,8 @@ ghost use Rattle.bit_tree.specs.TreeRows.{count};
 ghost use Rattle.bit_tree.specs.Views.{bit_tree_of, bit_trees_of, tied_tree_of};
 ghost use Rattle.bit_tree.specs.Sampleable.{LabelsHaveArms, RowHasArms, TiedIsSampleable};
 ghost use Rattle.sampler_code.specs.Instruction.{Instruction};
-ghost use Rattle.sampler_code.specs.Code.{tree_code, row_code, arms_code, arms_size, loops, row_loops};
+ghost use Rattle.sampler_code.specs.TreeCode.{tree_code, row_code, arms_code, arms_size, loops, row_loops, assembled};
 ghost use Rattle.sampler_code.specs.inner.Jumps.{jump_before, starts_of};
-ghost use Rattle.sampler_code.specs.Assembled.{assembled};
 ghost use Rattle.sampler_code.specs.Follows.{Follows};
 ghost use Rattle.sampler_code.specs.Fits.{TreeFits, RowFits};
 

@@ -1,7 +1,6 @@
 // The canonical text, and the listing of the code, of the program of a text.
 
 ghost use Rattle.std.specs.Prelude.{◌≡◌, ℕ, IfOk, IfErr};
-ghost use Rattle.bit_tree.specs.Debiased.{tied_tree};
 ghost use Rattle.gcl_core.specs.meaning.Syntax.{SourceProgram};
 ghost use Rattle.gcl_core.specs.meaning.Views.{source_of};
 ghost use Rattle.gcl_core.specs.text.Canonical.{canonical_text};
@@ -41,7 +40,7 @@ pub(crate) fn shown_of(alloc: Global, text: &[u8]) -> Result<Text, ZarSaid>
 // The listing of the code that samples a program. An error comes only where memory runs out.
 fn listed(alloc: Global, program: &Checked) -> Result<Text, AllocError>
     ensures { IfOk result (λ text.
-        text ≡ listing (source_of program.now).names (code_of (tied_tree (source_of program.now)))) }
+        text ≡ listing (source_of program.now).names (code_of (source_of program.now))) }
 {
     let sampler = compile(alloc, program)?;
     let text = list(alloc, sampler.code(), &program.program().names)?;
@@ -51,7 +50,7 @@ fn listed(alloc: Global, program: &Checked) -> Result<Text, AllocError>
 // The listing of the code that samples the program that a text spells.
 pub(crate) fn listing_of(alloc: Global, text: &[u8]) -> Result<Text, ZarSaid>
     ensures lines { IfOk result (λ lines. (p : SourceProgram) → Spells text.now p →
-        lines ≡ listing p.names (code_of (tied_tree p))) }
+        lines ≡ listing p.names (code_of p)) }
     ensures there { IfOk result (λ _. (p : SourceProgram) × Spells text.now p) }
     ensures refused { IfErr result (IsRefusal (Spells text.now) (SpellsNone text.now) (λ _ _. ⊥)) }
 {

@@ -2,7 +2,6 @@
 // version.
 
 ghost use Rattle.std.specs.Prelude.{◌≡◌, ◌⊎◌};
-ghost use Rattle.bit_tree.specs.Debiased.{tied_tree};
 ghost use Rattle.gcl_core.specs.meaning.Syntax.{SourceProgram};
 ghost use Rattle.gcl_core.specs.text.Canonical.{canonical_text};
 ghost use Rattle.gcl_core.specs.text.Texts.{IsRefusedText, Spells, SpellsNone};
@@ -58,7 +57,7 @@ pub extern "C" fn zar_show(alloc: Global, text: &[u8], lines: &mut [u8]) -> ZarS
 /// The same of the listing of the code that samples the program that a text spells.
 #[unsafe(no_mangle)]
 pub extern "C" fn zar_code(alloc: Global, text: &[u8], lines: &mut [u8]) -> ZarSaid
-    ensures { IsShown (Spells text.now) (SpellsNone text.now) (λ p. listing p.names (code_of (tied_tree p)))
+    ensures { IsShown (Spells text.now) (SpellsNone text.now) (λ p. listing p.names (code_of p))
         lines.old lines.new result }
 {
     match listing_of(alloc, text) {

@@ -3,7 +3,7 @@ use Rattle.std.specs.Prelude.{ℕ, zero, suc, ◌+◌, List, [], ◌∷◌, ◌+
 use Rattle.draw_tree.specs.Flips.{Flips, leaf, flip}
 use Rattle.bit_tree.specs.Tree.{BitTrees, done, ◌▸◌}
 use Rattle.sampler_code.specs.Instruction.{Instruction, Goto, Fail}
-use Rattle.sampler_code.specs.Code.{size, loops, gap, tree_code, arms_code}
+use Rattle.sampler_code.specs.TreeCode.{size, loops, gap, tree_code, arms_code}
 
 -- as many instructions as a draw has
 abbrev pub filler : Flips → List Instruction
