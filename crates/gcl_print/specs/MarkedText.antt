@@ -1,6 +1,5 @@
--- The canonical text of a program: each statement on lines of its own, indented by two spaces for each block around it, and
--- brackets only where the levels of operators ask for them. This project's own rule.
-use Rattle.std.specs.Prelude.{ℕ, zero, suc, ℤ, pos, negsuc, Bool, true, false, nat_le, List, [], ◌∷◌, ◌++◌}
+-- The marks of which a canonical text consists. Proofs that it is read back need them, for its words. This project's own rule.
+use Rattle.std.specs.Prelude.{ℕ, zero, suc, ℤ, pos, negsuc, Bool, true, false, List, [], ◌∷◌, ◌++◌}
 use Rattle.gcl_core.specs.declared.tokens.Key.{Key}
 use Rattle.gcl_core.specs.declared.tokens.Key.TheVariants as key
 use Rattle.gcl_core.specs.declared.tokens.Sym.{Sym}
@@ -10,12 +9,11 @@ use Rattle.gcl_core.specs.declared.words.Word.TheVariants as word
 use Rattle.gcl_core.specs.declared.syntax.BinOp.{BinOp}
 use Rattle.gcl_core.specs.declared.syntax.BinOp.TheVariants as op
 use Rattle.gcl_core.specs.declared.syntax.Weight.{Weight}
-use Rattle.gcl_core.specs.declared.levels.Level.{Level}
 use Rattle.gcl_core.specs.declared.levels.Level.TheVariants as level
 use Rattle.gcl_core.specs.text.Names.{Name}
-use Rattle.gcl_core.specs.text.Levels.{level_of, rank, above}
-use Rattle.gcl_core.specs.text.Marks.{Mark, a_word, a_space, a_line_feed, marks_text}
+use Rattle.gcl_core.specs.text.Levels.{left_level, is_within, level_of, above}
 use Rattle.gcl_core.specs.meaning.Syntax.{Expression, Num, Truth, Var, Neg, Not, Bin, Statement, Skip, Set, If, While, Choice, Choose, Uniform, Observe, Statements, done, ◌▸◌, ArmList, no_arm, arm, SourceProgram}
+use Rattle.gcl_print.specs.Marks.{Mark, a_word, a_space, a_line_feed, marks_text}
 
 -- ---- marks of one word
 
@@ -56,25 +54,6 @@ truth_key false = key.False
 abbrev pub number_marks : ℤ → List Mark
 number_marks (pos n) = digits_mark n ∷ []
 number_marks (negsuc n) = symbol_mark sym.Minus ∷ digits_mark (suc n) ∷ []
-
--- the level of an expression is that of its outermost operator
-abbrev pub level_of_expression : Expression → Level
-level_of_expression (Num z) = level.Atom
-level_of_expression (Truth b) = level.Atom
-level_of_expression (Var x) = level.Atom
-level_of_expression (Neg a) = level.Sign
-level_of_expression (Not a) = level.Not
-level_of_expression (Bin o a b) = level_of o
-
--- The loosest level that stands bare to the left of an operator of this level: its own, since operators of one level group to
--- the left, but above a comparison's. To the right it is the level above.
-abbrev pub left_level : Level → Level
-left_level level.Compare = level.Sum
-left_level l = l
-
--- the expression binds at least as tightly as this level
-abbrev pub is_within : Level → Expression → Bool
-is_within l e = nat_le (rank l) (rank (level_of_expression e))
 
 abbrev pub bracketed_unless : Bool → List Mark → List Mark
 bracketed_unless true ms = ms
@@ -177,9 +156,9 @@ abbrev pub canonical_marks : SourceProgram → List Mark
 canonical_marks p =
     block_lines 0 p.body ++ line 0 (around (key_mark key.Return ∷ a_space ∷ []) p.result (symbol_mark sym.Semicolon ∷ []))
 
-abbrev pub canonical_text : SourceProgram → List ℕ
-canonical_text p = marks_text p.names (canonical_marks p)
+abbrev pub marked_text : SourceProgram → List ℕ
+marked_text p = marks_text p.names (canonical_marks p)
 
--- the canonical text of an expression, with variables of these names
-abbrev pub expression_text : List Name → Expression → List ℕ
-expression_text names e = marks_text names (expression_marks e)
+-- an expression, with variables of these names
+abbrev pub marked_expression : List Name → Expression → List ℕ
+marked_expression names e = marks_text names (expression_marks e)

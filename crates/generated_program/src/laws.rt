@@ -1,11 +1,11 @@
 //! What holds of all generated programs.
 ghost use Rattle.std.specs.Prelude.{◌≡◌, ◌≤◌, ℕ, List, length};
-ghost use Rattle.gcl_core.specs.text.Canonical.{canonical_text};
 ghost use Rattle.gcl_core.specs.meaning.Checked.{IsChecked};
 ghost use Rattle.gcl_core.specs.text.StatementCounts.{count_all};
 ghost use Rattle.gcl_core.specs.meaning.Syntax.{SourceProgram};
 ghost use Rattle.gcl_core.specs.text.Texts.{IsWrittenIn, Spells};
 ghost use Rattle.gcl_core.specs.declared.rules.TheConstants.{LONGEST_TEXT};
+ghost use Rattle.gcl_print.specs.Canonical.{canonical_text};
 ghost use Rattle.gcl_print.specs.ReadBack.{HasProgram};
 ghost use Rattle.generated_program.specs.Generated.{generated, generated_body};
 ghost use Rattle.generated_program.specs.declared.generating.TheConstants.{GREATEST_NUMBER};

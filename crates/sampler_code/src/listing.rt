@@ -1,9 +1,9 @@
 // The listing of code.
 
 ghost use Rattle.std.specs.Prelude.{◌≡◌, ℕ, ◌<◌, ◌≤◌, ◌++◌, [], length, codes, decimal, slice_index_or, OnOk, IfOk};
-ghost use Rattle.gcl_core.specs.text.Canonical.{expression_text};
 ghost use Rattle.gcl_core.specs.meaning.Bounds.{ExpressionBelow};
 ghost use Rattle.gcl_core.specs.meaning.Views.{expression_of};
+ghost use Rattle.gcl_print.specs.Canonical.{expression_text};
 ghost use Rattle.sampler_code.specs.Listing.{instruction_text, line_of, listing};
 ghost use Rattle.sampler_code.specs.Sound.{Knows};
 ghost use Rattle.sampler_code.specs.Views.{instruction_of};

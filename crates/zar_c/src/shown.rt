@@ -3,8 +3,8 @@
 ghost use Rattle.std.specs.Prelude.{◌≡◌, ℕ, IfOk, IfErr};
 ghost use Rattle.gcl_core.specs.meaning.Syntax.{SourceProgram};
 ghost use Rattle.gcl_core.specs.meaning.Views.{source_of};
-ghost use Rattle.gcl_core.specs.text.Canonical.{canonical_text};
 ghost use Rattle.gcl_core.specs.text.Texts.{IsRefusedText, Spells, SpellsNone};
+ghost use Rattle.gcl_print.specs.Canonical.{canonical_text};
 ghost use Rattle.sampler_code.specs.Code.{code_of};
 ghost use Rattle.sampler_code.specs.Listing.{listing};
 ghost use Rattle.zar_c.specs.Answered.{IsWrittenAs};

@@ -3,9 +3,9 @@ use Rattle.std.proofs.Common.{◌≡◌, ℕ, zero, suc, ◌+◌, ◌<◌, Bool,
 use Rattle.std.specs.List.{slice_index_or}
 use Rattle.std.specs.Prelude.{Contains}
 use Rattle.gcl_core.specs.meaning.Syntax.{SourceProgram}
-use Rattle.gcl_core.specs.text.Canonical.{canonical_text}
 use Rattle.gcl_core.specs.text.Texts.{IsWrittenIn, IsRefusedText, Spells, SpellsNone}
 use Rattle.gcl_parse.specs.OneReading.{HasOneReadingAsWritten, HasOneReading}
+use Rattle.gcl_print.specs.Canonical.{canonical_text}
 use Rattle.report_text.specs.declared.refusals.Refusal.{Refusal}
 use Rattle.report_text.specs.declared.refusals.Refusal.TheVariants.{Coded, Read, Write, Memory, NoFile}
 use Rattle.zar_io.specs.FileBits.{file_bits}

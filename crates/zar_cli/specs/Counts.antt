@@ -1,9 +1,9 @@
 -- How lines are shown, and what is said of a generated program: how large it is, and how its runs end on the first streams of a seed.
 use Rattle.std.specs.Prelude.{◌≡◌, ℕ, ◌++◌, List, length, Result, Ok}
 use Rattle.count_lines.specs.TallyLines.{AreTallyLines}
-use Rattle.gcl_core.specs.text.Canonical.{canonical_text}
 use Rattle.gcl_core.specs.text.ReadingOrder.{listed}
 use Rattle.gcl_core.specs.meaning.Syntax.{SourceProgram}
+use Rattle.gcl_print.specs.Canonical.{canonical_text}
 use Rattle.generated_program.specs.Generated.{generated}
 use Rattle.report_text.specs.Lines.{number_text}
 use Rattle.report_text.specs.declared.counts.Count.TheVariants.{Statements, Bytes, Streams}

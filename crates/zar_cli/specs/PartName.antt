@@ -5,7 +5,7 @@ use Rattle.std.specs.Prelude.{ℕ, Bool, true, false, List, [], ◌++◌, codes,
 use Rattle.gcl_core.specs.declared.answers.Limits.{Limits}
 use Rattle.gcl_core.specs.declared.answers.TallyKey.{TallyKey}
 use Rattle.gcl_core.specs.meaning.Syntax.{SourceProgram}
-use Rattle.gcl_core.specs.text.Canonical.{canonical_text}
+use Rattle.gcl_print.specs.Canonical.{canonical_text}
 use Rattle.hex.specs.Hex.{encode_lower}
 use Rattle.report_text.specs.Lines.{key_text}
 use Rattle.sha2.specs.Sha256.{sha256}

@@ -1,6 +1,6 @@
 use Rattle.std.proofs.Common.{◌∙◌, ap}
 use Rattle.gcl_core.specs.meaning.Views.{source_of}
-use Rattle.gcl_core.specs.text.Canonical.{canonical_text}
+use Rattle.gcl_print.specs.Canonical.{canonical_text}
 use Rattle.zar_c.proofs.shown.shown_of.Goals as goal
 
 -- the text has one program as it is written

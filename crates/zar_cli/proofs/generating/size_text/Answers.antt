@@ -1,9 +1,9 @@
 use Rattle.std.proofs.Common.{◌≡◌, ℕ, List, [], ◌++◌, length, ◌∙◌, sym, ap, arith}
 use Rattle.gcl_core.proofs.Listed.{listed_all}
-use Rattle.gcl_core.specs.text.Canonical.{canonical_text}
 use Rattle.gcl_core.specs.text.ReadingOrder.{listed}
 use Rattle.gcl_core.specs.text.StatementCounts.{count_all}
 use Rattle.gcl_core.specs.meaning.Views.{source_of, statements_of}
+use Rattle.gcl_print.specs.Canonical.{canonical_text}
 use Rattle.report_text.specs.Lines.{number_text}
 use Rattle.report_text.specs.declared.counts.Count.TheVariants.{Statements, Bytes}
 use Rattle.zar_cli.proofs.generating.size_text.Goals as goal

@@ -1,7 +1,7 @@
 use Rattle.std.proofs.Common.{◌∙◌, Ok, ap}
 use Rattle.gcl_core.specs.declared.syntax.Program.{Program}
 use Rattle.gcl_core.specs.meaning.Views.{source_of}
-use Rattle.gcl_core.specs.text.Canonical.{canonical_text}
+use Rattle.gcl_print.specs.Canonical.{canonical_text}
 use Rattle.zar_cli.specs.declared.said.Said.TheVariants.{Shown}
 use Rattle.zar_cli.proofs.working.forgetful_text_of.Goals as goal
 
