@@ -13,7 +13,7 @@ use Rattle.gcl_core.specs.text.Levels.{left_level, is_within, level_of, above}
 use Rattle.gcl_core.specs.meaning.Syntax.{Expression, Num, Truth, Var, Neg, Not, Bin, Statement, Skip, Set, If, While, Choice, Choose, Uniform, Observe, Statements, done, ◌▸◌, ArmList, no_arm, arm, SourceProgram}
 use Rattle.gcl_print.specs.Canonical.{operator_text, indent, line, else_line, in_brackets_unless, name_text, expression_text, statement_lines, block_lines, arm_lines, canonical_text}
 use Rattle.gcl_print.specs.Marks.{Mark, a_word, a_space, a_line_feed, word_text, mark_text, marks_text}
-use Rattle.gcl_print.specs.MarkedText.{name_mark, key_mark, symbol_mark, operator_word, bracketed_unless, expression_marks, around, opening, choice_opening, choose_opening, arm_opening, behind_arm, between, closing, else_lines, canonical_marks, marked_text, marked_expression}
+use Rattle.gcl_print.specs.MarkedText.{name_mark, key_mark, symbol_mark, operator_word, bracketed_unless, expression_marks, around, opening, choice_opening, choose_opening, arm_opening, behind_arm, between, closing, else_lines, marked_text, marked_expression}
 use Rattle.gcl_print.specs.MarkedText as marked
 
 operator_marked : (names : List Name) (o : BinOp) → word_text names (operator_word o) ≡ operator_text o
