@@ -9,7 +9,7 @@ use Rattle.gcl_core.specs.declared.syntax.Weight.{Weight}
 use Rattle.gcl_core.specs.text.Kinds.{has_kind}
 use Rattle.gcl_core.specs.text.Acceptance.{Flaw, kind_mismatch, unknown_name, ProgramRefusal, too_many_names, reads_known, expression_flaw, statement_flaw, parts_flaw, first_refusal, flaws_of, IsAccepted}
 use Rattle.gcl_core.specs.text.ReadingOrder.{statement_listed, listed, arms_listed}
-use Rattle.gcl_core.specs.text.Targets.{statement_sets, sets, arms_set}
+use Rattle.gcl_core.specs.text.Targets.{is_set_by, sets}
 use Rattle.gcl_core.specs.meaning.Arms.{parts_of}
 use Rattle.gcl_core.specs.meaning.Bounds.{HaveArmCount, StatementBelow, BlockBelow, ArmsBelow, StatementFits, BlockFits, ArmsFit, StatementWeights, BlockWeights, ArmsWeights}
 use Rattle.gcl_core.specs.meaning.Checked.{IsChecked}
@@ -269,37 +269,50 @@ either : (a b c d : Bool) → (a ≡ true → c ≡ true) → (b ≡ true → d 
 either true b c d f g e = left_true c d (f refl)
 either false b c d f g e = right_true c d (g e)
 
+module _ (x : ℕ) where
+  abbrev set_in : List Statement → Bool
+  set_in = list_any (is_set_by x)
+
+  either_in : (ss ts us vs : List Statement) → (set_in ss ≡ true → set_in us ≡ true) → (set_in ts ≡ true → set_in vs ≡ true) → set_in (ss ++ ts) ≡ true → set_in (us ++ vs) ≡ true
+  either_in ss ts us vs f g h =
+      list_any-append (is_set_by x) us vs ∙ either (set_in ss) (set_in ts) (set_in us) (set_in vs) f g (sym (list_any-append (is_set_by x) ss ts) ∙ h)
+
 module _ (x count : ℕ) where
+  -- a branch that begins by forgetting
+  abbrev branch : (old F L : Names) → Statements → Statements
+  branch old F L b = forget count old (before b L) (forgetful count b F L)
+
+  branches_stay : (old F L : Names) (a c : Statements) → (sets a x ≡ true → sets (forgetful count a F L) x ≡ true) → (sets c x ≡ true → sets (forgetful count c F L) x ≡ true) →
+      set_in x (listed a ++ listed c) ≡ true → set_in x (listed (branch old F L a) ++ listed (branch old F L c)) ≡ true
+  branches_stay old F L a c f g =
+      either_in x (listed a) (listed c) (listed (branch old F L a)) (listed (branch old F L c))
+      (λ k. set_forget x count old (before a L) (forgetful count a F L) (f k)) (λ k. set_forget x count old (before c L) (forgetful count c F L) (g k))
+
   mutual
-    statement_stays : (s : Statement) (F L : Names) → statement_sets s x ≡ true → statement_sets (forgetful_statement count s F L) x ≡ true
+    statement_stays : (s : Statement) (F L : Names) → set_in x (statement_listed s) ≡ true → set_in x (statement_listed (forgetful_statement count s F L)) ≡ true
     statement_stays Skip F L h = h
     statement_stays (Set y e) F L h = h
     statement_stays (Uniform y e) F L h = h
     statement_stays (Observe e) F L h = h
-    statement_stays (If e a c) F L h =
-        let M = before_statement (If e a c) L in
-        either (sets a x) (sets c x) (sets (forget count (both M F) (before a L) (forgetful count a F L)) x) (sets (forget count (both M F) (before c L) (forgetful count c F L)) x)
-        (λ k. set_forget x count (both M F) (before a L) (forgetful count a F L) (block_stays a F L k)) (λ k. set_forget x count (both M F) (before c L) (forgetful count c F L) (block_stays c F L k)) h
+    statement_stays (If e a c) F L h = branches_stay (both (before_statement (If e a c) L) F) F L a c (block_stays a F L) (block_stays c F L) h
     statement_stays (While e a) F L h =
         let M = before_statement (While e a) L in
         set_forget x count (both M (behind_statement (While e a) F)) (before a M) (forgetful count a (behind_statement (While e a) F) M) (block_stays a (behind_statement (While e a) F) M h)
-    statement_stays (Choice w a c) F L h =
-        let M = before_statement (Choice w a c) L in
-        either (sets a x) (sets c x) (sets (forget count (both M F) (before a L) (forgetful count a F L)) x) (sets (forget count (both M F) (before c L) (forgetful count c F L)) x)
-        (λ k. set_forget x count (both M F) (before a L) (forgetful count a F L) (block_stays a F L k)) (λ k. set_forget x count (both M F) (before c L) (forgetful count c F L) (block_stays c F L k)) h
+    statement_stays (Choice w a c) F L h = branches_stay (both (before_statement (Choice w a c) L) F) F L a c (block_stays a F L) (block_stays c F L) h
     statement_stays (Choose arms) F L h = arms_stay arms (both (before_statement (Choose arms) L) F) F L h
 
     block_stays : (b : Statements) (F L : Names) → sets b x ≡ true → sets (forgetful count b F L) x ≡ true
     block_stays done F L h = h
     block_stays (s ▸ b) F L h =
         let K = before b L in
-        either (statement_sets s x) (sets b x) (statement_sets (forgetful_statement count s F K) x) (sets (forget count (both (ends_with s K) (behind_statement s F)) K (forgetful count b (behind_statement s F) L)) x)
-        (statement_stays s F K) (λ k. set_forget x count (both (ends_with s K) (behind_statement s F)) K (forgetful count b (behind_statement s F) L) (block_stays b (behind_statement s F) L k)) h
+        let G = behind_statement s F in
+        either_in x (statement_listed s) (listed b) (statement_listed (forgetful_statement count s F K)) (listed (forget count (both (ends_with s K) G) K (forgetful count b G L)))
+        (statement_stays s F K) (λ k. set_forget x count (both (ends_with s K) G) K (forgetful count b G L) (block_stays b G L k)) h
 
-    arms_stay : (arms : ArmList) (old F L : Names) → arms_set arms x ≡ true → arms_set (forgetful_arms count arms old F L) x ≡ true
+    arms_stay : (arms : ArmList) (old F L : Names) → set_in x (arms_listed arms) ≡ true → set_in x (arms_listed (forgetful_arms count arms old F L)) ≡ true
     arms_stay no_arm old F L h = h
     arms_stay (arm p b arms) old F L h =
-        either (sets b x) (arms_set arms x) (sets (forget count old (before b L) (forgetful count b F L)) x) (arms_set (forgetful_arms count arms old F L) x)
+        either_in x (listed b) (arms_listed arms) (listed (branch old F L b)) (arms_listed (forgetful_arms count arms old F L))
         (λ k. set_forget x count old (before b L) (forgetful count b F L) (block_stays b F L k)) (arms_stay arms old F L) h
 
 -- ---- no flaw
