@@ -1,3 +1,5 @@
 mod Digits
 mod Division
 mod Ends
+pub mod Forms
+pub mod Newton
