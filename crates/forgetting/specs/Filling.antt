@@ -3,7 +3,7 @@
 -- equations: at a loop one look at the body is enough, as there.
 use Rattle.std.specs.Prelude.{ℕ, pos, Bool, false, not, ◌&&◌, ◌||◌, ◌==◌, if◌then◌else◌}
 use Rattle.std.specs.Ordering.{int_eq}
-use Rattle.gcl_core.specs.meaning.Syntax.{Expression, Num, Statement, Set, If, While, Choice, Choose, Uniform, Statements, done, ◌▸◌, ArmList, no_arm, arm}
+use Rattle.gcl_core.specs.meaning.Syntax.{Expression, Num, Statement, Skip, Set, If, While, Choice, Choose, Uniform, Observe, Statements, done, ◌▸◌, ArmList, no_arm, arm}
 use Rattle.forgetting.specs.Liveness.{Names}
 
 -- whether an expression is the number 0 as it is written
@@ -15,13 +15,14 @@ module _ (x : ℕ) where
   -- Whether it may differ after, where before it may or may not: after a choice among several, whether it may after an arm.
   abbrev mutual
     pub filled_by_statement : Statement → Bool → Bool
+    filled_by_statement Skip filled = filled
     filled_by_statement (Set y e) filled = if is_nought e then not (x == y) && filled else x == y || filled
     filled_by_statement (If e a c) filled = filled_by a filled || filled_by c filled
     filled_by_statement (While e a) filled = filled || filled_by a false
     filled_by_statement (Choice w a c) filled = filled_by a filled || filled_by c filled
     filled_by_statement (Choose arms) filled = filled_by_arms arms filled
     filled_by_statement (Uniform y e) filled = x == y || filled
-    filled_by_statement _ filled = filled
+    filled_by_statement (Observe e) filled = filled
 
     pub filled_by : Statements → Bool → Bool
     filled_by done filled = filled
