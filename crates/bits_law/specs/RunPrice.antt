@@ -2,7 +2,7 @@
 -- of a loop may cost something besides what its body costs. This project's own rule.
 use Rattle.std.specs.Prelude.{ℕ, Bool, true, false, List, length, Some}
 use Rattle.gcl_core.specs.declared.answers.Limits.{Limits}
-use Rattle.gcl_core.specs.meaning.Blocks.{on, by_class}
+use Rattle.gcl_core.specs.meaning.Blocks.{by_class, block_in}
 use Rattle.gcl_core.specs.meaning.Outcomes.{zeros}
 use Rattle.gcl_core.specs.meaning.Syntax.{Statements, SourceProgram}
 use Rattle.gcl_core.specs.meaning.Value.{State}
