@@ -3,3 +3,4 @@ mod Division
 mod Ends
 pub mod Forms
 pub mod Newton
+pub mod Places

@@ -1,3 +1,4 @@
 pub mod Number
-pub mod Forms
 pub mod Found
+pub mod Forms
+pub mod Places
