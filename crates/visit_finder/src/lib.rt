@@ -2,9 +2,10 @@
 //! again by Euclid's algorithm.
 //!
 //! Nothing is promised of what is found, and numbers wrap on the way: whoever asks for visits checks them by one turn of the loop. No
-//! clause says that there is an answer either. Proved are two parts of the way. Sums, differences and products of forms at one modulus, and
-//! the forms of numbers, are what they say, whether the modulus is a prime or not (`Prime`). And the fraction that Euclid's algorithm finds
-//! by a remainder is the only one of two numbers of 128 bits, and where it finds none there is none (`Wide::quotient_of`).
+//! clause says that there is an answer either. Proved are two parts of the way. The residues of numbers at five moduli, and of their sums,
+//! differences and products, are what they say, whether a modulus is a prime or not, and one at which an inverse is none is lost (`Prime`,
+//! `Moduli`). And the fraction that Euclid's algorithm finds by a remainder is the only one of two numbers of 128 bits, and where it finds none
+//! there is none (`Wide::quotient_of`).
 #![tactic(auto)]
 
 mod error;
