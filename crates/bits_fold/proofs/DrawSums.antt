@@ -8,7 +8,6 @@ use Rattle.gcl_core.specs.meaning.Value.{State, Value}
 use Rattle.gcl_core.specs.weighing.Fractions.{Fraction, plus, times}
 use Rattle.gcl_core.proofs.Classes.{bits_enough}
 use Rattle.gcl_core.proofs.EqualClasses.{last_of_equal}
-use Rattle.table_flow.specs.Reached.{drawn_each, drawn_bound}
 use Rattle.mass_fold.specs.inner.Amounts.{Entries}
 use Rattle.unlimited_law.specs.Settling.{total}
 use Rattle.unlimited_law.proofs.Numbers.{Rational, ◌⊕◌, ◌⊗◌, ◌≃◌, same_refl, same_sym, same_trans, add_same, add_assoc, add_nought, nought_add, times_same, times_turned, times_unit}
@@ -24,6 +23,7 @@ use Rattle.bits_fold.specs.Counted.{price_of}
 use Rattle.bits_fold.specs.declared.counted.Counted.{Counted}
 use Rattle.bits_fold.specs.inner.Reading.{price_of_bound, WeighsTo, DrawsCost}
 use Rattle.bits_fold.proofs.Sums.{sum_is, product_is}
+use Rattle.table_flow.proofs.FlowWords.{drawn_each, drawn_bound}
 
 -- ---- sums over entries
 pub record SoFar (F : State → Rational) (all rest : Entries) (sum : Fraction) : Type 0 where

@@ -20,10 +20,10 @@ use Rattle.gcl_core.specs.weighing.Mass.{sum_of, is_failed, round_mass, mass_of,
 use Rattle.gcl_core.specs.weighing.WeightedEnds.{Weighted, sure}
 use Rattle.gcl_core.proofs.Accepted.{checked_weights}
 use Rattle.cost_law.specs.ExpectedBits.{attempt_bits}
-use Rattle.table_flow.specs.Reached.{draws_of}
 use Rattle.table_flow.specs.Scale.{whole, Whole, AllWhole, Wholes, WholeAtWidth, amount}
 use Rattle.table_flow.specs.Tables.{Table, Flow, tables_of, peak_of, ReachedDraws}
 use Rattle.table_flow.specs.Width.{round_width, common_denominator}
+use Rattle.table_flow.proofs.FlowWords.{draws_of}
 use Rattle.table_flow.proofs.AtWidth.{at_width}
 use Rattle.table_flow.proofs.Denominators.{AllPositive, common_positive, wholes_at}
 use Rattle.table_flow.proofs.Linear.{sum_amount}

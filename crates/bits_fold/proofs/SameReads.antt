@@ -14,7 +14,7 @@ use Rattle.gcl_core.specs.weighing.Fractions.{Fraction, zero_share, plus}
 use Rattle.gcl_core.specs.weighing.WeightedEnds.{class_weight, statement_weighted}
 use Rattle.gcl_core.proofs.PartialSums.{last_is}
 use Rattle.table_flow.specs.Tables.{Table, holds, fails, statement_flow}
-use Rattle.table_flow.specs.Reached.{drawn_each, drawn_bound}
+use Rattle.table_flow.proofs.FlowWords.{drawn_each, drawn_bound}
 use Rattle.table_flow.proofs.Positive.{p_one}
 use Rattle.table_flow.proofs.EqualFractions.{equal_plus}
 use Rattle.weighing_law.proofs.Shares.{product_pos}

@@ -16,8 +16,8 @@ use Rattle.gcl_core.specs.meaning.Views.{list_of}
 use Rattle.gcl_core.specs.meaning.Value.{value_of}
 use Rattle.gcl_core.specs.weighing.Fractions.{Fraction, zero_share, plus}
 use Rattle.table_flow.specs.Tables.{Table, holds, fails, statement_flow}
-use Rattle.table_flow.specs.Reached.{drawn_each, drawn_bound}
 use Rattle.table_flow.specs.Counts.{kept_if, stopped, all_kept, none_stopped}
+use Rattle.table_flow.proofs.FlowWords.{drawn_each, drawn_bound}
 use Rattle.table_flow.proofs.EqualFractions.{equal_plus}
 use Rattle.mass_fold.specs.declared.ended.Ended.{Ended}
 use Rattle.mass_fold.specs.inner.Amounts.{Entries}

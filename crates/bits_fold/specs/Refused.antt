@@ -5,9 +5,8 @@ use Rattle.gcl_core.specs.meaning.Draw.{last_end}
 use Rattle.gcl_core.specs.meaning.Syntax.{SourceProgram}
 use Rattle.gcl_core.specs.weighing.Fractions.{Fraction}
 use Rattle.gcl_core.specs.weighing.WeightedEnds.{class_weight}
-use Rattle.table_flow.specs.Reached.{draws_of}
 use Rattle.table_flow.specs.Scale.{whole}
-use Rattle.table_flow.specs.Tables.{peak_of, ReachedDraws}
+use Rattle.table_flow.specs.Tables.{peak_of, ReachedDraws, tables_of}
 use Rattle.table_flow.specs.Width.{round_width, common_denominator}
 use Rattle.mass_fold.specs.declared.table.TheConstants.{MOST_STATES}
 use Rattle.forgetting.specs.Forgetful.{forgetful_of}
@@ -23,11 +22,11 @@ number_weights D = map (λ e. class_weight (last_end e.1) None 1) D
 
 -- at a limit of n turns: the common denominator of a round, times that of the numbers of the draws that it reaches
 abbrev pub bit_parts : SourceProgram → ℕ → ℕ
-bit_parts p n = round_width p n None * common_denominator (number_weights (draws_of p n None))
+bit_parts p n = round_width p n None * common_denominator (number_weights (tables_of p n None).reached)
 
 -- so many of these parts are one bit, and what a round reads
 abbrev pub bits_width : SourceProgram → ℕ → ℕ
-bits_width p n = bit_parts p n + whole (bit_parts p n) (bits_of_draws (draws_of p n None))
+bits_width p n = bit_parts p n + whole (bit_parts p n) (bits_of_draws (tables_of p n None).reached)
 
 -- At 256 turns the width of the bits is 2^128 or more, or masses are refused, or some run has not ended.
 abbrev pub ReadsBeyond : SourceProgram → Type 0

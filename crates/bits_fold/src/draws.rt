@@ -1,6 +1,6 @@
 // What the draws of a table's states cost, each by as many attempts as it takes, by what is counted.
 
-ghost use Rattle.std.specs.Prelude.{◌≡◌, ◌≤◌, ◌<◌, ◌^◌, None, length, IfSome};
+ghost use Rattle.std.specs.Prelude.{◌≡◌, ℕ, ◌≤◌, ◌<◌, ◌^◌, None, length, IfSome};
 ghost use Rattle.numbers.specs.Arithmetic.{InLowest};
 ghost use Rattle.numbers.specs.Fraction.{IsEqual};
 ghost use Rattle.gcl_core.specs.meaning.Arms.{parts_of};
@@ -9,7 +9,7 @@ ghost use Rattle.gcl_core.specs.meaning.Draw.{choice_ends, uniform_ends};
 ghost use Rattle.gcl_core.specs.meaning.Parts.{partial_sums};
 ghost use Rattle.gcl_core.specs.meaning.Value.{value_of};
 ghost use Rattle.gcl_core.specs.meaning.Views.{expression_of, list_of_arms};
-ghost use Rattle.table_flow.specs.Reached.{drawn_each, drawn_bound};
+ghost use Rattle.table_flow.specs.Tables.{fractions_kind, uniform_go};
 ghost use Rattle.cost_law.specs.ExpectedBits.{attempt_bits};
 ghost use Rattle.bits_law.specs.Price.{price_of_draw};
 ghost use Rattle.bits_fold.specs.Counted.{price_of};
@@ -49,7 +49,7 @@ fn price_of_choice(what: Counted, p: Weight) -> Frac
 // What the draw of a choice costs, for each state of a table.
 pub fn cost_of_choice(what: Counted, p: Weight, table: &Table) -> Option<Frac>
     requires { IsWeight p }
-    ensures { IfSome result (DrawsCost (price_of what) (drawn_each (choice_ends p)) table.now.states.entries) }
+    ensures { IfSome result (DrawsCost (price_of what) (fractions_kind.reached (choice_ends p)) table.now.states.entries) }
 {
     let price = price_of_choice(what, p);
     weight_of(table)?.mul(&price)
@@ -87,7 +87,7 @@ fn price_of_arms(what: Counted, arms: &Arms) -> Frac
 // What the draw of a choice among several costs, for each state of a table.
 pub fn cost_of_arms(what: Counted, arms: &Arms, table: &Table) -> Option<Frac>
     requires { AreParts (parts_of (list_of_arms arms.now)) }
-    ensures { IfSome result (DrawsCost (price_of what) (drawn_each (partial_sums (parts_of (list_of_arms arms.now)))) table.now.states.entries) }
+    ensures { IfSome result (DrawsCost (price_of what) (fractions_kind.reached (partial_sums (parts_of (list_of_arms arms.now)))) table.now.states.entries) }
 {
     let price = price_of_arms(what, arms);
     weight_of(table)?.mul(&price)
@@ -124,10 +124,10 @@ fn cost_of_state(what: Counted, e: &Expr, s: &State) -> Frac
     }
 }
 
-// What the uniform draw of each state of a table costs.
+// What the uniform draw of each state of a table costs, whichever variable is drawn.
 pub fn cost_of_uniform(what: Counted, e: &Expr, table: &Table) -> Option<Frac>
     requires { ExpressionBelow (expression_of e.now) table.now.vars }
-    ensures { IfSome result (DrawsCost (price_of what) (drawn_bound (value_of (expression_of e.now))) table.now.states.entries) }
+    ensures { (x : ℕ) → IfSome result (DrawsCost (price_of what) (λ I. (uniform_go fractions_kind None x (value_of (expression_of e.now)) I).reached) table.now.states.entries) }
 {
     let mut sum = Frac::of(0, 1);
     for (s, f) in &table.states {

@@ -11,7 +11,7 @@ use Rattle.gcl_core.specs.weighing.Fractions.{Fraction, zero_share, plus}
 use Rattle.gcl_core.specs.weighing.WeightedEnds.{scaled, class_weight, statement_weighted}
 use Rattle.gcl_core.proofs.PartialSums.{last_is}
 use Rattle.table_flow.specs.Tables.{Table, holds, fails, only, statement_flow}
-use Rattle.table_flow.specs.Reached.{drawn_each, drawn_bound}
+use Rattle.table_flow.proofs.FlowWords.{drawn_each, drawn_bound}
 use Rattle.table_flow.proofs.Positive.{Positive, p_only, p_scaled}
 use Rattle.weighing_law.proofs.Shares.{product_pos}
 use Rattle.unlimited_law.proofs.Numbers.{Rational, ◌⊕◌, ◌⊗◌, ◌≃◌, nought, below_refl, same_refl, same_sym, same_trans, add_below, add_same, add_assoc, times_below, nought_add}

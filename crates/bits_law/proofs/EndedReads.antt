@@ -13,8 +13,8 @@ use Rattle.gcl_core.specs.meaning.Value.{State, Value, value_of}
 use Rattle.gcl_core.specs.weighing.Fractions.{Fraction, zero_share, plus}
 use Rattle.gcl_core.specs.weighing.WeightedEnds.{Weighted, scaled, class_weight}
 use Rattle.gcl_core.proofs.PartialSums.{last_is}
-use Rattle.table_flow.specs.Tables.{Table, holds, fails, only, faults, all_end, loop_flow, statement_flow, block_flow, arms_flow, ReachedDraws}
-use Rattle.table_flow.specs.Reached.{drawn_each, drawn_bound, loop_draws, statement_draws, block_draws, arms_draws}
+use Rattle.table_flow.specs.Tables.{Table, holds, fails, only, faults, all_end, statement_flow, block_flow, ReachedDraws}
+use Rattle.table_flow.proofs.FlowWords.{loop_flow, arms_flow, drawn_each, drawn_bound, loop_draws, statement_draws, block_draws, arms_draws}
 use Rattle.table_flow.proofs.Positive.{Positive, p_append, p_scaled, p_only, p_one, p_all, p_arms}
 use Rattle.table_flow.proofs.Spreads.{sum_of_all, Zero, sum_append}
 use Rattle.weighing_law.proofs.Shares.{product_pos}

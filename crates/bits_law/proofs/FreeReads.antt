@@ -12,8 +12,8 @@ use Rattle.gcl_core.specs.meaning.Value.{value_of}
 use Rattle.gcl_core.specs.weighing.Fractions.{Fraction, zero_share, plus, times}
 use Rattle.gcl_core.specs.weighing.WeightedEnds.{scaled, class_weight}
 use Rattle.gcl_core.proofs.PartialSums.{last_is}
-use Rattle.table_flow.specs.Tables.{Table, holds, fails, only, statement_flow, block_flow, arms_flow, ReachedDraws}
-use Rattle.table_flow.specs.Reached.{drawn_each, drawn_bound, statement_draws, block_draws, arms_draws}
+use Rattle.table_flow.specs.Tables.{Table, holds, fails, only, statement_flow, block_flow, ReachedDraws}
+use Rattle.table_flow.proofs.FlowWords.{arms_flow, drawn_each, drawn_bound, statement_draws, block_draws, arms_draws}
 use Rattle.table_flow.proofs.Positive.{Positive, p_scaled, p_only, p_one, p_all, p_arms}
 use Rattle.weighing_law.proofs.Shares.{product_pos}
 use Rattle.unlimited_law.specs.LoopFree.{StatementFree, BlockFree, ArmsFree}

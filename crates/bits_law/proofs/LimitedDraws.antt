@@ -12,8 +12,8 @@ use Rattle.gcl_core.specs.meaning.Value.{State, Value, value_of}
 use Rattle.gcl_core.specs.weighing.Fractions.{Fraction, zero_share}
 use Rattle.gcl_core.specs.weighing.WeightedEnds.{scaled, class_weight, statement_weighted}
 use Rattle.gcl_core.proofs.PartialSums.{last_is}
-use Rattle.table_flow.specs.Tables.{Table, holds, fails, only, loop_flow, statement_flow, block_flow, arms_flow, ReachedDraws}
-use Rattle.table_flow.specs.Reached.{drawn_each, drawn_bound, loop_draws, statement_draws, block_draws, arms_draws}
+use Rattle.table_flow.specs.Tables.{Table, holds, fails, only, statement_flow, block_flow, ReachedDraws}
+use Rattle.table_flow.proofs.FlowWords.{loop_flow, arms_flow, drawn_each, drawn_bound, loop_draws, statement_draws, block_draws, arms_draws}
 use Rattle.table_flow.proofs.Positive.{Positive, p_scaled, p_only, p_one, p_all, IsPositiveDraw}
 use Rattle.table_flow.proofs.EachMember.{Each}
 use Rattle.unlimited_law.proofs.Numbers.{Rational, ◌⊕◌, ◌⊗◌, ◌≃◌, nought, same_refl, same_sym, same_trans, add_same, add_assoc, add_turned, nought_add, add_nought}

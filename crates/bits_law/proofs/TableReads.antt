@@ -19,7 +19,7 @@ use Rattle.gcl_core.proofs.EqualClasses.{last_of_equal}
 use Rattle.gcl_core.proofs.PartialSums.{last_is}
 use Rattle.cost_law.specs.ExpectedBits.{on_average}
 use Rattle.table_flow.specs.Tables.{Table, holds, fails, only, faults}
-use Rattle.table_flow.specs.Reached.{drawn_each, drawn_bound}
+use Rattle.table_flow.proofs.FlowWords.{drawn_each, drawn_bound}
 use Rattle.table_flow.proofs.Positive.{Positive}
 use Rattle.weighing_law.proofs.Shares.{product_pos}
 use Rattle.unlimited_law.proofs.Numbers.{Rational, ◌⊕◌, ◌⊗◌, ◌≃◌, nought, same_refl, same_sym, same_trans, add_same, times_nought, nought_add, add_nought}

@@ -11,8 +11,7 @@ use Rattle.gcl_core.specs.meaning.Syntax.{Statement, Skip, Set, If, While, Choic
 use Rattle.gcl_core.specs.meaning.Value.{State, Value, value_of}
 use Rattle.gcl_core.specs.weighing.Fractions.{Fraction, zero_share, plus}
 use Rattle.gcl_core.specs.weighing.WeightedEnds.{sure, scaled, class_weight}
-use Rattle.table_flow.specs.Tables.{Table, holds, fails, only, statement_flow}
-use Rattle.table_flow.specs.Reached.{drawn_each, drawn_bound}
+use Rattle.table_flow.specs.Tables.{Table, fractions_kind, holds, fails, only, statement_flow}
 use Rattle.unlimited_law.specs.Alike.{Alike}
 use Rattle.unlimited_law.specs.Settling.{total, EachState, Within}
 use Rattle.bits_law.specs.Price.{Price, bits_price, price_of_draws}
@@ -62,7 +61,7 @@ abbrev mutual
   StatementCosts price (Set x e) I J cost = ReadsNothing (Set x e) I J cost
   StatementCosts price (Observe e) I J cost = ReadsNothing (Observe e) I J cost
   StatementCosts price (Uniform x e) I J cost =
-      Comes J cost (statement_flow 0 None (Uniform x e) I).next (price_of_draws price (drawn_bound (value_of e) I))
+      Comes J cost (statement_flow 0 None (Uniform x e) I).next (price_of_draws price (statement_flow 0 None (Uniform x e) I).reached)
   StatementCosts price (If e a c) I J cost =
       (K : Table) × (L : Table) × (y : Fraction) × (z : Fraction)
       × BlockCosts price a (only (holds (value_of e)) I) K y
@@ -72,11 +71,11 @@ abbrev mutual
       (K : Table) × (L : Table) × (y : Fraction) × (z : Fraction)
       × BlockCosts price a (scaled (class_weight p.den None p.num) I) K y
       × BlockCosts price c (scaled (class_weight p.den None (p.den - p.num)) I) L z
-      × Comes J cost (K ++ L) (plus (price_of_draws price (drawn_each (choice_ends p) I)) (plus y z))
+      × Comes J cost (K ++ L) (plus (price_of_draws price (fractions_kind.reached (choice_ends p) I)) (plus y z))
   StatementCosts price (Choose arms) I J cost =
       (K : Table) × (y : Fraction)
       × ArmsCost price (sum (parts_of arms)) arms I K y
-      × Comes J cost K (plus (price_of_draws price (drawn_each (partial_sums (parts_of arms)) I)) y)
+      × Comes J cost K (plus (price_of_draws price (fractions_kind.reached (partial_sums (parts_of arms)) I)) y)
   StatementCosts price (While e a) I J cost = LoopReads (value_of e) (TurnCosts price.turns (BlockCosts price a)) I J cost
 
   pub BlockCosts : Price → Statements → Table → Table → Fraction → Type 0

@@ -29,8 +29,7 @@ ghost use Rattle.gcl_core.specs.meaning.Outcomes.{zeros};
 ghost use Rattle.gcl_core.specs.meaning.Syntax.{SourceProgram};
 ghost use Rattle.gcl_core.specs.weighing.Fractions.{Fraction, zero_share, AtMost, IsBelowOne, IsOne};
 ghost use Rattle.cost_law.specs.ExpectedBits.{block_bits, expected_bits};
-ghost use Rattle.table_flow.specs.Tables.{Table};
-ghost use Rattle.table_flow.specs.Reached.{draws_of};
+ghost use Rattle.table_flow.specs.Tables.{Table, tables_of};
 ghost use Rattle.unlimited_law.specs.LoopFree.{BlockFree};
 ghost use Rattle.unlimited_law.specs.Settling.{Outflow};
 ghost use Rattle.unlimited_law.specs.SettledMasses.{ProgramSettles, settled_failed};
@@ -81,7 +80,7 @@ pub fn expected_bits_are_one_fraction()
 /// what does not fail.
 pub fn programs_without_loops_read_their_draws()
     ensures { (p : SourceProgram) → IsChecked p → BlockFree p.body → IsBelowOne (settled_failed p (free_outflow p)) →
-        AreExpected p (bits_in_the_limit p (free_outflow p) (bits_of_draws (draws_of p 1 None))) }
+        AreExpected p (bits_in_the_limit p (free_outflow p) (bits_of_draws (tables_of p 1 None).reached)) }
 {}
 
 /// It does nothing: its clause says that the expected bits are what a run costs where a round costs the bits that it reads.

@@ -17,9 +17,9 @@ use Rattle.gcl_core.proofs.Classes.{bits_le}
 use Rattle.gcl_core.proofs.FittingValues.{value_fits}
 use Rattle.gcl_core.proofs.EqualClasses.{last_of_equal}
 use Rattle.cost_law.specs.ExpectedBits.{number_bits}
-use Rattle.table_flow.specs.Tables.{Table, weighted, fractions_kind, holds, fails, only, faults, loop_flow, statement_flow, block_flow, arms_flow, ReachedDraws}
-use Rattle.table_flow.specs.Reached.{drawn_each, drawn_bound, loop_draws, statement_draws, block_draws, arms_draws}
+use Rattle.table_flow.specs.Tables.{Table, weighted, fractions_kind, holds, fails, only, faults, statement_flow, block_flow, ReachedDraws}
 use Rattle.table_flow.specs.Scale.{whole, amount, weight, Wholes, Within}
+use Rattle.table_flow.proofs.FlowWords.{loop_flow, arms_flow, drawn_each, drawn_bound, loop_draws, statement_draws, block_draws, arms_draws}
 use Rattle.table_flow.proofs.Amounts.{amount_append, both_first, both_second}
 use Rattle.table_flow.proofs.InsideFlows.{head_whole, first_inside, others_inside, turn_inside, turns_inside, side_first, side_second, choose_inside, first_arm, other_arms}
 use Rattle.table_flow.proofs.Kept.{guard_weight, arms_weight, arms_kept, kept_one, kept_all, sides_kept}

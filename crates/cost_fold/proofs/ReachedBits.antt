@@ -22,8 +22,8 @@ use Rattle.cost_law.proofs.BlockCosts.{play_bits, play_block}
 use Rattle.cost_law.proofs.DrawBits.{draw_bits_pos}
 use Rattle.numbers.specs.Fraction.{IsEqual}
 use Rattle.numbers.proofs.Divisors.{product_pos, equal_trans}
-use Rattle.table_flow.specs.Tables.{Table, holds, fails, only, set_to, set_below, set_drawn, loop_flow, statement_flow, block_flow, arms_flow, ReachedDraws}
-use Rattle.table_flow.specs.Reached.{drawn_each, drawn_bound, loop_draws, statement_draws, block_draws, arms_draws}
+use Rattle.table_flow.specs.Tables.{Table, holds, fails, only, statement_flow, block_flow, ReachedDraws}
+use Rattle.table_flow.proofs.FlowWords.{set_to, set_below, set_drawn, loop_flow, arms_flow, drawn_each, drawn_bound, loop_draws, statement_draws, block_draws, arms_draws}
 use Rattle.table_flow.proofs.DrawnLists.{all_on, draw_list}
 use Rattle.table_flow.proofs.WeightedParts.{value_weighted, uniform_weighted}
 use Rattle.table_flow.proofs.Draws.{class_pos, no_class_pos}

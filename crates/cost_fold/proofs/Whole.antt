@@ -22,10 +22,10 @@ use Rattle.cost_law.proofs.DrawBits.{draw_bits_pos}
 use Rattle.numbers.specs.Fraction.{IsEqual, lowest}
 use Rattle.numbers.specs.Arithmetic.{InLowest}
 use Rattle.numbers.proofs.Divisors.{product_pos, lowest_equal, lowest_in_lowest, cancel}
-use Rattle.table_flow.specs.Reached.{draws_of}
 use Rattle.table_flow.specs.Scale.{whole, Whole, Wholes, amount, weight}
 use Rattle.table_flow.specs.Tables.{Table, peak_of, ReachedDraws}
 use Rattle.table_flow.specs.Width.{round_width, denominator}
+use Rattle.table_flow.proofs.FlowWords.{draws_of}
 use Rattle.table_flow.proofs.AtWidth.{at_width}
 use Rattle.table_flow.proofs.Positive.{Positive}
 use Rattle.table_flow.proofs.Wholes.{whole_from, whole_multiple}

@@ -11,10 +11,11 @@ use Rattle.gcl_core.specs.meaning.Blocks.{End, limit}
 use Rattle.gcl_core.specs.meaning.Value.{State}
 use Rattle.table_flow.proofs.Draws.{each_part, no_part, all_parts, parts_add_up, all_parts_pos}
 use Rattle.units_law.specs.Down.{down}
-use Rattle.units_law.specs.Flows.{statement_units, block_units, arms_units}
+use Rattle.units_law.specs.Flows.{statement_units, block_units}
 use Rattle.units_law.specs.Merged.{merged, IsMerged}
 use Rattle.units_law.specs.Rounding.{class_units, rest_units}
 use Rattle.units_law.specs.Units.{Units, held, total, end_units}
+use Rattle.units_law.proofs.UnitWords.{arms_units}
 use Rattle.units_law.proofs.Downs.{rounds_down}
 use Rattle.units_law.proofs.Held.{held_append}
 use Rattle.units_law.proofs.Orders.{from_left}

@@ -6,9 +6,10 @@ use Rattle.gcl_core.specs.meaning.Syntax.{Statement, Statements, done, ◌▸◌
 use Rattle.gcl_core.specs.meaning.Value.{State}
 use Rattle.gcl_core.specs.meaning.Blocks.{End}
 use Rattle.units_law.specs.Down.{down}
-use Rattle.units_law.specs.Flows.{UnitFlow, both_units, statement_units, block_units}
+use Rattle.units_law.specs.Flows.{UnitFlow, statement_units, block_units}
 use Rattle.units_law.specs.Merged.{merged, IsMerged}
 use Rattle.units_law.specs.Units.{Units, held, total}
+use Rattle.units_law.proofs.UnitWords.{both_units}
 use Rattle.units_law.proofs.Downs.{rounds_down}
 use Rattle.units_law.proofs.Held.{held_append}
 use Rattle.units_law.proofs.Merging.{held_merged, merged_once, merged_again, merged_same}

@@ -8,9 +8,10 @@ use Rattle.gcl_core.specs.meaning.Blocks.{End, limit}
 use Rattle.gcl_core.specs.meaning.Value.{State, Value}
 use Rattle.table_flow.specs.Tables.{holds, fails}
 use Rattle.units_law.specs.Down.{down}
-use Rattle.units_law.specs.Flows.{UnitFlow, loop_units, block_units}
+use Rattle.units_law.specs.Flows.{UnitFlow, block_units}
 use Rattle.units_law.specs.Merged.{merged, IsMerged}
 use Rattle.units_law.specs.Units.{Units, held, total, only_units, fault_units, end_units}
+use Rattle.units_law.proofs.UnitWords.{loop_units}
 use Rattle.units_law.proofs.Downs.{rounds_down}
 use Rattle.units_law.proofs.Held.{held_append}
 use Rattle.units_law.proofs.Losses.{guard_total, end_total}

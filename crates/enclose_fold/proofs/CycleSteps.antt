@@ -13,8 +13,9 @@ use Rattle.table_flow.specs.Tables.{holds, fails}
 use Rattle.units_law.specs.Down.{down}
 use Rattle.units_law.specs.Flows.{statement_units, block_units}
 use Rattle.units_law.specs.Merged.{merged, IsMerged}
-use Rattle.units_law.specs.Rounding.{class_units, rest_units, drawn_units, undrawn_units}
+use Rattle.units_law.specs.Rounding.{class_units, rest_units}
 use Rattle.units_law.specs.Units.{Units, held, total, only_units, fault_units, end_units, set_units}
+use Rattle.units_law.proofs.UnitWords.{drawn_units, undrawn_units}
 use Rattle.units_law.proofs.Held.{held_append}
 use Rattle.units_law.proofs.Losses.{guard_total}
 use Rattle.units_law.proofs.Merging.{held_merged, merged_again}

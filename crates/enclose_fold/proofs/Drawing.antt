@@ -4,8 +4,8 @@ use Rattle.numbers.specs.declared.units.TheConstants.{ALL}
 use Rattle.gcl_core.specs.meaning.Value.{State, Value}
 use Rattle.units_law.specs.Down.{down}
 use Rattle.units_law.specs.Merged.{merged, IsMerged}
-use Rattle.units_law.specs.Rounding.{drawn_units, undrawn_units}
 use Rattle.units_law.specs.Units.{Units, held, total}
+use Rattle.units_law.proofs.UnitWords.{drawn_units, undrawn_units}
 use Rattle.units_law.proofs.Held.{held_append}
 use Rattle.units_law.proofs.Merging.{held_merged}
 use Rattle.enclose_fold.specs.declared.error.EncloseError.{EncloseError}

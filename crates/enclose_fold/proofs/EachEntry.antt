@@ -8,8 +8,9 @@ use Rattle.table_flow.specs.Tables.{holds, fails}
 use Rattle.table_flow.specs.Counts.{stopped}
 use Rattle.mass_fold.proofs.Moves.{moved_ok, moved_err, stopped_ok, first_zero, second_zero, first_not, second_not, first_err, second_err}
 use Rattle.units_law.specs.Down.{down, share_of}
-use Rattle.units_law.specs.Rounding.{class_units, rest_units, drawn_units, undrawn_units}
+use Rattle.units_law.specs.Rounding.{class_units, rest_units}
 use Rattle.units_law.specs.Units.{Units, held, set_units, only_units, fault_units, end_units}
+use Rattle.units_law.proofs.UnitWords.{drawn_units, undrawn_units}
 use Rattle.units_law.proofs.Held.{held_append}
 use Rattle.units_law.proofs.Parts.{held_set, held_only, held_faults}
 use Rattle.enclose_fold.proofs.Passing.{IsEach}

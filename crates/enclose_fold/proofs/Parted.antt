@@ -11,10 +11,10 @@ use Rattle.gcl_core.specs.meaning.Value.{State, Value, value_of}
 use Rattle.table_flow.specs.Counts.{moved, stopped, kept_if}
 use Rattle.table_flow.specs.Tables.{holds, fails}
 use Rattle.units_law.specs.Down.{down}
-use Rattle.units_law.specs.Flows.{UnitFlow, both_units, statement_units, block_units}
+use Rattle.units_law.specs.Flows.{UnitFlow, statement_units, block_units}
 use Rattle.units_law.specs.Merged.{merged}
-use Rattle.units_law.specs.Rounding.{drawn_units, undrawn_units}
 use Rattle.units_law.specs.Units.{Units, held, total, only_units, fault_units, end_units}
+use Rattle.units_law.proofs.UnitWords.{both_units, drawn_units, undrawn_units}
 use Rattle.units_law.proofs.Downs.{rounds_down}
 use Rattle.units_law.proofs.Held.{held_append}
 use Rattle.units_law.proofs.Merging.{held_merged}

@@ -10,7 +10,8 @@ use Rattle.gcl_core.specs.meaning.Blocks.{End, fault, limit, by_value, by_bound}
 use Rattle.mass_fold.proofs.Bounds.{unsigned, IsBound}
 use Rattle.units_law.specs.Down.{share_of, rest_of}
 use Rattle.units_law.specs.Merged.{merged, IsMerged}
-use Rattle.units_law.specs.Units.{Units, held, total, below_units}
+use Rattle.units_law.specs.Units.{Units, held, total}
+use Rattle.units_law.proofs.UnitWords.{below_units}
 use Rattle.units_law.proofs.Held.{held_append}
 use Rattle.units_law.proofs.Merging.{merged_same}
 use Rattle.enclose_fold.specs.declared.error.EncloseError.{EncloseError}

@@ -7,8 +7,9 @@ use Rattle.gcl_core.specs.meaning.Blocks.{limit}
 use Rattle.gcl_core.specs.meaning.Value.{State, Value}
 use Rattle.table_flow.proofs.Draws.{each_part, no_part, all_parts, parts_add_up, all_parts_pos}
 use Rattle.units_law.specs.Down.{down}
-use Rattle.units_law.specs.Rounding.{LosesFew, class_units, rest_units, drawn_units, undrawn_units}
+use Rattle.units_law.specs.Rounding.{LosesFew, class_units, rest_units}
 use Rattle.units_law.specs.Units.{Units, total, end_units}
+use Rattle.units_law.proofs.UnitWords.{drawn_units, undrawn_units}
 use Rattle.units_law.proofs.Downs.{rounds_down, loses_one, loses_six}
 use Rattle.units_law.proofs.Orders.{from_left}
 use Rattle.units_law.proofs.Losses.{class_total, rest_total, drawn_total, end_total}

@@ -7,10 +7,11 @@ ghost use Rattle.gcl_core.specs.meaning.Blocks.{limit};
 ghost use Rattle.gcl_core.specs.meaning.Views.{expression_of};
 ghost use Rattle.gcl_core.specs.meaning.Value.{value_of};
 ghost use Rattle.gcl_core.specs.meaning.Bounds.{ExpressionBelow};
+ghost use Rattle.table_flow.specs.Tables.{below_go, uniform_go};
 ghost use Rattle.units_law.specs.Down.{down, share_of, rest_of};
 ghost use Rattle.units_law.specs.Merged.{merged};
-ghost use Rattle.units_law.specs.Rounding.{drawn_units, undrawn_units};
-ghost use Rattle.units_law.specs.Units.{total, below_units};
+ghost use Rattle.units_law.specs.Rounding.{units_kind};
+ghost use Rattle.units_law.specs.Units.{counted_units, total};
 ghost use Rattle.enclose_fold.specs.inner.Ended.{units_of, EndsWith};
 ghost use Rattle.enclose_fold.specs.inner.Refusals.{RefusedAt};
 
@@ -35,10 +36,10 @@ fn spread(
     requires sized { length s.now ≡ next.old.vars }
     requires place { x < length s.now }
     requires most { bound < 2 ^ 63 }
-    requires within { total next.old.states.entries + total (below_units x bound s.now h) ≤ ALL }
-    ensures ok { OnOk result (next.new.states.entries ≡ merged (next.old.states.entries ++ below_units x bound s.now h)) }
+    requires within { total next.old.states.entries + total (below_go counted_units x bound ((s.now, h) ∷ [])) ≤ ALL }
+    ensures ok { OnOk result (next.new.states.entries ≡ merged (next.old.states.entries ++ below_go counted_units x bound ((s.now, h) ∷ []))) }
     ensures vars { next.new.vars ≡ next.old.vars }
-    ensures cause { IfErr result (RefusedAt (next.old.states.entries ++ below_units x bound s.now h)) }
+    ensures cause { IfErr result (RefusedAt (next.old.states.entries ++ below_go counted_units x bound ((s.now, h) ∷ []))) }
 {
     if h == 0 {
         return Ok(());
@@ -68,11 +69,11 @@ impl Fold {
         requires most { bound < 2 ^ 63 }
         requires within { total next.old.states.entries + (total (units_of ended.old) + w) ≤ ALL }
         ensures added { OnOk result (next.new.states.entries
-            ≡ merged (next.old.states.entries ++ below_units x bound s.now (share_of bound self.attempts 1 w))) }
+            ≡ merged (next.old.states.entries ++ below_go counted_units x bound ((s.now, share_of bound self.attempts 1 w) ∷ []))) }
         ensures stopped { OnOk result (EndsWith ended.old ((limit Attempts, rest_of bound self.attempts w) ∷ []) ended.new) }
         ensures vars { next.new.vars ≡ next.old.vars }
         ensures cause { IfErr result
-            (RefusedAt (next.old.states.entries ++ below_units x bound s.now (share_of bound self.attempts 1 w))) }
+            (RefusedAt (next.old.states.entries ++ below_go counted_units x bound ((s.now, share_of bound self.attempts 1 w) ∷ []))) }
     {
         let odds = Odds::of(bound, self.attempts);
         spread(self.alloc, x, bound, s, odds.least_share(1, w), next)?;
@@ -95,12 +96,12 @@ impl Fold {
         requires reads { ExpressionBelow (expression_of e.now) (length s.now) }
         requires within { total next.old.states.entries + (total (units_of ended.old) + w) ≤ ALL }
         ensures added { OnOk result (next.new.states.entries ≡ merged (next.old.states.entries
-            ++ drawn_units down x (value_of (expression_of e.now)) self.attempts ((s.now, w) ∷ []))) }
+            ++ (uniform_go (units_kind down) self.attempts x (value_of (expression_of e.now)) ((s.now, w) ∷ [])).next)) }
         ensures stopped { OnOk result
-            (EndsWith ended.old (undrawn_units down (value_of (expression_of e.now)) self.attempts ((s.now, w) ∷ [])) ended.new) }
+            (EndsWith ended.old (uniform_go (units_kind down) self.attempts x (value_of (expression_of e.now)) ((s.now, w) ∷ [])).ended ended.new) }
         ensures vars { next.new.vars ≡ next.old.vars }
         ensures cause { IfErr result (RefusedAt (next.old.states.entries
-            ++ drawn_units down x (value_of (expression_of e.now)) self.attempts ((s.now, w) ∷ []))) }
+            ++ (uniform_go (units_kind down) self.attempts x (value_of (expression_of e.now)) ((s.now, w) ∷ [])).next)) }
     {
         match eval(e, s.values()) {
             Err(fault) => {
@@ -129,12 +130,12 @@ impl Fold {
         requires reads { ExpressionBelow (expression_of e.now) table.vars }
         requires within { total table.states.entries + total (units_of ended.old) ≤ ALL }
         ensures next { IfOk result (λ t. t.states.entries
-            ≡ merged (drawn_units down x (value_of (expression_of e.now)) self.attempts table.states.entries)) }
+            ≡ merged (uniform_go (units_kind down) self.attempts x (value_of (expression_of e.now)) table.states.entries).next) }
         ensures stopped { IfOk result
-            (λ t. EndsWith ended.old (undrawn_units down (value_of (expression_of e.now)) self.attempts table.states.entries) ended.new) }
+            (λ t. EndsWith ended.old (uniform_go (units_kind down) self.attempts x (value_of (expression_of e.now)) table.states.entries).ended ended.new) }
         ensures vars { IfOk result (λ t. t.vars ≡ table.vars) }
         ensures cause { IfErr result
-            (RefusedAt (drawn_units down x (value_of (expression_of e.now)) self.attempts table.states.entries)) }
+            (RefusedAt (uniform_go (units_kind down) self.attempts x (value_of (expression_of e.now)) table.states.entries).next) }
     {
         let mut next = Table::new(self.alloc, table.vars);
         for (s, w) in table.states {

@@ -5,7 +5,8 @@ use Rattle.gcl_core.specs.meaning.Blocks.{by_value, by_bound}
 use Rattle.gcl_core.specs.meaning.Value.{State, Value}
 use Rattle.gcl_core.specs.weighing.Fractions.{Fraction, times}
 use Rattle.gcl_core.specs.weighing.WeightedEnds.{scaled, class_weight}
-use Rattle.table_flow.specs.Tables.{Table, only, set_to, set_below, set_drawn}
+use Rattle.table_flow.specs.Tables.{Table, only}
+use Rattle.table_flow.proofs.FlowWords.{set_to, set_below, set_drawn}
 
 abbrev pub Along : (State → State → Type 0) → Table → Table → Type 0
 Along R [] [] = Unit {0}

@@ -11,7 +11,8 @@ use Rattle.gcl_core.specs.meaning.Value.{State, value_of}
 use Rattle.gcl_core.specs.meaning.Blocks.{by_value}
 use Rattle.gcl_core.specs.meaning.Outcomes.{zeros}
 use Rattle.gcl_core.specs.weighing.WeightedEnds.{sure, scaled, class_weight}
-use Rattle.table_flow.specs.Tables.{Table, holds, fails, only, statement_flow, block_flow, arms_flow, peak_of}
+use Rattle.table_flow.specs.Tables.{Table, holds, fails, only, statement_flow, block_flow, peak_of}
+use Rattle.table_flow.proofs.FlowWords.{arms_flow}
 use Rattle.forgetting.specs.Liveness.{Names, no_names, both, reads, matters_to, matters_to_arms, before_statement, before}
 use Rattle.forgetting.specs.Filling.{is_nought, filled_by, filled_by_arms, behind_statement}
 use Rattle.forgetting.specs.Forgetful.{forget, ends_with, forgetful_statement, forgetful, forgetful_arms, forgetful_of}

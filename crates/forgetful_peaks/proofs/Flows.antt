@@ -3,7 +3,8 @@ use Rattle.std.proofs.Common.{◌≡◌, ℕ, zero, suc, ◌≤◌, false, [], �
 use Rattle.std.specs.Prelude.{not}
 use Rattle.gcl_core.specs.meaning.Value.{State, Value, is_zero}
 use Rattle.gcl_core.specs.meaning.Blocks.{by_value}
-use Rattle.table_flow.specs.Tables.{Table, Flow, holds, fails, only, most_states, loop_flow}
+use Rattle.table_flow.specs.Tables.{Table, Flow, holds, fails, only, most_states}
+use Rattle.table_flow.proofs.FlowWords.{loop_flow}
 use Rattle.forgetful_peaks.proofs.Along.{Along, along_both, along_to, along_only}
 use Rattle.forgetful_peaks.proofs.Fewer.{fewer_states, most_of_both}
 

@@ -5,7 +5,8 @@ use Rattle.std.proofs.Math.Nat.{le-max_left}
 use Rattle.std.proofs.lemmas.Bool.{eqb-true, eqb-false, cases_lt}
 use Rattle.gcl_core.specs.meaning.Syntax.{Num, Set, Statements, done, ◌▸◌}
 use Rattle.gcl_core.specs.meaning.Value.{State}
-use Rattle.table_flow.specs.Tables.{Table, Flow, set_to, states, most_states, block_flow}
+use Rattle.table_flow.specs.Tables.{Table, Flow, states, most_states, block_flow}
+use Rattle.table_flow.proofs.FlowWords.{set_to}
 use Rattle.forgetting.specs.Liveness.{Names}
 use Rattle.forgetting.specs.Forgetful.{forget}
 use Rattle.forgetting.proofs.Agreeing.{right_and}

@@ -11,9 +11,10 @@ use Rattle.gcl_core.specs.meaning.Blocks.{End, limit}
 use Rattle.gcl_core.specs.weighing.Fractions.{Fraction}
 use Rattle.gcl_core.specs.weighing.WeightedEnds.{Weighted, scaled, class_weight, no_class_weight}
 use Rattle.numbers.specs.Fraction.{IsEqual}
-use Rattle.table_flow.specs.Tables.{Table, Flow, all_end, statement_flow, block_flow, arms_flow, draws_each, draw_weights, states}
+use Rattle.table_flow.specs.Tables.{Table, Flow, all_end, statement_flow, block_flow, draws_each, draw_weights, states}
 use Rattle.table_flow.specs.Scale.{Whole, Wholes, Within, amount, weight}
 use Rattle.table_flow.specs.Counts.{none_stopped, all_kept}
+use Rattle.table_flow.proofs.FlowWords.{arms_flow}
 use Rattle.table_flow.proofs.Amounts.{ends_whole, amount_append, ends_first, all_first}
 use Rattle.table_flow.proofs.InsideFlows.{choose_inside, first_arm, other_arms}
 use Rattle.table_flow.proofs.Kept.{all_end_weight, arms_weight, arms_kept, kept_one, kept_arms}

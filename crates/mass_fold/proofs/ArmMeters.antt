@@ -10,9 +10,9 @@ use Rattle.gcl_core.specs.weighing.Fractions.{Fraction}
 use Rattle.gcl_core.specs.weighing.WeightedEnds.{Weighted, scaled, class_weight}
 use Rattle.gcl_core.proofs.PartialSums.{last_is}
 use Rattle.numbers.specs.Fraction.{IsEqual}
-use Rattle.table_flow.specs.Tables.{Table, Flow, statement_flow, block_flow, arms_flow, ReachedDraws}
-use Rattle.table_flow.specs.Reached.{drawn_each, statement_draws, block_draws, arms_draws}
+use Rattle.table_flow.specs.Tables.{Table, Flow, statement_flow, block_flow, ReachedDraws}
 use Rattle.table_flow.specs.Scale.{amount}
+use Rattle.table_flow.proofs.FlowWords.{arms_flow, drawn_each, statement_draws, block_draws, arms_draws}
 use Rattle.table_flow.proofs.InsideFlows.{first_arm}
 use Rattle.mass_fold.specs.declared.ended.Ended.{Ended}
 use Rattle.mass_fold.specs.declared.meter.Meter.{Meter}

@@ -10,6 +10,7 @@ use Rattle.gcl_core.specs.weighing.WeightedEnds.{sure}
 use Rattle.table_flow.specs.Tables.{block_flow, peak_of}
 use Rattle.table_flow.specs.Width.{round_width}
 use Rattle.table_flow.specs.Scale.{whole, Whole}
+use Rattle.table_flow.proofs.FlowWords.{block_draws}
 use Rattle.table_flow.proofs.AtWidth.{at_width}
 use Rattle.table_flow.proofs.Kept.{kept_all}
 use Rattle.table_flow.proofs.Wholes.{whole_from}
@@ -21,7 +22,6 @@ use Rattle.mass_fold.specs.inner.Fold.{Stands, EndStands, FoldsTo, FoldBlames}
 use Rattle.mass_fold.specs.inner.Body.{BodyGives, BodyMeters}
 use Rattle.mass_fold.specs.declared.meter.Meter.{Meter}
 use Rattle.mass_fold.specs.inner.Metering.{Meters}
-use Rattle.table_flow.specs.Reached.{block_draws}
 use Rattle.mass_fold.proofs.BodyMasses.{masses_held, failed_equal}
 
 pub no_weight : (N : ℕ) (f : Fraction) → IsNoWeight f → (whole N f ≡ 0) × Whole N f

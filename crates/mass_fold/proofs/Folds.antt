@@ -11,9 +11,10 @@ use Rattle.gcl_core.specs.meaning.Value.{State, Value, value_of}
 use Rattle.gcl_core.specs.meaning.Blocks.{End, failed}
 use Rattle.gcl_core.specs.weighing.Fractions.{Fraction}
 use Rattle.gcl_core.specs.weighing.WeightedEnds.{Weighted}
-use Rattle.table_flow.specs.Tables.{Table, Flow, holds, fails, only, faults, all_end, set_to, statement_flow, block_flow, states}
+use Rattle.table_flow.specs.Tables.{Table, Flow, holds, fails, only, faults, all_end, statement_flow, block_flow, states}
 use Rattle.table_flow.specs.Scale.{Wholes, TablesWithin, Within, amount, weight}
-use Rattle.table_flow.specs.Counts.{moved, stopped, kept_if, none_kept, none_stopped, all_kept, all_stopped, part_at, rest_at, drawn, undrawn, multiplied}
+use Rattle.table_flow.specs.Counts.{moved, stopped, kept_if, none_kept, none_stopped, all_kept, all_stopped, part_at, rest_at, drawn, undrawn}
+use Rattle.table_flow.proofs.FlowWords.{set_to, multiplied}
 use Rattle.table_flow.proofs.Amounts.{amount_append, amount_only, amount_faults, amount_all_end, amount_set, amount_none, amount_sum, both_first, both_second, regroup}
 use Rattle.table_flow.proofs.InsideFlows.{first_inside, others_inside}
 use Rattle.table_flow.proofs.Kept.{kept_one, kept_all, guard_weight}

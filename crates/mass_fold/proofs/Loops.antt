@@ -6,9 +6,10 @@ use Rattle.gcl_core.specs.meaning.Bounds.{BlockIsWeighed}
 use Rattle.gcl_core.specs.meaning.Value.{State, Value, value_of}
 use Rattle.gcl_core.specs.meaning.Blocks.{End, limit}
 use Rattle.gcl_core.specs.weighing.WeightedEnds.{Weighted}
-use Rattle.table_flow.specs.Tables.{Table, Flow, holds, fails, only, faults, all_end, loop_flow, block_flow, states}
+use Rattle.table_flow.specs.Tables.{Table, Flow, holds, fails, only, faults, all_end, block_flow, states}
 use Rattle.table_flow.specs.Scale.{Within, amount, weight}
 use Rattle.table_flow.specs.Counts.{stopped, kept_if, none_kept, none_stopped, all_kept, all_stopped}
+use Rattle.table_flow.proofs.FlowWords.{loop_flow}
 use Rattle.table_flow.proofs.Amounts.{amount_append, amount_all_end}
 use Rattle.table_flow.proofs.InsideFlows.{turn_inside, turns_inside}
 use Rattle.table_flow.proofs.Kept.{kept_all, kept_turns, guard_weight}

@@ -11,9 +11,9 @@ use Rattle.gcl_core.specs.meaning.Blocks.{by_value, by_bound}
 use Rattle.gcl_core.specs.meaning.Draw.{last_end, choice_ends, uniform_ends}
 use Rattle.gcl_core.proofs.EqualClasses.{last_of_equal}
 use Rattle.table_flow.specs.Tables.{Table, Flow, holds, fails, only, faults, statement_flow, block_flow, ReachedDraws}
-use Rattle.table_flow.specs.Reached.{drawn_each, drawn_bound, statement_draws, block_draws}
 use Rattle.table_flow.specs.Scale.{amount, weight}
 use Rattle.table_flow.specs.Counts.{stopped, kept_if}
+use Rattle.table_flow.proofs.FlowWords.{drawn_each, drawn_bound, statement_draws, block_draws}
 use Rattle.table_flow.proofs.Amounts.{amount_append, both_first, both_second}
 use Rattle.table_flow.proofs.InsideFlows.{side_first, side_second}
 use Rattle.table_flow.proofs.NoneReached.{amount_drawn_each, amount_drawn_bound, none_one}

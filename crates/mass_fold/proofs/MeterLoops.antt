@@ -5,10 +5,10 @@ use Rattle.gcl_core.specs.meaning.Bounds.{BlockIsWeighed}
 use Rattle.gcl_core.specs.meaning.Value.{value_of}
 use Rattle.gcl_core.specs.meaning.Blocks.{End}
 use Rattle.gcl_core.specs.weighing.WeightedEnds.{Weighted}
-use Rattle.table_flow.specs.Tables.{Table, Flow, holds, fails, only, faults, loop_flow, block_flow, ReachedDraws}
-use Rattle.table_flow.specs.Reached.{loop_draws, block_draws}
+use Rattle.table_flow.specs.Tables.{Table, Flow, holds, fails, only, faults, block_flow, ReachedDraws}
 use Rattle.table_flow.specs.Scale.{Within, amount, weight}
 use Rattle.table_flow.specs.Counts.{stopped, kept_if, none_stopped, all_kept}
+use Rattle.table_flow.proofs.FlowWords.{loop_flow, loop_draws, block_draws}
 use Rattle.table_flow.proofs.Amounts.{amount_append}
 use Rattle.table_flow.proofs.NoneReached.{none_turns}
 use Rattle.mass_fold.specs.declared.ended.Ended.{Ended}

@@ -12,9 +12,10 @@ use Rattle.gcl_core.specs.weighing.Fractions.{Fraction, times, one}
 use Rattle.gcl_core.specs.weighing.WeightedEnds.{scaled, class_weight, no_class_weight}
 use Rattle.numbers.specs.Fraction.{IsEqual}
 use Rattle.numbers.proofs.Divisors.{product_pos, along_to, cancel}
-use Rattle.table_flow.specs.Tables.{Table, bound_draws, draw_weights}
+use Rattle.table_flow.specs.Tables.{Table, draw_weights}
 use Rattle.table_flow.specs.Scale.{whole, Whole, Wholes, AllWhole, amount}
-use Rattle.table_flow.specs.Counts.{multiplied, part_at, rest_at}
+use Rattle.table_flow.specs.Counts.{part_at, rest_at}
+use Rattle.table_flow.proofs.FlowWords.{bound_draws, multiplied}
 use Rattle.table_flow.proofs.Amounts.{all_first, all_second}
 use Rattle.table_flow.proofs.Wholes.{whole_from}
 use Rattle.table_flow.proofs.Draws.{share, class_pos, no_class_pos}

@@ -6,7 +6,8 @@ use Rattle.gcl_core.specs.declared.answers.Fault.TheVariants.{BadBound}
 use Rattle.gcl_core.specs.declared.answers.Limit.TheVariants.{Attempts}
 use Rattle.gcl_core.specs.meaning.Blocks.{End, fault, limit, by_value, by_bound}
 use Rattle.gcl_core.specs.meaning.Value.{State, Value}
-use Rattle.table_flow.specs.Tables.{below_go, drawn_go, undrawn_go}
+use Rattle.table_flow.specs.Tables.{below_go}
+use Rattle.table_flow.proofs.UniformLists.{drawn_go, undrawn_go}
 use Rattle.mass_fold.proofs.Bounds.{unsigned, IsBound}
 use Rattle.units_law.specs.Down.{down, share_of, rest_of}
 use Rattle.scaled_law.specs.Pairs.{Pair, Pairs, counted_pairs, pairs_kind, put_pair, put_pairs}

@@ -5,7 +5,8 @@ use Rattle.gcl_core.specs.declared.syntax.Weight.{Weight}
 use Rattle.gcl_core.specs.meaning.Blocks.{End, failed, limit}
 use Rattle.gcl_core.specs.meaning.Syntax.{Expression, Set, Uniform, Observe}
 use Rattle.gcl_core.specs.meaning.Value.{State, value_of}
-use Rattle.table_flow.specs.Tables.{holds, fails, set_go, only_go, faults_go, end_go, drawn_go, undrawn_go}
+use Rattle.table_flow.specs.Tables.{holds, fails, set_go, only_go, faults_go, end_go}
+use Rattle.table_flow.proofs.UniformLists.{drawn_go, undrawn_go}
 use Rattle.units_law.specs.Down.{down}
 use Rattle.units_law.specs.Merged.{IsMerged}
 use Rattle.units_law.specs.Units.{held, total}

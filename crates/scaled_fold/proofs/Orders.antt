@@ -8,7 +8,8 @@ use Rattle.numbers.specs.Units.{shared, shared_up, power_down, power_up}
 use Rattle.gcl_core.specs.meaning.Blocks.{by_value, by_bound}
 use Rattle.gcl_core.specs.meaning.Draw.{bits_for, rejected_numbers}
 use Rattle.gcl_core.specs.meaning.Value.{State, Value}
-use Rattle.table_flow.specs.Tables.{set_go, only_go, below_go, drawn_go}
+use Rattle.table_flow.specs.Tables.{set_go, only_go, below_go}
+use Rattle.table_flow.proofs.UniformLists.{drawn_go}
 use Rattle.units_law.specs.Down.{down, share_of, again_down, again_up}
 use Rattle.scaled_law.specs.Pairs.{Pair, Pairs, InOrder, counted_pairs, class_pairs, pairs_kind}
 use Rattle.scaled_law.specs.Up.{up, share_up}

@@ -4,7 +4,7 @@ ghost use Rattle.std.specs.Prelude.{◌≡◌, ◌≤◌, ◌<◌, ◌^◌, [], 
 ghost use Rattle.gcl_core.specs.meaning.Views.{expression_of};
 ghost use Rattle.gcl_core.specs.meaning.Value.{value_of};
 ghost use Rattle.gcl_core.specs.meaning.Bounds.{ExpressionBelow};
-ghost use Rattle.table_flow.specs.Tables.{below_go, drawn_go, undrawn_go};
+ghost use Rattle.table_flow.specs.Tables.{below_go, uniform_go};
 ghost use Rattle.units_law.specs.Down.{down};
 ghost use Rattle.scaled_law.specs.Pairs.{counted_pairs, class_pairs, pairs_kind, put_pairs, merged_pairs};
 ghost use Rattle.scaled_law.specs.Up.{up};
@@ -56,8 +56,8 @@ fn draw_entry(
     requires sized { length s.now ≡ into.vars }
     requires place { x < length s.now }
     requires reads { ExpressionBelow (expression_of e.now) (length s.now) }
-    ensures added { IfOk result (λ t. t.0.states.entries ≡ put_pairs into.states.entries (drawn_go (pairs_kind down up) x (value_of (expression_of e.now)) attempts ((s.now, w) ∷ []))) }
-    ensures stopped { IfOk result (λ t. EndsWith before (undrawn_go (pairs_kind down up) (value_of (expression_of e.now)) attempts ((s.now, w) ∷ [])) t.1) }
+    ensures added { IfOk result (λ t. t.0.states.entries ≡ put_pairs into.states.entries (uniform_go (pairs_kind down up) attempts x (value_of (expression_of e.now)) ((s.now, w) ∷ [])).next) }
+    ensures stopped { IfOk result (λ t. EndsWith before (uniform_go (pairs_kind down up) attempts x (value_of (expression_of e.now)) ((s.now, w) ∷ [])).ended t.1) }
     ensures vars { IfOk result (λ t. t.0.vars ≡ into.vars) }
 {
     match eval(e, s.values()) {
@@ -85,8 +85,8 @@ pub fn draw(
 ) -> Result<(Table, Ended), PairsError>
     requires place { x < table.vars }
     requires reads { ExpressionBelow (expression_of e.now) table.vars }
-    ensures next { IfOk result (λ t. t.0.states.entries ≡ merged_pairs (drawn_go (pairs_kind down up) x (value_of (expression_of e.now)) attempts table.states.entries)) }
-    ensures stopped { IfOk result (λ t. EndsWith before (undrawn_go (pairs_kind down up) (value_of (expression_of e.now)) attempts table.states.entries) t.1) }
+    ensures next { IfOk result (λ t. t.0.states.entries ≡ merged_pairs (uniform_go (pairs_kind down up) attempts x (value_of (expression_of e.now)) table.states.entries).next) }
+    ensures stopped { IfOk result (λ t. EndsWith before (uniform_go (pairs_kind down up) attempts x (value_of (expression_of e.now)) table.states.entries).ended t.1) }
     ensures vars { IfOk result (λ t. t.0.vars ≡ table.vars) }
 {
     let mut next = Table::new(alloc, table.vars);

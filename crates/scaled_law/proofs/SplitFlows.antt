@@ -7,8 +7,9 @@ use Rattle.gcl_core.specs.meaning.Syntax.{Statement, Skip, Set, If, While, Choic
 use Rattle.gcl_core.specs.meaning.Value.{State, Value, value_of}
 use Rattle.gcl_core.specs.meaning.Blocks.{End, failed, limit}
 use Rattle.gcl_core.specs.weighing.WeightedEnds.{Weighted, class_weight, no_class_weight}
-use Rattle.table_flow.specs.Tables.{Table, Flow, holds, fails, both, draw_weights, loop_flow, statement_flow, block_flow, arms_flow, states}
+use Rattle.table_flow.specs.Tables.{Table, Flow, holds, fails, draw_weights, statement_flow, block_flow, states}
 use Rattle.table_flow.specs.Scale.{TablesWithin, Within}
+use Rattle.table_flow.proofs.FlowWords.{both, loop_flow, arms_flow}
 use Rattle.scaled_law.proofs.Splits.{Splits, none, appended, wholes_split, all_whole_split, fewer, of_parts, only_splits, faults_splits, set_splits, drawn_splits, undrawn_splits, shown_splits, draws_splits, end_splits, scaled_splits}
 
 -- tables one by one

@@ -11,8 +11,9 @@ use Rattle.gcl_core.specs.meaning.Value.{State, Value}
 use Rattle.gcl_core.specs.meaning.Blocks.{End, fault, limit, by_value, by_bound}
 use Rattle.gcl_core.specs.weighing.Fractions.{Fraction}
 use Rattle.gcl_core.specs.weighing.WeightedEnds.{Weighted, scaled, class_weight, no_class_weight}
-use Rattle.table_flow.specs.Tables.{Table, only, faults, all_end, set_to, set_below, set_drawn, not_drawn, bound_draws, draws_each, draw_weights, states}
+use Rattle.table_flow.specs.Tables.{Table, only, faults, all_end, draws_each, draw_weights, states}
 use Rattle.table_flow.specs.Scale.{AllWhole, Wholes, amount}
+use Rattle.table_flow.proofs.FlowWords.{set_to, set_below, set_drawn, not_drawn, bound_draws}
 use Rattle.units_law.proofs.FewStates.{member_unique}
 use Rattle.units_law.proofs.States.{same, same_equiv}
 

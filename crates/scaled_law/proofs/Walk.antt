@@ -14,8 +14,9 @@ use Rattle.gcl_core.specs.meaning.Value.{State, Value, value_of}
 use Rattle.gcl_core.specs.meaning.Blocks.{End, limit}
 use Rattle.gcl_core.specs.weighing.Fractions.{Fraction}
 use Rattle.gcl_core.specs.weighing.WeightedEnds.{Weighted, scaled, class_weight, no_class_weight}
-use Rattle.table_flow.specs.Tables.{Table, holds, fails, only, faults, all_end, only_go, faults_go, end_go, statement_go, loop_flow, statement_flow, block_flow, arms_flow, states}
+use Rattle.table_flow.specs.Tables.{Table, holds, fails, only, faults, all_end, only_go, faults_go, end_go, statement_go, statement_flow, block_flow, states}
 use Rattle.table_flow.specs.Scale.{Wholes, Within, amount, weight}
+use Rattle.table_flow.proofs.FlowWords.{loop_flow, arms_flow}
 use Rattle.table_flow.proofs.Amounts.{ends_whole, amount_append, both_first, both_second, ends_first}
 use Rattle.table_flow.proofs.InsideFlows.{head_whole, first_inside, others_inside, turn_inside, turns_inside, side_first, side_second, undecided_whole, choose_inside, first_arm, other_arms}
 use Rattle.table_flow.proofs.Kept.{arms_weight, guard_weight, all_end_weight, choice_kept, arms_kept, kept_turns, kept_one, kept_all}

@@ -5,8 +5,9 @@ use Rattle.gcl_core.specs.meaning.Value.{State, Value}
 use Rattle.gcl_core.specs.weighing.Fractions.{Fraction}
 use Rattle.gcl_core.specs.weighing.WeightedEnds.{Weighted}
 use Rattle.table_flow.specs.Counts.{stopped, kept_if, all_stopped, moved}
-use Rattle.table_flow.specs.Tables.{Table, Flow, only, faults, all_end, both, set_to}
+use Rattle.table_flow.specs.Tables.{Table, Flow, only, faults, all_end}
 use Rattle.table_flow.specs.Scale.{whole, amount, Wholes, AllWhole, TablesWithin, Within}
+use Rattle.table_flow.proofs.FlowWords.{both, set_to}
 
 -- ---- amounts
 

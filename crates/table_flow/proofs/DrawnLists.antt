@@ -9,7 +9,8 @@ use Rattle.gcl_core.specs.meaning.Draw.{uniform_ends}
 use Rattle.gcl_core.specs.weighing.Fractions.{Fraction}
 use Rattle.gcl_core.specs.weighing.WeightedEnds.{Weighted, sure, scaled, taken_on, class_weight, no_class_weight, classes_from, weighted_classes}
 use Rattle.gcl_core.proofs.EqualClasses.{last_of_equal}
-use Rattle.table_flow.specs.Tables.{Table, set_below}
+use Rattle.table_flow.specs.Tables.{Table}
+use Rattle.table_flow.proofs.FlowWords.{set_below}
 use Rattle.table_flow.proofs.ArmEnds.{taken_append}
 
 -- the states of a table, as ends

@@ -9,7 +9,8 @@ use Rattle.gcl_core.specs.meaning.Syntax.{Statement, Choice, Choose, Statements,
 use Rattle.gcl_core.specs.meaning.Value.{State, Value}
 use Rattle.gcl_core.specs.weighing.WeightedEnds.{Weighted, scaled, class_weight, no_class_weight}
 use Rattle.table_flow.specs.Scale.{Wholes, TablesWithin, Within}
-use Rattle.table_flow.specs.Tables.{Table, Flow, holds, only, faults, all_end, both, loop_flow, statement_flow, block_flow, arms_flow, draws_each, draw_weights}
+use Rattle.table_flow.specs.Tables.{Table, Flow, holds, only, faults, all_end, statement_flow, block_flow, draws_each, draw_weights}
+use Rattle.table_flow.proofs.FlowWords.{both, loop_flow, arms_flow}
 use Rattle.table_flow.proofs.Amounts.{both_first, both_second, tables_first, tables_second, ends_first, ends_second, ends_whole, all_first, all_second}
 
 module _ (n : ℕ) (r : Option ℕ) (N L : ℕ) where

@@ -11,9 +11,11 @@ use Rattle.gcl_core.specs.meaning.Value.{State, Value, value_of, is_zero}
 use Rattle.gcl_core.specs.meaning.Blocks.{End, failed, limit, by_value, by_bound}
 use Rattle.gcl_core.specs.weighing.Fractions.{Fraction, times, one}
 use Rattle.gcl_core.specs.weighing.WeightedEnds.{Weighted, scaled, class_weight, no_class_weight}
-use Rattle.table_flow.specs.Tables.{Table, Flow, holds, fails, only, faults, all_end, set_to, both, loop_flow, statement_flow, block_flow, arms_flow}
+use Rattle.table_flow.specs.Tables.{Table, Flow, fractions_kind, holds, fails, only, faults, all_end, statement_flow, block_flow}
 use Rattle.table_flow.specs.Scale.{amount, weight, whole, Whole, Wholes, Within}
-use Rattle.table_flow.specs.Counts.{sum_below, part_at, rest_at, drawn, undrawn, multiplied}
+use Rattle.table_flow.specs.Counts.{sum_below, part_at, rest_at, drawn, undrawn}
+use Rattle.table_flow.proofs.UniformLists.{by_lists}
+use Rattle.table_flow.proofs.FlowWords.{set_to, both, loop_flow, arms_flow, multiplied}
 use Rattle.table_flow.proofs.InsideFlows.{head_whole, first_inside, others_inside, turn_inside, turns_inside, side_first, side_second, undecided_whole, choose_inside, first_arm, other_arms}
 use Rattle.table_flow.proofs.Amounts.{ends_whole, amount_append, both_first, both_second, ends_first}
 use Rattle.table_flow.proofs.Spreads.{times_swap}
@@ -205,11 +207,12 @@ module _ (n : ℕ) (r : Option ℕ) (N L : ℕ) where
         omega arith
     kept_one (Uniform x e) I p w y s =
         let v = value_of e in
-        let k = drawn_whole x v r N I w y s.ended in
+        let q = by_lists fractions_kind r x v I in
+        let k = drawn_whole x v r N I w (subst (λ f. Wholes N f.next) q y) (subst (λ f. Wholes N f.ended) q s.ended) in
         let a = drawn_next x v r N (λ s. 1) I in
         let b = drawn_ended x v r N (λ x. 1) I in
         let c = drawn_kept N x v r I w k.0 k.1 in
-        omega arith
+        rw q (omega arith)
     kept_one (If e a c) I p w x s =
         let A = only (holds (value_of e)) I in
         let C = only (fails (value_of e)) I in

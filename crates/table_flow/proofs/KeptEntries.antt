@@ -15,7 +15,9 @@ use Rattle.gcl_core.specs.meaning.Value.{State, Value, value_of}
 use Rattle.gcl_core.specs.weighing.Fractions.{Fraction}
 use Rattle.gcl_core.proofs.EqualClasses.{last_of_equal}
 use Rattle.gcl_core.proofs.PartialSums.{last_is}
-use Rattle.table_flow.specs.Tables.{FlowOf, Entries, Kind, both, holds, fails, only_go, faults_go, end_go, set_go, below_go, drawn_go, undrawn_go, shown_go, reached_go, loop_go, statement_go, block_go, arms_go}
+use Rattle.table_flow.specs.Tables.{FlowOf, Entries, Kind, holds, fails, only_go, faults_go, end_go, set_go, below_go, loop_go, statement_go, block_go, arms_go}
+use Rattle.table_flow.proofs.UniformLists.{drawn_go, undrawn_go, shown_go, reached_go, by_lists}
+use Rattle.table_flow.proofs.FlowWords.{both}
 use Rattle.table_flow.proofs.EachMember.{Each, Anything, each_append}
 
 -- entries with the fact P, what ended with Q, weights of draws with D, and draws that are reached with R
@@ -215,13 +217,13 @@ module _ {X Y : Type 0} {k : Kind X Y} {r : Option ℕ} {S : Statement → Type 
         draws = tt;
         reached = tt;
       }
-      statement_kept (Uniform i v) s J h = record {
+      statement_kept (Uniform i v) s J h = subst Has (sym (by_lists k r i (value_of v) J)) (record {
         next = drawn_kept i v s J h;
         ended = undrawn_kept (value_of v) J h;
         tables = tt;
         draws = shown_kept (value_of v) J h;
         reached = reached_kept (value_of v) J h;
-      }
+      })
       statement_kept (If v a c) s J h =
           let p = keeps.asked.guarded v a c s in
           both_kept (faults_go k.entries (value_of v) J) _ _ (faults_kept (value_of v) J h)

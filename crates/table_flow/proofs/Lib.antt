@@ -1,3 +1,5 @@
+pub mod UniformLists
+pub mod FlowWords
 pub mod WeightedParts
 pub mod Wholes
 pub mod Amounts

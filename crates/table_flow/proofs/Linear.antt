@@ -12,7 +12,9 @@ use Rattle.gcl_core.specs.weighing.Fractions.{Fraction, plus, times}
 use Rattle.gcl_core.specs.weighing.WeightedEnds.{Weighted, sure, scaled, taken_on, class_weight, no_class_weight, statement_weighted, weighted_ends, end_weighted}
 use Rattle.table_flow.proofs.WeightedParts.{loop_weighted, value_weighted, uniform_weighted}
 use Rattle.gcl_core.specs.weighing.Mass.{sum_of}
-use Rattle.table_flow.specs.Tables.{Table, Flow, weighted, fractions_kind, draw_weights, draws_each, holds, fails, only, faults, all_end, set_to, set_below, set_drawn, not_drawn, both, loop_flow, statement_flow, block_flow, arms_flow}
+use Rattle.table_flow.specs.Tables.{Table, Flow, weighted, fractions_kind, draw_weights, draws_each, holds, fails, only, faults, all_end, statement_flow, block_flow}
+use Rattle.table_flow.proofs.UniformLists.{by_lists}
+use Rattle.table_flow.proofs.FlowWords.{set_to, set_below, set_drawn, not_drawn, both, loop_flow, arms_flow}
 use Rattle.table_flow.proofs.EachMember.{Each, Anything, each_anything}
 use Rattle.table_flow.proofs.KeptEntries.{KeepsEntries, nothing_asked, end_keeps, statement_kept, block_kept}
 use Rattle.table_flow.proofs.ArmEnds.{arm_ends, choose_weighted}
@@ -264,7 +266,7 @@ module _ (n : ℕ) (r : Option ℕ) where
     flow_statement Skip F I z = let a = spread_sure F (λ s. on s) I in omega arith
     flow_statement (Set x e) F I z = flow_set F x (value_of e) I
     flow_statement (Observe e) F I z = flow_seen F (value_of e) I z
-    flow_statement (Uniform x e) F I z = flow_drawn F x (value_of e) r I z
+    flow_statement (Uniform x e) F I z = rw (by_lists fractions_kind r x (value_of e) I) (flow_drawn F x (value_of e) r I z)
     flow_statement (If e a c) F I z =
         let A = only (holds (value_of e)) I in
         let C = only (fails (value_of e)) I in

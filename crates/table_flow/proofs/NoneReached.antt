@@ -8,9 +8,9 @@ use Rattle.gcl_core.specs.meaning.Blocks.{limit, by_value, by_bound}
 use Rattle.gcl_core.specs.meaning.Draw.{uniform_ends}
 use Rattle.gcl_core.specs.weighing.Fractions.{Fraction}
 use Rattle.gcl_core.specs.weighing.WeightedEnds.{Weighted, scaled, class_weight, no_class_weight}
-use Rattle.table_flow.specs.Tables.{Table, ReachedDraws, fractions_kind, all_end, draws_each, draw_weights, loop_flow, block_flow}
-use Rattle.table_flow.specs.Reached.{drawn_each, drawn_bound, loop_draws, statement_draws}
+use Rattle.table_flow.specs.Tables.{Table, ReachedDraws, fractions_kind, all_end, draws_each, draw_weights, block_flow}
 use Rattle.table_flow.specs.Scale.{whole, amount, weight, Wholes, Within}
+use Rattle.table_flow.proofs.FlowWords.{loop_flow, drawn_each, drawn_bound, loop_draws, statement_draws}
 use Rattle.table_flow.proofs.Amounts.{amount_append}
 use Rattle.table_flow.proofs.EachMember.{Each, Anything, each_anything}
 use Rattle.table_flow.proofs.KeptEntries.{KeepsEntries, nothing_asked, loop_kept, statement_kept, block_kept}

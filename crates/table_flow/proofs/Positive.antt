@@ -11,9 +11,9 @@ use Rattle.gcl_core.specs.weighing.WeightedEnds.{Weighted, sure, scaled, taken_o
 use Rattle.table_flow.proofs.WeightedParts.{uniform_weighted, value_weighted}
 use Rattle.gcl_core.proofs.EqualClasses.{last_of_equal}
 use Rattle.numbers.proofs.Divisors.{product_pos}
-use Rattle.table_flow.specs.Tables.{Table, Flow, weighted, fractions_kind, only, statement_flow, block_flow, arms_flow, draws_each, draw_weights}
-use Rattle.table_flow.specs.Reached.{drawn_each}
+use Rattle.table_flow.specs.Tables.{Table, Flow, weighted, fractions_kind, only, statement_flow, block_flow, draws_each, draw_weights}
 use Rattle.table_flow.specs.Width.{weights, table_weights, fractions}
+use Rattle.table_flow.proofs.FlowWords.{arms_flow, drawn_each}
 use Rattle.table_flow.proofs.Denominators.{AllPositive}
 use Rattle.table_flow.proofs.EachMember.{Each, each_append}
 use Rattle.table_flow.proofs.KeptEntries.{FlowHas, KeepsEntries, only_keeps, end_keeps, statement_kept, block_kept, arms_kept}

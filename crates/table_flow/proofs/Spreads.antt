@@ -7,7 +7,8 @@ use Rattle.gcl_core.specs.meaning.Draw.{uniform_ends}
 use Rattle.gcl_core.specs.weighing.Fractions.{Fraction, one, times}
 use Rattle.gcl_core.specs.weighing.WeightedEnds.{Weighted, sure, scaled, taken_on, class_weight, no_class_weight, weighted_classes}
 use Rattle.table_flow.specs.Counts.{sum_below}
-use Rattle.table_flow.specs.Tables.{Table, set_below}
+use Rattle.table_flow.specs.Tables.{Table}
+use Rattle.table_flow.proofs.FlowWords.{set_below}
 use Rattle.table_flow.proofs.DrawnLists.{all_on, drawn_on, draw_list}
 
 -- what F gives the entries, added

@@ -6,9 +6,10 @@ use Rattle.gcl_core.specs.meaning.Value.{State, Value}
 use Rattle.gcl_core.specs.meaning.Blocks.{End, fault, limit, by_value, by_bound}
 use Rattle.gcl_core.specs.weighing.Fractions.{Fraction, one, times}
 use Rattle.gcl_core.specs.weighing.WeightedEnds.{Weighted, scaled, class_weight, no_class_weight}
-use Rattle.table_flow.specs.Tables.{Table, all_end, set_below, set_drawn, not_drawn}
+use Rattle.table_flow.specs.Tables.{Table, all_end}
 use Rattle.table_flow.specs.Scale.{whole, Whole, Wholes, amount}
-use Rattle.table_flow.specs.Counts.{sum_below, part_at, rest_at, drawn, undrawn, multiplied}
+use Rattle.table_flow.specs.Counts.{sum_below, part_at, rest_at, drawn, undrawn}
+use Rattle.table_flow.proofs.FlowWords.{set_below, set_drawn, not_drawn, multiplied}
 use Rattle.numbers.proofs.Divisors.{product_pos}
 use Rattle.table_flow.proofs.Wholes.{whole_from}
 use Rattle.table_flow.proofs.Amounts.{amount_append, amount_none, amount_sum, whole_zero, ends_first, ends_second}

@@ -1,12 +1,11 @@
 -- What a state counts once a statement has passed, where what counts is given for what goes on or for what ended.
-use Rattle.std.specs.Prelude.{ℕ, zero, suc, ◌+◌, pos, Bool, cond, Option, map, slice_set}
+use Rattle.std.specs.Prelude.{ℕ, zero, suc, ◌+◌, pos, Bool, cond, Option, slice_set}
 use Rattle.gcl_core.specs.declared.answers.Fault.TheVariants.{BadBound}
 use Rattle.gcl_core.specs.declared.answers.Limit.TheVariants.{Attempts}
 use Rattle.gcl_core.specs.meaning.Value.{State, Value}
 use Rattle.gcl_core.specs.meaning.Blocks.{End, fault, limit, by_value, by_bound}
-use Rattle.gcl_core.specs.weighing.Fractions.{Fraction, one, times}
+use Rattle.gcl_core.specs.weighing.Fractions.{Fraction, one}
 use Rattle.gcl_core.specs.weighing.WeightedEnds.{class_weight, no_class_weight}
-use Rattle.table_flow.specs.Tables.{Table}
 
 -- a state with x set to a value; none, where the value is a fault
 abbrev pub moved : ℕ → (State → Value) → (State → ℕ) → State → ℕ
@@ -52,7 +51,3 @@ drawn x v G s = by_value (v s) (λ f. 0) (λ z. by_bound z 0 (λ m. sum_below m 
 
 abbrev pub undrawn : (State → Value) → (End → ℕ) → State → ℕ
 undrawn v G s = by_value (v s) (λ f. G (fault f)) (λ z. by_bound z (G (fault BadBound)) (λ m. G (limit Attempts)))
-
--- a table with each weight multiplied, by what is given for its state
-abbrev pub multiplied : (State → Fraction) → Table → Table
-multiplied p I = map (λ e. (times e.0 (p e.1), e.1)) I

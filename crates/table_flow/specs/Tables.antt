@@ -94,10 +94,6 @@ beside f g = record {
   reached = f.reached ++ g.reached;
 }
 
--- and besides, some states ended
-abbrev pub both : {X Y : Type 0} → List Y → FlowOf X Y → FlowOf X Y → FlowOf X Y
-both ended f g = beside (stands [] [] ended) (beside f g)
-
 -- a flow, and that from where it led
 abbrev pub behind : {X Y : Type 0} → FlowOf X Y → FlowOf X Y → FlowOf X Y
 behind f g = record {
@@ -127,6 +123,11 @@ module _ {X Y : Type 0} (x : Entries X Y) where
   set_go i v [] = []
   set_go i v (e ∷ J) = by_value (v (x.state e)) (λ f. set_go i v J) (λ z. x.moved_to (slice_set (x.state e) i z) e ∷ set_go i v J)
 
+  -- a variable set to each number below m
+  abbrev pub below_go : ℕ → ℕ → List X → List X
+  below_go i zero J = []
+  below_go i (suc m) J = below_go i m J ++ map (λ e. x.moved_to (slice_set (x.state e) i (pos m)) e) J
+
   -- at most t turns of a loop, from the table J on
   abbrev pub loop_go : (List X → List (List X)) → (State → Value) → (List X → FlowOf X Y) → ℕ → List X → FlowOf X Y
   loop_go seen guard body zero J =
@@ -135,47 +136,31 @@ module _ {X Y : Type 0} (x : Entries X Y) where
       let f = body (only_go (holds guard) J) in
       beside (stands (seen J) (only_go (fails guard) J) (faults_go guard J)) (behind f (loop_go seen guard body t f.next))
 
--- a variable set to each number below m
-abbrev pub below_go : {X Y : Type 0} → Entries X Y → ℕ → ℕ → List X → List X
-below_go x i zero J = []
-below_go x i (suc m) J = below_go x i m J ++ map (λ e. x.moved_to (slice_set (x.state e) i (pos m)) e) J
-
-module _ {X Y : Type 0} (k : Kind X Y) where
-  -- a variable set to each number below the value of an expression
-  abbrev pub drawn_go : ℕ → (State → Value) → Option ℕ → List X → List X
-  drawn_go i v r [] = []
-  drawn_go i v r (e ∷ J) =
-      by_value (v (k.entries.state e)) (λ f. []) (λ z. by_bound z [] (λ m. below_go k.entries i m (k.class m r 1 (e ∷ [])))) ++ drawn_go i v r J
-
-  -- and the states in which there is no such number, or no attempt gives one
-  abbrev pub undrawn_go : (State → Value) → Option ℕ → List X → List Y
-  undrawn_go v r [] = []
-  undrawn_go v r (e ∷ J) =
-      by_value (v (k.entries.state e)) (λ f. k.entries.as_end (fault f) e ∷ [])
-      (λ z. by_bound z (k.entries.as_end (fault BadBound) e ∷ []) (λ m. end_go k.entries (limit Attempts) (k.rest m r (e ∷ [])))) ++ undrawn_go v r J
-
-  -- the weights that these draws show
-  abbrev pub shown_go : (State → Value) → Option ℕ → List X → List Fraction
-  shown_go v r [] = []
-  shown_go v r (e ∷ J) = by_value (v (k.entries.state e)) (λ f. []) (λ z. by_bound z [] (λ m. k.shown m r (e ∷ []))) ++ shown_go v r J
-
-  -- and these draws
-  abbrev pub reached_go : (State → Value) → List X → ReachedDraws
-  reached_go v [] = []
-  reached_go v (e ∷ J) = by_value (v (k.entries.state e)) (λ f. []) (λ z. by_bound z [] (λ m. k.reached (uniform_ends m) (e ∷ []))) ++ reached_go v J
-
--- under a limit of n turns, and of r attempts or none
-module _ {X Y : Type 0} (k : Kind X Y) (n : ℕ) (r : Option ℕ) where
-  -- a draw by these ends, among b numbers: no attempt decides it
-  abbrev pub draw_go : ℕ → List ℕ → List X → FlowOf X Y
-  draw_go b ends J = record {
-    next = [];
+module _ {X Y : Type 0} (k : Kind X Y) (r : Option ℕ) where
+  -- a draw by these ends, among b numbers, with what goes on behind it: no attempt decides it
+  abbrev pub draw_go : ℕ → List ℕ → List X → List X → FlowOf X Y
+  draw_go b ends next J = record {
+    next = next;
     ended = end_go k.entries (limit Attempts) (k.rest b r J);
     tables = [];
     draws = k.shown b r J;
     reached = k.reached ends J;
   }
 
+  -- from one state, a variable set to each number below a value, if it is no fault and there is such a number
+  abbrev pub number_go : ℕ → Value → X → FlowOf X Y
+  number_go i o e =
+      by_value o (λ f. stands [] [] (k.entries.as_end (fault f) e ∷ []))
+      (λ z. by_bound z (stands [] [] (k.entries.as_end (fault BadBound) e ∷ []))
+      (λ m. draw_go m (uniform_ends m) (below_go k.entries i m (k.class m r 1 (e ∷ []))) (e ∷ [])))
+
+  -- the same from each state of a table, by an expression
+  abbrev pub uniform_go : ℕ → (State → Value) → List X → FlowOf X Y
+  uniform_go i v [] = no_flow
+  uniform_go i v (e ∷ J) = beside (number_go i (v (k.entries.state e)) e) (uniform_go i v J)
+
+-- under a limit of n turns, and of r attempts or none
+module _ {X Y : Type 0} (k : Kind X Y) (n : ℕ) (r : Option ℕ) where
   abbrev mutual
     pub statement_go : Statement → List X → FlowOf X Y
     statement_go Skip J = stands [] J []
@@ -183,20 +168,15 @@ module _ {X Y : Type 0} (k : Kind X Y) (n : ℕ) (r : Option ℕ) where
     statement_go (Observe e) J =
         stands [] (only_go k.entries (holds (value_of e)) J)
         (faults_go k.entries (value_of e) J ++ end_go k.entries failed (only_go k.entries (fails (value_of e)) J))
-    statement_go (Uniform x e) J = record {
-      next = drawn_go k x (value_of e) r J;
-      ended = undrawn_go k (value_of e) r J;
-      tables = [];
-      draws = shown_go k (value_of e) r J;
-      reached = reached_go k (value_of e) J;
-    }
+    statement_go (Uniform x e) J = uniform_go k r x (value_of e) J
     statement_go (If e a c) J =
-        both (faults_go k.entries (value_of e) J) (block_go a (only_go k.entries (holds (value_of e)) J)) (block_go c (only_go k.entries (fails (value_of e)) J))
+        beside (stands [] [] (faults_go k.entries (value_of e) J))
+        (beside (block_go a (only_go k.entries (holds (value_of e)) J)) (block_go c (only_go k.entries (fails (value_of e)) J)))
     statement_go (Choice p a c) J =
-        beside (draw_go p.den (choice_ends p) J) (beside (block_go a (k.class p.den r p.num J)) (block_go c (k.class p.den r (p.den - p.num) J)))
+        beside (draw_go k r p.den (choice_ends p) [] J) (beside (block_go a (k.class p.den r p.num J)) (block_go c (k.class p.den r (p.den - p.num) J)))
     statement_go (Choose arms) J =
         let b = sum (parts_of arms) in
-        beside (draw_go b (partial_sums (parts_of arms)) J) (arms_go b arms J)
+        beside (draw_go k r b (partial_sums (parts_of arms)) [] J) (arms_go b arms J)
     statement_go (While e a) J = loop_go k.entries k.at_loop (value_of e) (block_go a) n J
 
     pub block_go : Statements → List X → FlowOf X Y
@@ -237,34 +217,11 @@ faults = faults_go weighted
 abbrev pub all_end : End → Table → Weighted End
 all_end = end_go weighted
 
--- x set to the value of an expression
-abbrev pub set_to : ℕ → (State → Value) → Table → Table
-set_to = set_go weighted
-
--- x set to each number below m, and below the value of an expression
-abbrev pub set_below : ℕ → ℕ → Table → Table
-set_below = below_go weighted
-
-abbrev pub set_drawn : ℕ → (State → Value) → Option ℕ → Table → Table
-set_drawn = drawn_go fractions_kind
-
-abbrev pub not_drawn : (State → Value) → Option ℕ → Table → Weighted End
-not_drawn = undrawn_go fractions_kind
-
-abbrev pub bound_draws : (State → Value) → Option ℕ → Table → List Fraction
-bound_draws = shown_go fractions_kind
-
-abbrev pub loop_flow : (State → Value) → (Table → Flow) → ℕ → Table → Flow
-loop_flow = loop_go weighted (λ I. I ∷ [])
-
 abbrev pub statement_flow : ℕ → Option ℕ → Statement → Table → Flow
 statement_flow = statement_go fractions_kind
 
 abbrev pub block_flow : ℕ → Option ℕ → Statements → Table → Flow
 block_flow = block_go fractions_kind
-
-abbrev pub arms_flow : ℕ → Option ℕ → ℕ → ArmList → Table → Flow
-arms_flow = arms_go fractions_kind
 
 -- ---- the peak
 

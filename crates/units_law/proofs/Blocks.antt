@@ -9,13 +9,15 @@ use Rattle.gcl_core.specs.meaning.Bounds.{StatementIsWeighed, BlockIsWeighed, Ar
 use Rattle.gcl_core.specs.meaning.Value.{State, Value, value_of}
 use Rattle.gcl_core.specs.meaning.Blocks.{End, failed, limit}
 use Rattle.gcl_core.specs.weighing.WeightedEnds.{Weighted, scaled, class_weight, no_class_weight}
-use Rattle.table_flow.specs.Tables.{Table, FlowOf, Flow, Kind, holds, fails, only, faults, all_end, both, only_go, faults_go, end_go, loop_go, statement_go, block_go, arms_go, loop_flow, statement_flow, block_flow, arms_flow, states}
+use Rattle.table_flow.specs.Tables.{Table, FlowOf, Flow, Kind, holds, fails, only, faults, all_end, only_go, faults_go, end_go, loop_go, statement_go, block_go, arms_go, statement_flow, block_flow, states, fractions_kind}
 use Rattle.table_flow.specs.Counts.{moved, stopped, kept_if, all_stopped}
 use Rattle.table_flow.specs.Scale.{Wholes, Within}
+use Rattle.table_flow.proofs.FlowWords.{both, loop_flow, arms_flow}
 use Rattle.table_flow.proofs.Amounts.{ends_whole, both_first, both_second, ends_first, amount_set, amount_only, amount_faults, amount_all_end}
 use Rattle.table_flow.proofs.Draws.{class_pos, no_class_pos}
 use Rattle.table_flow.proofs.InsideFlows.{head_whole, first_inside, others_inside, turn_inside, turns_inside, side_first, side_second, undecided_whole, choose_inside, first_arm, other_arms}
 use Rattle.table_flow.proofs.Uniforms.{drawn_next, drawn_ended, drawn_whole}
+use Rattle.table_flow.proofs.UniformLists.{by_lists}
 use Rattle.units_law.proofs.Counted.{Counts, StandsIn, Stands, counted_as, joined, none_stands, times_stands, of_append, of_only, of_faults, of_end, of_set}
 use Rattle.units_law.proofs.Drawn.{drawn_stands, undrawn_stands}
 use Rattle.units_law.proofs.Orders.{IsOrder}
@@ -133,12 +135,13 @@ module _ {X Y : Type 0} (k : Kind X Y) (c : Counts k.entries) (R : ℕ → ℕ �
           }
       statement_stands (Uniform x e) p J I w y s h =
           let v = value_of e in
-          let q = drawn_whole x v r N I w y s.ended in
-          record {
+          let u = by_lists fractions_kind r x v I in
+          let q = drawn_whole x v r N I w (subst (λ f. Wholes N f.next) u y) (subst (λ f. Wholes N f.ended) u s.ended) in
+          rw u (rw (by_lists k r x v J) (record {
             next = λ G. rw (drawn_next x v r N G I) (drawn_stands k c R o r stands D S N J I h w x v q.0 G);
             ended = λ G. rw (drawn_ended x v r N G I) (undrawn_stands k c R o r stands D S N J I h w v q.1 G);
             few = no_tables;
-          }
+          }))
       statement_stands (If e a b) p J I w y s h =
           let v = value_of e in
           let A = only_go k.entries (holds v) J in

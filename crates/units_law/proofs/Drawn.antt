@@ -7,9 +7,11 @@ use Rattle.gcl_core.specs.meaning.Value.{State, Value}
 use Rattle.gcl_core.specs.meaning.Blocks.{End, fault, limit, by_value, by_bound}
 use Rattle.gcl_core.specs.weighing.Fractions.{Fraction, one, times}
 use Rattle.gcl_core.specs.weighing.WeightedEnds.{class_weight, no_class_weight}
-use Rattle.table_flow.specs.Tables.{Table, Kind, end_go, below_go, drawn_go, undrawn_go}
-use Rattle.table_flow.specs.Counts.{sum_below, part_at, rest_at, drawn, undrawn, multiplied, all_stopped}
+use Rattle.table_flow.specs.Tables.{Table, Kind, end_go, below_go}
+use Rattle.table_flow.specs.Counts.{sum_below, part_at, rest_at, drawn, undrawn, all_stopped}
 use Rattle.table_flow.specs.Scale.{whole, Wholes, amount}
+use Rattle.table_flow.proofs.FlowWords.{multiplied}
+use Rattle.table_flow.proofs.UniformLists.{drawn_go, undrawn_go}
 use Rattle.numbers.proofs.Divisors.{product_pos}
 use Rattle.table_flow.proofs.Draws.{share, class_pos, no_class_pos}
 use Rattle.units_law.proofs.Counted.{Counts, StandsIn, Stands, of_append, of_below, of_end}

@@ -1,3 +1,4 @@
+pub mod UnitWords
 pub mod States
 pub mod Merging
 pub mod FittingUnits

@@ -9,9 +9,10 @@ use Rattle.gcl_core.specs.weighing.Fractions.{Fraction}
 use Rattle.gcl_core.specs.weighing.WeightedEnds.{class_weight, no_class_weight}
 use Rattle.table_flow.specs.Tables.{holds, fails}
 use Rattle.table_flow.proofs.Draws.{each_part, no_part, all_parts, parts_add_up, all_parts_pos, class_pos, no_class_pos, class_share, no_class_share}
-use Rattle.units_law.specs.Flows.{UnitFlow, both_units, all_units}
-use Rattle.units_law.specs.Rounding.{Rounding, RoundsDown, LosesFew, class_units, rest_units, drawn_units, undrawn_units}
-use Rattle.units_law.specs.Units.{Units, total, only_units, fault_units, end_units, set_units, below_units}
+use Rattle.units_law.specs.Flows.{UnitFlow, all_units}
+use Rattle.units_law.specs.Rounding.{Rounding, RoundsDown, LosesFew, class_units, rest_units}
+use Rattle.units_law.specs.Units.{Units, total, only_units, fault_units, end_units, set_units}
+use Rattle.units_law.proofs.UnitWords.{both_units, drawn_units, undrawn_units, below_units}
 use Rattle.units_law.proofs.Held.{held_append}
 use Rattle.units_law.proofs.Roundings.{bound_roundings, first_bound}
 use Rattle.units_law.proofs.Orders.{from_left}

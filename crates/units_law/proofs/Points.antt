@@ -16,17 +16,19 @@ use Rattle.gcl_core.specs.meaning.Value.{State, Value, value_of}
 use Rattle.gcl_core.specs.text.ReadingOrder.{statement_listed, listed, arms_listed}
 use Rattle.gcl_core.specs.weighing.WeightedEnds.{sure, scaled, class_weight}
 use Rattle.table_flow.specs.Scale.{Wholes, Within}
-use Rattle.table_flow.specs.Tables.{Table, holds, fails, only, faults, loop_flow, statement_flow, block_flow, arms_flow, peak_of, tables_of}
+use Rattle.table_flow.specs.Tables.{Table, holds, fails, only, faults, statement_flow, block_flow, peak_of, tables_of, fractions_kind}
 use Rattle.table_flow.specs.Width.{round_width}
+use Rattle.table_flow.proofs.FlowWords.{loop_flow, arms_flow}
 use Rattle.table_flow.proofs.Amounts.{both_first, both_second}
 use Rattle.table_flow.proofs.AtWidth.{at_width}
 use Rattle.table_flow.proofs.FittingTables.{fit_only, statement_fit, block_fit}
 use Rattle.table_flow.proofs.InsideFlows.{head_whole, first_inside, others_inside, turn_inside, turns_inside, side_first, side_second, choose_inside, first_arm, other_arms}
+use Rattle.table_flow.proofs.UniformLists.{by_lists}
 use Rattle.units_law.specs.Below.{IsBelow}
-use Rattle.units_law.specs.Flows.{loop_units, statement_units, block_units}
+use Rattle.units_law.specs.Flows.{statement_units, block_units}
 use Rattle.units_law.specs.Merged.{merged}
 use Rattle.units_law.specs.Rounding.{Rounding, RoundsDown, class_units, units_kind}
-use Rattle.units_law.specs.Roundings.{roundings_of, block_roundings, round_roundings}
+use Rattle.units_law.specs.Roundings.{roundings_of, round_roundings}
 use Rattle.units_law.specs.Units.{Units, counted_units, only_units}
 use Rattle.units_law.proofs.UnitsBelow.{merged_below, only_below, class_below, statement_below, block_below}
 use Rattle.units_law.proofs.FewStates.{states_few}
@@ -36,6 +38,7 @@ use Rattle.units_law.proofs.Roundings.{bound_roundings, first_bound, arms_roundi
 use Rattle.units_law.specs.Points.{points_of, most_states}
 use Rattle.units_law.proofs.SamePoints.{peaks_are_same, as_many_points}
 use Rattle.units_law.specs.FewOthers.{numbers_at, DrawsWithin, BlockWithin}
+use Rattle.units_law.proofs.UnitWords.{loop_units, block_roundings}
 
 -- ---- a fact of all members of two lists
 all_left : {X : Type 0} (P : X → Type 0) (xs ys : List X) → All P (xs ++ ys) → All P xs
@@ -115,7 +118,7 @@ module _ (cut : Rounding) (c : RoundsDown cut) (N L n : ℕ) (some : 0 < N) (r :
     statement_few (Uniform x e) p g d J I f l w s h =
         let y = bounds_few M cut (value_of e) (All-head (DrawsWithin M) (Uniform x e) [] d) J f in
         let z = mul-le-mul_right (M + 1) l in
-        omega arith
+        rw (by_lists (units_kind cut) r x (value_of e) J) (rw (by_lists fractions_kind r x (value_of e) I) (omega arith))
     statement_few (If e a b) p g d J I t l w s h =
         let v = value_of e in
         let q = All-tail (DrawsWithin M) (If e a b) (listed a ++ listed b) d in

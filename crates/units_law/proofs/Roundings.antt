@@ -10,11 +10,13 @@ use Rattle.gcl_core.specs.meaning.Value.{State, Value}
 use Rattle.gcl_core.specs.weighing.Fractions.{one}
 use Rattle.gcl_core.proofs.PartialSums.{as_many}
 use Rattle.gcl_core.proofs.Uniform.{uniform_length}
-use Rattle.table_flow.specs.Tables.{ReachedDraws, reached_go}
-use Rattle.units_law.specs.Flows.{block_units, arms_units}
+use Rattle.table_flow.specs.Tables.{ReachedDraws}
+use Rattle.table_flow.proofs.UniformLists.{reached_go}
+use Rattle.units_law.specs.Flows.{block_units}
 use Rattle.units_law.specs.Rounding.{Rounding, class_units, units_kind}
-use Rattle.units_law.specs.Roundings.{roundings_of, block_roundings}
+use Rattle.units_law.specs.Roundings.{roundings_of}
 use Rattle.units_law.specs.Units.{Units}
+use Rattle.units_law.proofs.UnitWords.{arms_units, block_roundings}
 
 pub both_roundings : (ds es : ReachedDraws) → roundings_of (ds ++ es) ≡ roundings_of ds + roundings_of es
 both_roundings [] es = omega arith

@@ -11,11 +11,13 @@ use Rattle.gcl_core.specs.meaning.Syntax.{Statement, Skip, Set, If, While, Choic
 use Rattle.gcl_core.specs.meaning.Value.{State, Value, value_of}
 use Rattle.gcl_core.specs.weighing.Fractions.{Fraction}
 use Rattle.gcl_core.specs.weighing.WeightedEnds.{Weighted, sure, scaled, taken_on, class_weight, statement_weighted, weighted_ends}
-use Rattle.table_flow.specs.Tables.{Table, Flow, holds, fails, only, loop_flow, statement_flow, block_flow, arms_flow, states, peak_of, tables_of}
+use Rattle.table_flow.specs.Tables.{Table, Flow, holds, fails, only, statement_flow, block_flow, states, peak_of, tables_of, fractions_kind}
 use Rattle.table_flow.specs.Tables as table
+use Rattle.table_flow.proofs.FlowWords.{loop_flow, arms_flow}
 use Rattle.table_flow.proofs.EachMember.{each_append}
 use Rattle.table_flow.proofs.Spreads.{sum_of_all, after_weight, Zero, spread, sum_none, sum_scaled, sum_taken, zero_after}
 use Rattle.table_flow.proofs.Linear.{flowed, NoOn, IsOver, no_one, flow_statement, flow_paths}
+use Rattle.table_flow.proofs.UniformLists.{by_lists}
 use Rattle.units_law.specs.Points.{Point, going_on, where_true, loop_points, statement_points, block_points, arms_points, points_of, most_states}
 use Rattle.units_law.proofs.FewStates.{member_unique}
 use Rattle.units_law.proofs.SomeWeight.{HaveWeight, AllHaveWeight, tables_have, block_points_have}
@@ -124,7 +126,7 @@ module _ (n : ℕ) (r : Option ℕ) where
     statement_alike Skip I J h = tt
     statement_alike (Set x e) I J h = tt
     statement_alike (Observe e) I J h = tt
-    statement_alike (Uniform x e) I J h = tt
+    statement_alike (Uniform x e) I J h = rw (by_lists fractions_kind r x (value_of e) I) tt
     statement_alike (If e a c) I J h =
         let v = value_of e in
         joined (block_flow n r a (only (holds v) I)).tables (block_points n r a (where_true v J)) _ _ (block_alike a _ _ (only_alike (holds v) I J h)) (block_alike c _ _ (only_alike (fails v) I J h))

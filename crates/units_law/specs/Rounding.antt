@@ -1,10 +1,10 @@
 -- Products rounded to whole units. This project's own rule.
 use Rattle.std.specs.Prelude.{ℕ, ◌+◌, ◌*◌, ◌≤◌, ◌<◌, [], map, Option}
-use Rattle.gcl_core.specs.meaning.Value.{State, Value}
+use Rattle.gcl_core.specs.meaning.Value.{State}
 use Rattle.gcl_core.specs.meaning.Blocks.{End}
 use Rattle.gcl_core.specs.weighing.Fractions.{one}
 use Rattle.gcl_core.specs.weighing.WeightedEnds.{class_weight, no_class_weight}
-use Rattle.table_flow.specs.Tables.{Kind, drawn_go, undrawn_go}
+use Rattle.table_flow.specs.Tables.{Kind}
 use Rattle.units_law.specs.Units.{Units, counted_units}
 use Rattle.units_law.specs.Merged.{merged}
 
@@ -45,11 +45,3 @@ module _ (cut : Rounding) where
     shown = λ b r J. [];
     reached = λ ends J. map (λ e. (one, ends)) J;
   }
-
-  -- x set to each number below the value of an expression
-  abbrev pub drawn_units : ℕ → (State → Value) → Option ℕ → Units State → Units State
-  drawn_units = drawn_go units_kind
-
-  -- and the states in which there is no such number, or no attempt gives one
-  abbrev pub undrawn_units : (State → Value) → Option ℕ → Units State → Units End
-  undrawn_units = undrawn_go units_kind

@@ -2,7 +2,7 @@
 use Rattle.std.specs.Prelude.{ℕ, ◌+◌, ◌*◌, Bool, List, [], ◌∷◌}
 use Rattle.gcl_core.specs.meaning.Value.{State, Value}
 use Rattle.gcl_core.specs.meaning.Blocks.{End}
-use Rattle.table_flow.specs.Tables.{Entries, only_go, faults_go, end_go, set_go, below_go}
+use Rattle.table_flow.specs.Tables.{Entries, only_go, faults_go, end_go, set_go}
 
 -- a list of members, each with its units; a member may stand in it more than once
 abbrev pub Units : Type 0 → Type 0
@@ -37,7 +37,3 @@ end_units = end_go counted_units
 -- x set to the value of an expression, but for the faults
 abbrev pub set_units : ℕ → (State → Value) → Units State → Units State
 set_units = set_go counted_units
-
--- x set to each number below m, each with w units
-abbrev pub below_units : (x m : ℕ) → State → ℕ → Units State
-below_units x m s w = below_go counted_units x m ((s, w) ∷ [])

@@ -15,7 +15,7 @@ ghost use Rattle.units_law.specs.Down.{down, again_down, again_up};
 ghost use Rattle.units_law.specs.Flows.{all_units, block_units};
 ghost use Rattle.units_law.specs.Merged.{IsMerged, merged, put_all};
 ghost use Rattle.units_law.specs.Rounding.{Rounding, RoundsDown, LosesFew};
-ghost use Rattle.units_law.specs.Roundings.{block_roundings, round_roundings};
+ghost use Rattle.units_law.specs.Roundings.{roundings_of, round_roundings};
 ghost use Rattle.units_law.specs.Rounds.{StandsBelow, round_units, meant_units, failed_units};
 ghost use Rattle.units_law.specs.Units.{Units, held, total};
 
@@ -65,7 +65,7 @@ pub fn units_are_lost_by_rounding()
     ensures none_made { (cut : Rounding) → RoundsDown cut → (n : ℕ) (r : Option ℕ) (b : Statements) → BlockIsWeighed b →
         (J : Units State) → all_units (block_units cut n r b J) ≤ total J }
     ensures few_lost { (cut : Rounding) → RoundsDown cut → (k n : ℕ) (r : Option ℕ) → LosesFew k ALL r cut → (b : Statements) → BlockIsWeighed b →
-        (J : Units State) → total J ≤ ALL → total J ≤ all_units (block_units cut n r b J) + k * block_roundings cut n r b J }
+        (J : Units State) → total J ≤ ALL → total J ≤ all_units (block_units cut n r b J) + k * roundings_of (block_units cut n r b J).reached }
     ensures in_a_round { (cut : Rounding) → RoundsDown cut → (k n : ℕ) (r : Option ℕ) → LosesFew k ALL r cut → (p : SourceProgram) → BlockIsWeighed p.body →
         ALL ≤ all_units (round_units cut p n r) + k * round_roundings cut p n r }
 {}

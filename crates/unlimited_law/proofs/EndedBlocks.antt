@@ -11,7 +11,8 @@ use Rattle.gcl_core.specs.weighing.Fractions.{Fraction, zero_share, plus}
 use Rattle.gcl_core.specs.weighing.Mass.{sum_of}
 use Rattle.gcl_core.specs.weighing.WeightedEnds.{Weighted, scaled, class_weight}
 use Rattle.weighing_law.proofs.Shares.{product_pos}
-use Rattle.table_flow.specs.Tables.{Table, Flow, weighted, holds, fails, only, faults, loop_flow, statement_flow, block_flow, arms_flow}
+use Rattle.table_flow.specs.Tables.{Table, Flow, weighted, holds, fails, only, faults, statement_flow, block_flow}
+use Rattle.table_flow.proofs.FlowWords.{loop_flow, arms_flow}
 use Rattle.table_flow.proofs.KeptEntries.{faults_keep}
 use Rattle.table_flow.proofs.Positive.{HasPositive, Positive, p_append, p_scaled, p_only, p_one, p_all, p_arms}
 use Rattle.table_flow.proofs.Spreads.{sum_append}

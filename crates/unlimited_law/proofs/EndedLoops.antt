@@ -6,7 +6,8 @@ use Rattle.gcl_core.specs.meaning.Value.{State, Value}
 use Rattle.gcl_core.specs.meaning.Blocks.{End, on, failed, fault, limit, by_value}
 use Rattle.gcl_core.specs.weighing.Fractions.{Fraction}
 use Rattle.gcl_core.specs.weighing.WeightedEnds.{Weighted}
-use Rattle.table_flow.specs.Tables.{Table, holds, fails, only, faults, all_end, loop_flow, block_flow}
+use Rattle.table_flow.specs.Tables.{Table, holds, fails, only, faults, all_end, block_flow}
+use Rattle.table_flow.proofs.FlowWords.{loop_flow}
 use Rattle.table_flow.proofs.Positive.{Positive, p_append, p_only}
 use Rattle.table_flow.proofs.Spreads.{sum_of_all, Zero, sum_append}
 use Rattle.unlimited_law.proofs.LinearFlows.{numerators, next_adds, ended_adds, next_nothing, ended_nothing}

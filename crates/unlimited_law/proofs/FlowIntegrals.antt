@@ -6,9 +6,11 @@ use Rattle.gcl_core.specs.meaning.Value.{State, Value, is_zero}
 use Rattle.gcl_core.specs.meaning.Blocks.{End, on, failed, fault, limit, by_value, by_truth, by_bound}
 use Rattle.gcl_core.specs.weighing.Fractions.{Fraction}
 use Rattle.gcl_core.specs.weighing.WeightedEnds.{Weighted, sure, scaled, class_weight, no_class_weight}
-use Rattle.table_flow.specs.Tables.{Table, holds, fails, only, faults, all_end, set_to, set_below, set_drawn, not_drawn}
+use Rattle.table_flow.specs.Tables.{Table, holds, fails, only, faults, all_end, fractions_kind, uniform_go}
+use Rattle.table_flow.proofs.FlowWords.{set_to, set_below, set_drawn, not_drawn}
 use Rattle.table_flow.proofs.DrawnLists.{all_on, draw_list}
 use Rattle.table_flow.proofs.WeightedParts.{value_weighted, uniform_weighted}
+use Rattle.table_flow.proofs.UniformLists.{by_lists}
 use Rattle.unlimited_law.proofs.Numbers.{Rational, ◌⊕◌, ◌⊗◌, ◌≃◌, nought, same_refl, same_sym, same_trans, add_same, times_same, nought_add, add_nought, add_assoc}
 use Rattle.unlimited_law.proofs.FractionNumbers.{of}
 use Rattle.unlimited_law.proofs.Integrals.{integral, regroup4, integral_append, integral_same, integral_sum, integral_nought, integral_times, integral_scaled, integral_sure, stop, behind, guarded, integral_guard}
@@ -109,11 +111,11 @@ draw_counted H x m s =
     (same_trans (on_integral H J)
     (same_trans (below_integral (λ s. H (on s)) x (suc m) (scaled u (sure s))) (same_trans (integral_scaled u G (sure s)) (times_same (of u) (integral_sure G s)))))))
 
-pub drawn_counted : (H : End → Rational) (x : ℕ) (v : State → Value) (I : Table) →
+lists_counted : (H : End → Rational) (x : ℕ) (v : State → Value) (I : Table) →
     integral (λ s. integral H (value_weighted (v s) (λ z. uniform_weighted None x z s))) I ≃ counted H (set_drawn x v None I) (not_drawn v None I)
-drawn_counted H x v [] = same_sym (nought_add nought)
-drawn_counted H x v (e ∷ I) =
-    same_trans (add_same (same_trans (same_sym (add_nought _)) (by_state (v e.1))) (drawn_counted H x v I))
+lists_counted H x v [] = same_sym (nought_add nought)
+lists_counted H x v (e ∷ I) =
+    same_trans (add_same (same_trans (same_sym (add_nought _)) (by_state (v e.1))) (lists_counted H x v I))
     (same_sym (counted_append H (by_value (v e.1) (λ f. []) goes) (set_drawn x v None I) (by_value (v e.1) (λ f. (e.0, fault f) ∷ []) stops) (not_drawn v None I)))
   where
     goes : ℤ → Table
@@ -137,3 +139,8 @@ drawn_counted H x v (e ∷ I) =
     by_state : (o : Value) → integral (λ s. integral H (value_weighted o (λ z. uniform_weighted None x z s))) (e ∷ []) ≃ counted H (by_value o (λ f. []) goes) (by_value o (λ f. (e.0, fault f) ∷ []) stops)
     by_state (Ok z) = by_sign z
     by_state (Err f) = ended (fault f)
+
+-- of the flow of a uniform draw
+pub drawn_counted : (H : End → Rational) (x : ℕ) (v : State → Value) (I : Table) →
+    integral (λ s. integral H (value_weighted (v s) (λ z. uniform_weighted None x z s))) I ≃ counted H (uniform_go fractions_kind None x v I).next (uniform_go fractions_kind None x v I).ended
+drawn_counted H x v I = rw (by_lists fractions_kind None x v I) (lists_counted H x v I)

@@ -7,7 +7,8 @@ use Rattle.gcl_core.specs.meaning.Syntax.{Statement, Skip, Set, If, While, Choic
 use Rattle.gcl_core.specs.meaning.Value.{value_of}
 use Rattle.gcl_core.specs.weighing.Fractions.{Fraction, zero_share, plus}
 use Rattle.gcl_core.specs.weighing.WeightedEnds.{Weighted, scaled, class_weight}
-use Rattle.table_flow.specs.Tables.{Table, Flow, holds, fails, only, statement_flow, block_flow, arms_flow}
+use Rattle.table_flow.specs.Tables.{Table, Flow, holds, fails, only, statement_flow, block_flow}
+use Rattle.table_flow.proofs.FlowWords.{arms_flow}
 use Rattle.table_flow.proofs.Positive.{Positive, p_scaled, p_only, p_one, p_all, p_arms}
 use Rattle.unlimited_law.specs.Alike.{Alike}
 use Rattle.unlimited_law.specs.LoopFree.{StatementFree, BlockFree, ArmsFree, flowed_out}

@@ -3,7 +3,7 @@ use Rattle.gcl_core.specs.meaning.Outcomes.{zeros}
 use Rattle.gcl_core.specs.weighing.WeightedEnds.{sure}
 use Rattle.gcl_core.proofs.Accepted.{checked_weights}
 use Rattle.table_flow.specs.Tables.{tables_of}
-use Rattle.table_flow.specs.Reached.{draws_of}
+use Rattle.table_flow.proofs.FlowWords.{draws_of}
 use Rattle.table_flow.proofs.Positive.{p_sure}
 use Rattle.unlimited_law.proofs.FreeBlocks as settling
 use Rattle.bits_law.specs.Draws.{bits_of_draws}

@@ -6,11 +6,12 @@ use Rattle.numbers.specs.declared.units.TheConstants.{ALL}
 use Rattle.gcl_core.specs.meaning.Arms.{parts_of}
 use Rattle.gcl_core.specs.meaning.Syntax.{Expression, Statement, Statements, ArmList, no_arm, arm}
 use Rattle.gcl_core.specs.meaning.Value.{State, value_of}
+use Rattle.table_flow.specs.Tables.{loop_go, arms_go}
 use Rattle.units_law.specs.Down.{down}
-use Rattle.units_law.specs.Flows.{UnitFlow, statement_units, block_units, arms_units, loop_units}
+use Rattle.units_law.specs.Flows.{UnitFlow, statement_units, block_units}
 use Rattle.units_law.specs.Merged.{merged}
-use Rattle.units_law.specs.Rounding.{class_units}
-use Rattle.units_law.specs.Units.{Units, total}
+use Rattle.units_law.specs.Rounding.{class_units, units_kind}
+use Rattle.units_law.specs.Units.{Units, counted_units, total}
 use Rattle.enclose_fold.specs.declared.error.EncloseError.{EncloseError}
 use Rattle.enclose_fold.specs.declared.ended.Ended.{Ended}
 use Rattle.enclose_fold.specs.declared.fold.Fold.{Fold}
@@ -50,7 +51,7 @@ StatementRefused f s t = StepRefused (statement_units down f.turns f.attempts s 
 -- ---- a loop
 
 abbrev pub turns_units : Fold → Expression → Statements → Units State → UnitFlow
-turns_units f e b = loop_units (value_of e) (block_units down f.turns f.attempts b) f.turns
+turns_units f e b = loop_go counted_units (λ J. []) (value_of e) (block_units down f.turns f.attempts b) f.turns
 
 abbrev pub LoopGives : Fold → Expression → Statements → Table → Ended → Table → Ended → Type 0
 LoopGives f e b t E t' E' = Gives (turns_units f e b t.states.entries) E t'.states.entries E'
@@ -61,7 +62,7 @@ LoopRefused f e b t = StepRefused (turns_units f e b t.states.entries)
 -- ---- the arms of a choice among several
 
 abbrev pub each_arm : Fold → ArmList → Table → UnitFlow
-each_arm f arms t = arms_units down f.turns f.attempts (sum (parts_of arms)) arms t.states.entries
+each_arm f arms t = arms_go (units_kind down) f.turns f.attempts (sum (parts_of arms)) arms t.states.entries
 
 abbrev pub ArmsGive : Fold → ArmList → Table → Ended → Table → Ended → Type 0
 ArmsGive f arms t E t' E' = Gives (each_arm f arms t) E t'.states.entries E'

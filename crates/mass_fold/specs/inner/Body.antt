@@ -7,7 +7,6 @@ use Rattle.gcl_core.specs.weighing.WeightedEnds.{weighted_ends}
 use Rattle.gcl_core.specs.weighing.Mass.{sum_of, failed_mass}
 use Rattle.numbers.specs.Fraction.{IsEqual}
 use Rattle.table_flow.specs.Scale.{amount}
-use Rattle.table_flow.specs.Reached.{draws_of}
 use Rattle.table_flow.specs.Tables.{tables_of}
 use Rattle.table_flow.specs.Width.{round_width}
 use Rattle.mass_fold.specs.declared.ended.Ended.{Ended}
@@ -33,5 +32,5 @@ pub record BodyGives (p : SourceProgram) (n : ℕ) (r : Option ℕ) (es : Entrie
 
 -- At the common denominator times a scale at which the parts of each draw that is reached are whole, the meter counts their bits.
 abbrev pub BodyMeters : SourceProgram → ℕ → Option ℕ → Meter → Meter → Type 0
-BodyMeters p n r m m' = (M : ℕ) → 0 < M → Priced r M (draws_of p n r)
-    → Counted (round_width p n r * M) (amount (round_width p n r) (price r M) (draws_of p n r)) m m'
+BodyMeters p n r m m' = (M : ℕ) → 0 < M → Priced r M (tables_of p n r).reached
+    → Counted (round_width p n r * M) (amount (round_width p n r) (price r M) (tables_of p n r).reached) m m'

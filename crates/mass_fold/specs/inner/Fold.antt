@@ -1,13 +1,13 @@
 -- What a fold makes of a table with each state once, beside what the definition makes of a table.
 use Rattle.std.specs.Prelude.{◌≡◌, ℕ, ◌+◌, ◌-◌, ◌*◌, Option, ◌<◌, ◌≤◌, ◌++◌}
-use Rattle.gcl_core.specs.meaning.Value.{State, value_of}
+use Rattle.gcl_core.specs.meaning.Value.{State}
 use Rattle.gcl_core.specs.declared.syntax.Weight.{Weight}
 use Rattle.gcl_core.specs.declared.answers.Limit.TheVariants.{Attempts}
 use Rattle.gcl_core.specs.meaning.Blocks.{End, limit}
 use Rattle.gcl_core.specs.weighing.Fractions.{Fraction}
 use Rattle.gcl_core.specs.weighing.WeightedEnds.{Weighted, scaled, class_weight, no_class_weight}
-use Rattle.gcl_core.specs.meaning.Syntax.{Expression, Statements}
-use Rattle.table_flow.specs.Tables.{Table, Flow, all_end, states, block_flow, loop_flow}
+use Rattle.gcl_core.specs.meaning.Syntax.{Expression, While, Statements}
+use Rattle.table_flow.specs.Tables.{Table, Flow, all_end, states, statement_flow}
 use Rattle.table_flow.specs.Scale.{Whole, Wholes, Within, amount, weight}
 use Rattle.mass_fold.specs.declared.error.MassError.{MassError}
 use Rattle.mass_fold.specs.declared.ended.Ended.{Ended}
@@ -127,4 +127,4 @@ SidesBlame p r es E e = (N L : ℕ) (I : Table) (J : Weighted End) → 0 < N →
 -- ---- a loop of at most n turns
 
 abbrev pub turns_flow : ℕ → Option ℕ → Expression → Statements → Table → Flow
-turns_flow n r e a = loop_flow (value_of e) (block_flow n r a) n
+turns_flow n r e a = statement_flow n r (While e a)

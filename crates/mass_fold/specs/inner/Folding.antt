@@ -5,7 +5,6 @@ use Rattle.gcl_core.specs.meaning.Arms.{parts_of}
 use Rattle.gcl_core.specs.meaning.Parts.{partial_sums}
 use Rattle.gcl_core.specs.meaning.Syntax.{Choose, Expression, Statement, Statements, ArmList}
 use Rattle.table_flow.specs.Tables.{statement_flow, block_flow}
-use Rattle.table_flow.specs.Reached.{statement_draws, block_draws}
 use Rattle.mass_fold.specs.declared.error.MassError.{MassError}
 use Rattle.mass_fold.specs.declared.ended.Ended.{Ended}
 use Rattle.mass_fold.specs.declared.fold.Fold.{Fold}
@@ -24,7 +23,7 @@ BlockBlames f b t E = FoldBlames (block_flow f.turns f.attempts.most b) t.states
 
 abbrev pub BlockMeters : Fold → Statements → Table → Ended → Meter → Meter → Type 0
 BlockMeters f b t E = let n = f.turns in let r = f.attempts.most in
-    Meters r (block_flow n r b) (block_draws n r b) t.states.entries E
+    Meters r (block_flow n r b) (λ I. (block_flow n r b I).reached) t.states.entries E
 
 -- ---- a statement
 
@@ -36,7 +35,7 @@ StatementBlames f s t E = OneBlames (statement_flow f.turns f.attempts.most s) t
 
 abbrev pub StatementMeters : Fold → Statement → Table → Ended → Meter → Meter → Type 0
 StatementMeters f s t E = let n = f.turns in let r = f.attempts.most in
-    MetersOne r (statement_flow n r s) (statement_draws n r s) t.states.entries E
+    MetersOne r (statement_flow n r s) (λ I. (statement_flow n r s I).reached) t.states.entries E
 
 -- ---- a loop
 

@@ -1,13 +1,12 @@
 -- What is counted of the bits of draws that are reached, at a scale.
 use Rattle.std.specs.Prelude.{◌≡◌, ℕ, zero, suc, ◌+◌, ◌*◌, ◌≤◌, ◌<◌, pos, negsuc, List, Option, Some, None, Ok, Err}
-use Rattle.gcl_core.specs.meaning.Value.{State, Value, value_of}
+use Rattle.gcl_core.specs.meaning.Value.{State, Value}
 use Rattle.gcl_core.specs.meaning.Blocks.{by_value, by_bound}
 use Rattle.gcl_core.specs.meaning.Draw.{uniform_ends}
 use Rattle.gcl_core.specs.weighing.Fractions.{Fraction}
 use Rattle.gcl_core.specs.weighing.WeightedEnds.{Weighted, class_weight}
 use Rattle.gcl_core.specs.meaning.Syntax.{Expression, Statements}
-use Rattle.table_flow.specs.Tables.{Table, Flow, block_flow, ReachedDraws}
-use Rattle.table_flow.specs.Reached.{loop_draws}
+use Rattle.table_flow.specs.Tables.{Table, Flow, ReachedDraws}
 use Rattle.table_flow.specs.Scale.{whole, Whole, Within, amount}
 use Rattle.mass_fold.specs.declared.ended.Ended.{Ended}
 use Rattle.mass_fold.specs.declared.meter.Meter.{Meter}
@@ -15,7 +14,7 @@ use Rattle.mass_fold.specs.declared.meter.Meter.TheVariants.{Off, Bits, TooWide}
 use Rattle.mass_fold.specs.Amounts.{held, AreHeld}
 use Rattle.mass_fold.specs.inner.Amounts.{Entries}
 use Rattle.mass_fold.specs.inner.Steps.{EachState}
-use Rattle.mass_fold.specs.inner.Fold.{Stands, EndStands, Around}
+use Rattle.mass_fold.specs.inner.Fold.{Stands, EndStands, Around, turns_flow}
 use Rattle.numbers.specs.Fraction.{Overfills}
 use Rattle.mass_fold.specs.Metering.{IsPriced, Priced, price}
 
@@ -93,4 +92,4 @@ MetersOne r flow draws es E m m' = (N M L : ℕ) (I : Table) (J : Weighted _) �
 
 -- a loop of at most n turns
 abbrev pub turns_draws : ℕ → Option ℕ → Expression → Statements → Table → ReachedDraws
-turns_draws n r e a = loop_draws (value_of e) (block_flow n r a) n
+turns_draws n r e a I = (turns_flow n r e a I).reached

@@ -10,7 +10,6 @@ use Rattle.gcl_core.specs.meaning.Parts.{partial_sums}
 use Rattle.gcl_core.specs.meaning.Views.{expression_of, statement_of, statements_of, list_of, arm_list_of, list_of_arms}
 use Rattle.gcl_core.specs.meaning.Value.{value_of}
 use Rattle.gcl_core.proofs.ViewLemmas.{skip_view, set_view, observe_view, if_view, while_view, choice_view, choose_view}
-use Rattle.table_flow.specs.Reached.{drawn_each}
 use Rattle.mass_fold.proofs.ArmsLeft.{arms_done, arms_next}
 use Rattle.mass_fold.proofs.Fitting.{below_as, weights_as, list_step, below_next, weights_next, along_list, below_list}
 use Rattle.mass_fold.proofs.Folds.{fold_assign, fold_observe}
@@ -32,6 +31,7 @@ use Rattle.bits_fold.proofs.Sums.{some_answered}
 use Rattle.bits_fold.proofs.Turns.{turn_reads, may_begin, loop_reads, state_silent, turn_counts, turn_as}
 use Rattle.bits_fold.proofs.reading.+reading.Goals as goal
 use Rattle.bits_fold.specs.Counted.{price_of}
+use Rattle.table_flow.proofs.FlowWords.{drawn_each}
 
 -- ---- a block
 pub read_block-loop-s-init : goal.read_block-loop-s-init

@@ -1,7 +1,6 @@
 use Rattle.std.proofs.Common.{None, subst}
 use Rattle.gcl_core.specs.meaning.Views.{expression_of}
 use Rattle.gcl_core.specs.meaning.Value.{value_of}
-use Rattle.table_flow.specs.Reached.{drawn_bound}
 use Rattle.mass_fold.specs.inner.Steps.{UniformTo}
 use Rattle.mass_fold.proofs.Folds.{fold_draw}
 use Rattle.exact_fold.proofs.Turns.{none_fractions}
@@ -10,6 +9,7 @@ use Rattle.bits_fold.specs.inner.Reading.{DrawsCost}
 use Rattle.bits_fold.proofs.Steps.{uniform_reads}
 use Rattle.bits_fold.proofs.Sums.{some_answered}
 use Rattle.bits_fold.proofs.reading.read_uniform.Goals as goal
+use Rattle.table_flow.proofs.FlowWords.{drawn_bound}
 
 pub returns-clause-ok : goal.returns-clause-ok
 returns-clause-ok c =

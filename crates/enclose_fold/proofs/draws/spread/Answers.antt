@@ -2,7 +2,8 @@ use Rattle.std.proofs.Common.{◌≡◌, ◌∙◌, ◌++◌, pos, to_z, w64, le
 use Rattle.std.proofs.lemmas.Int.{ints}
 use Rattle.std.proofs.lemmas.List.{length-set}
 use Rattle.mass_fold.proofs.Drawings.{set_as}
-use Rattle.units_law.specs.Units.{held, below_units}
+use Rattle.units_law.specs.Units.{held}
+use Rattle.units_law.proofs.UnitWords.{below_units}
 use Rattle.units_law.proofs.Held.{held_append}
 use Rattle.enclose_fold.proofs.Putting.{put_holds, put_refused, is_merged}
 use Rattle.enclose_fold.proofs.Spreading.{number_more, numbers_refused, numbers_room, numbers_none}

@@ -1,6 +1,7 @@
 use Rattle.std.proofs.Common.{◌≡◌, ℕ, ◌+◌}
 use Rattle.gcl_core.specs.meaning.Value.{State}
-use Rattle.units_law.specs.Units.{held, below_units}
+use Rattle.units_law.specs.Units.{held}
+use Rattle.units_law.proofs.UnitWords.{below_units}
 use Rattle.enclose_fold.proofs.draws.spread.Given as goal
 
 abbrev pub invariant-loop-i : goal.invariant-loop-i

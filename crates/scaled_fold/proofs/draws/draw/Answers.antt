@@ -1,7 +1,6 @@
 use Rattle.std.proofs.Common.{◌≡◌, ◌∙◌, length, [], ◌∷◌, sym, arith}
 use Rattle.gcl_core.specs.meaning.Views.{expression_of}
 use Rattle.gcl_core.specs.meaning.Value.{State, value_of}
-use Rattle.table_flow.specs.Tables.{drawn_go, undrawn_go}
 use Rattle.mass_fold.proofs.Moves.{reads_at}
 use Rattle.units_law.specs.Down.{down}
 use Rattle.scaled_law.specs.Pairs.{Pair, pairs_kind}
@@ -10,6 +9,7 @@ use Rattle.scaled_fold.proofs.Drawing.{drawn_first, undrawn_first}
 use Rattle.scaled_fold.proofs.Passing.{puts_list, stops_list}
 use Rattle.scaled_fold.proofs.Sizes.{sized_at}
 use Rattle.scaled_fold.proofs.draws.draw.Goals as goal
+use Rattle.table_flow.proofs.UniformLists.{drawn_go, undrawn_go}
 
 pub draw_entry-requires-clause-sized : goal.draw_entry-requires-clause-sized
 draw_entry-requires-clause-sized c = sized_at _ _ c.args.table.sized (λ e. e) _ _ _ _ _ _ c.into_iter-s-iterator.ensures.into_iter_gives.0 c.loop-s.yielded_by c.in-Some.is c.next.ensures.steps ∙ sym c.loop-s.invariant.vars

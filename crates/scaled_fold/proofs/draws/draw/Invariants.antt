@@ -1,12 +1,12 @@
 use Rattle.std.proofs.Common.{◌≡◌, []}
 use Rattle.gcl_core.specs.meaning.Views.{expression_of}
 use Rattle.gcl_core.specs.meaning.Value.{value_of}
-use Rattle.table_flow.specs.Tables.{drawn_go, undrawn_go}
 use Rattle.units_law.specs.Down.{down}
 use Rattle.scaled_law.specs.Pairs.{pairs_kind}
 use Rattle.scaled_law.specs.Up.{up}
 use Rattle.scaled_fold.proofs.Passing.{Puts, Stops}
 use Rattle.scaled_fold.proofs.draws.draw.Given as goal
+use Rattle.table_flow.proofs.UniformLists.{drawn_go, undrawn_go}
 
 abbrev pub invariant-loop-s : goal.invariant-loop-s
 invariant-loop-s l = record {

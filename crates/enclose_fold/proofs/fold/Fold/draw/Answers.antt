@@ -4,8 +4,8 @@ use Rattle.gcl_core.specs.meaning.Views.{expression_of}
 use Rattle.gcl_core.specs.meaning.Value.{value_of}
 use Rattle.mass_fold.proofs.Moves.{reads_at}
 use Rattle.units_law.specs.Down.{down}
-use Rattle.units_law.specs.Rounding.{undrawn_units}
 use Rattle.units_law.specs.Units.{total}
+use Rattle.units_law.proofs.UnitWords.{undrawn_units}
 use Rattle.enclose_fold.proofs.Drawing.{draws_start, draws_next, draws_refused, draws_end, draws_within}
 use Rattle.enclose_fold.proofs.EachEntry.{each_undrawn}
 use Rattle.enclose_fold.proofs.Passing.{stop_start, stop_along, stop_go, stop_all}

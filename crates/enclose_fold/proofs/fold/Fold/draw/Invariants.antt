@@ -2,8 +2,8 @@ use Rattle.std.proofs.Common.{◌≡◌, ◌≤◌, ◌+◌, ℕ}
 use Rattle.gcl_core.specs.meaning.Value.{State, value_of}
 use Rattle.gcl_core.specs.meaning.Views.{expression_of}
 use Rattle.units_law.specs.Down.{down}
-use Rattle.units_law.specs.Rounding.{drawn_units, undrawn_units}
 use Rattle.units_law.specs.Units.{held, total}
+use Rattle.units_law.proofs.UnitWords.{drawn_units, undrawn_units}
 use Rattle.enclose_fold.specs.inner.Ended.{units_of}
 use Rattle.enclose_fold.proofs.Passing.{Stops}
 use Rattle.enclose_fold.proofs.fold.Fold.draw.Given as goal

@@ -3,7 +3,8 @@ use Rattle.gcl_core.specs.meaning.Blocks.{limit}
 use Rattle.gcl_core.specs.declared.answers.Limit.TheVariants.{Attempts}
 use Rattle.units_law.specs.Down.{share_of, rest_of}
 use Rattle.units_law.specs.Merged.{merged}
-use Rattle.units_law.specs.Units.{total, below_units}
+use Rattle.units_law.specs.Units.{total}
+use Rattle.units_law.proofs.UnitWords.{below_units}
 use Rattle.enclose_fold.specs.inner.Refusals.{RefusedAt}
 use Rattle.enclose_fold.proofs.Spreading.{state_within}
 use Rattle.enclose_fold.proofs.Passing.{one_ended}

@@ -8,7 +8,8 @@ use Rattle.gcl_core.specs.meaning.Views.{expression_of, statement_of, statements
 use Rattle.gcl_core.specs.weighing.WeightedEnds.{class_weight}
 use Rattle.numbers.specs.Fraction.{IsEqual}
 use Rattle.gcl_core.specs.meaning.Value.{value_of}
-use Rattle.table_flow.specs.Tables.{block_flow, loop_flow}
+use Rattle.table_flow.specs.Tables.{block_flow}
+use Rattle.table_flow.proofs.FlowWords.{loop_flow, block_draws}
 use Rattle.gcl_core.proofs.ViewLemmas.{skip_view, set_view, observe_view, if_view, while_view, choice_view, choose_view, uniform_view}
 use Rattle.mass_fold.specs.inner.Fold.{FoldBlames, UndecidedTo, UndecidedBlames}
 use Rattle.mass_fold.proofs.Fitting.{below_as, weights_as, folds_as, blames_as, list_step, below_next, weights_next, along_list, below_list, empty_of, some_states}
@@ -20,7 +21,6 @@ use Rattle.mass_fold.proofs.Folds as branches
 use Rattle.mass_fold.proofs.Loops.{loop_start, loop_dry, loop_turn, loop_end, guard_blames, exits_blame, body_blames, turns_blame, loops_at}
 use Rattle.mass_fold.proofs.Sides.{sides_blame, fold_choice}
 use Rattle.mass_fold.proofs.Sides as choices
-use Rattle.table_flow.specs.Reached.{block_draws}
 use Rattle.mass_fold.proofs.MeterFolds.{meters_next, meters_end, meters_empty, meters_as, uniform_meters, branch_meters, choice_meters}
 use Rattle.mass_fold.proofs.MeterLoops.{draws, meter_start, meter_turn, meter_dry, meter_end, meters_at}
 use Rattle.mass_fold.proofs.fold.Fold.+fold.Goals as goal

@@ -6,11 +6,11 @@ use Rattle.gcl_core.specs.meaning.Syntax.{Choose}
 use Rattle.gcl_core.specs.meaning.Bounds.{BlockIsWeighed, ArmsAreWeighed, BlockBelow, ArmsBelow}
 use Rattle.gcl_core.specs.meaning.Views.{list_of, arm_list_of, list_of_arms, expression_of, statements_of}
 use Rattle.gcl_core.specs.meaning.Value.{value_of}
-use Rattle.table_flow.specs.Tables.{statement_flow, block_flow, arms_flow, loop_flow}
+use Rattle.table_flow.specs.Tables.{statement_flow, block_flow}
+use Rattle.table_flow.proofs.FlowWords.{arms_flow, loop_flow, statement_draws, block_draws, arms_draws, loop_draws}
 use Rattle.mass_fold.specs.declared.meter.Meter.{Meter}
 use Rattle.mass_fold.specs.inner.Fold.{LoopsOn, AfterUndecided}
 use Rattle.mass_fold.specs.inner.Metering.{CountsDraws}
-use Rattle.table_flow.specs.Reached.{statement_draws, block_draws, arms_draws, loop_draws}
 use Rattle.mass_fold.proofs.Folds.{FoldsOn, BlamesOn}
 use Rattle.mass_fold.proofs.MeterFolds.{MetersOn}
 use Rattle.mass_fold.proofs.MeterLoops.{MetersLoop}
