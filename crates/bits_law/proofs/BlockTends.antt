@@ -1,5 +1,5 @@
 -- What a block reads from a table, by as many attempts as each draw takes, tends to what is said of it as turns grow.
-use Rattle.std.proofs.Common.{ℕ, ◌-◌, ◌<◌, [], ◌++◌, None, arith}
+use Rattle.std.proofs.Common.{ℕ, ◌-◌, ◌<◌, [], ◌++◌, None, arith, subst}
 use Rattle.std.specs.List.{sum}
 use Rattle.gcl_core.specs.meaning.Arms.{parts_of}
 use Rattle.gcl_core.specs.meaning.Bounds.{StatementIsWeighed, BlockIsWeighed, ArmsAreWeighed}
@@ -10,9 +10,10 @@ use Rattle.gcl_core.specs.meaning.Value.{State, value_of}
 use Rattle.gcl_core.specs.weighing.Fractions.{Fraction, zero_share, plus}
 use Rattle.gcl_core.specs.weighing.WeightedEnds.{scaled, class_weight, statement_weighted}
 use Rattle.gcl_core.proofs.PartialSums.{last_is}
-use Rattle.table_flow.specs.Tables.{Table, holds, fails, only, statement_flow}
+use Rattle.table_flow.specs.Tables.{Table, holds, fails, only, statement_flow, fractions_kind}
 use Rattle.table_flow.proofs.FlowWords.{drawn_each, drawn_bound}
 use Rattle.table_flow.proofs.Positive.{Positive, p_only, p_scaled}
+use Rattle.table_flow.proofs.UniformLists.{reached_by_list}
 use Rattle.weighing_law.proofs.Shares.{product_pos}
 use Rattle.unlimited_law.proofs.Numbers.{Rational, ◌⊕◌, ◌⊗◌, ◌≃◌, nought, below_refl, same_refl, same_sym, same_trans, add_below, add_same, add_assoc, times_below, nought_add}
 use Rattle.unlimited_law.proofs.FractionNumbers.{of, of_plus, of_zero}
@@ -98,7 +99,8 @@ module _ (price : Price) where
     statement_tends (Uniform x e) w I J bits p o =
         tends_exact _ _
         (λ n F. alone_after (statement_costs price None n (Uniform x e)) (statement_weighted 0 None (Uniform x e)) I J (statement_flow 0 None (Uniform x e) I).next (statement_flow 0 None (Uniform x e) I).ended bits (λ F. drawn_counted (λ e. end_reads e F) x (value_of e) I) (price_of_draws price (drawn_bound (value_of e) I)) (λ s. bound_reads price (value_of e s))
-        (bound_some price (value_of e) I p) (bound_is price (value_of e) I p) o (λ s F. uniform_is price x (value_of e s) s F) F)
+        (bound_some price (value_of e) I p) (bound_is price (value_of e) I p)
+        (subst (λ d. Comes J bits (statement_flow 0 None (Uniform x e) I).next (price_of_draws price d)) (reached_by_list fractions_kind None x (value_of e) I) o) (λ s F. uniform_is price x (value_of e s) s F) F)
     statement_tends (If e a c) w I J bits p o =
         let A = only (holds (value_of e)) I in
         let C = only (fails (value_of e)) I in

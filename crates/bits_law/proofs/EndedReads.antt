@@ -13,10 +13,11 @@ use Rattle.gcl_core.specs.meaning.Value.{State, Value, value_of}
 use Rattle.gcl_core.specs.weighing.Fractions.{Fraction, zero_share, plus}
 use Rattle.gcl_core.specs.weighing.WeightedEnds.{Weighted, scaled, class_weight}
 use Rattle.gcl_core.proofs.PartialSums.{last_is}
-use Rattle.table_flow.specs.Tables.{Table, holds, fails, only, faults, all_end, statement_flow, block_flow, ReachedDraws}
+use Rattle.table_flow.specs.Tables.{Table, holds, fails, only, faults, all_end, statement_flow, block_flow, ReachedDraws, fractions_kind}
 use Rattle.table_flow.proofs.FlowWords.{loop_flow, arms_flow, drawn_each, drawn_bound, loop_draws, statement_draws, block_draws, arms_draws}
 use Rattle.table_flow.proofs.Positive.{Positive, p_append, p_scaled, p_only, p_one, p_all, p_arms}
 use Rattle.table_flow.proofs.Spreads.{sum_of_all, Zero, sum_append}
+use Rattle.table_flow.proofs.UniformLists.{reached_by_list}
 use Rattle.weighing_law.proofs.Shares.{product_pos}
 use Rattle.unlimited_law.proofs.BlockLimits.{all_fractions}
 use Rattle.unlimited_law.proofs.EndedLoops.{out_of_turns, out_zero, Suffice, only_append, visits, visits_positive, turn_adds, ends_add, loop_next, balances, turns_suffice}
@@ -208,7 +209,8 @@ module _ (n : ℕ) where
     statement_ended Skip w I h none = comes _ _ zero_share (p_one n None Skip I w h).next refl (omega arith)
     statement_ended (Set x e) w I h none = comes _ _ zero_share (p_one n None (Set x e) I w h).next refl (omega arith)
     statement_ended (Observe e) w I h none = comes _ _ zero_share (p_one n None (Observe e) I w h).next refl (omega arith)
-    statement_ended (Uniform x e) w I h none = comes _ _ (bits_of_draws (drawn_bound (value_of e) I)) (p_one n None (Uniform x e) I w h).next refl (bound_some bits_price (value_of e) I h)
+    statement_ended (Uniform x e) w I h none =
+        rw (reached_by_list fractions_kind None x (value_of e) I) (comes _ _ (bits_of_draws (drawn_bound (value_of e) I)) (p_one n None (Uniform x e) I w h).next refl (bound_some bits_price (value_of e) I h))
     statement_ended (If e a c) w I h none =
         let A = only (holds (value_of e)) I in
         let C = only (fails (value_of e)) I in

@@ -12,9 +12,10 @@ use Rattle.gcl_core.specs.meaning.Value.{value_of}
 use Rattle.gcl_core.specs.weighing.Fractions.{Fraction, zero_share, plus, times}
 use Rattle.gcl_core.specs.weighing.WeightedEnds.{scaled, class_weight}
 use Rattle.gcl_core.proofs.PartialSums.{last_is}
-use Rattle.table_flow.specs.Tables.{Table, holds, fails, only, statement_flow, block_flow, ReachedDraws}
+use Rattle.table_flow.specs.Tables.{Table, holds, fails, only, statement_flow, block_flow, ReachedDraws, fractions_kind}
 use Rattle.table_flow.proofs.FlowWords.{arms_flow, drawn_each, drawn_bound, statement_draws, block_draws, arms_draws}
 use Rattle.table_flow.proofs.Positive.{Positive, p_scaled, p_only, p_one, p_all, p_arms}
+use Rattle.table_flow.proofs.UniformLists.{reached_by_list}
 use Rattle.weighing_law.proofs.Shares.{product_pos}
 use Rattle.unlimited_law.specs.LoopFree.{StatementFree, BlockFree, ArmsFree}
 use Rattle.unlimited_law.proofs.FreeBlocks.{alike_itself}
@@ -57,7 +58,8 @@ module _ (n : ℕ) where
     statement_free Skip free w I h = comes _ _ zero_share (p_one n None Skip I w h).next refl (omega arith)
     statement_free (Set x e) free w I h = comes _ _ zero_share (p_one n None (Set x e) I w h).next refl (omega arith)
     statement_free (Observe e) free w I h = comes _ _ zero_share (p_one n None (Observe e) I w h).next refl (omega arith)
-    statement_free (Uniform x e) free w I h = comes _ _ (bits_of_draws (drawn_bound (value_of e) I)) (p_one n None (Uniform x e) I w h).next refl (bound_some bits_price (value_of e) I h)
+    statement_free (Uniform x e) free w I h =
+        rw (reached_by_list fractions_kind None x (value_of e) I) (comes _ _ (bits_of_draws (drawn_bound (value_of e) I)) (p_one n None (Uniform x e) I w h).next refl (bound_some bits_price (value_of e) I h))
     statement_free (If e a c) free w I h =
         let A = only (holds (value_of e)) I in
         let C = only (fails (value_of e)) I in

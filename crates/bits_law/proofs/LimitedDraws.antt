@@ -12,10 +12,11 @@ use Rattle.gcl_core.specs.meaning.Value.{State, Value, value_of}
 use Rattle.gcl_core.specs.weighing.Fractions.{Fraction, zero_share}
 use Rattle.gcl_core.specs.weighing.WeightedEnds.{scaled, class_weight, statement_weighted}
 use Rattle.gcl_core.proofs.PartialSums.{last_is}
-use Rattle.table_flow.specs.Tables.{Table, holds, fails, only, statement_flow, block_flow, ReachedDraws}
+use Rattle.table_flow.specs.Tables.{Table, holds, fails, only, statement_flow, block_flow, ReachedDraws, fractions_kind}
 use Rattle.table_flow.proofs.FlowWords.{loop_flow, arms_flow, drawn_each, drawn_bound, loop_draws, statement_draws, block_draws, arms_draws}
 use Rattle.table_flow.proofs.Positive.{Positive, p_scaled, p_only, p_one, p_all, IsPositiveDraw}
 use Rattle.table_flow.proofs.EachMember.{Each}
+use Rattle.table_flow.proofs.UniformLists.{reached_by_list}
 use Rattle.unlimited_law.proofs.Numbers.{Rational, ◌⊕◌, ◌⊗◌, ◌≃◌, nought, same_refl, same_sym, same_trans, add_same, add_assoc, add_turned, nought_add, add_nought}
 use Rattle.unlimited_law.proofs.FractionNumbers.{of, of_zero}
 use Rattle.unlimited_law.proofs.FreeBlocks.{alike_itself}
@@ -104,10 +105,10 @@ module _ (n : ℕ) where
         let f = statement_flow 0 None (Uniform x e) I in
         let D = drawn_bound (value_of e) I in
         let some = bound_some bits_price (value_of e) I h in
-        same_trans
+        rw (reached_by_list fractions_kind None x (value_of e) I) (same_trans
         (alone_after (statement_reads None n (Uniform x e)) (statement_weighted 0 None (Uniform x e)) I f.next f.next f.ended (bits_of_draws D) (λ F. drawn_counted (λ e. end_reads e F) x (value_of e) I) (bits_of_draws D) (λ s. bound_reads bits_price (value_of e s))
         some (bound_is bits_price (value_of e) I h) (as_it_is f.next (bits_of_draws D) (p_one n None (Uniform x e) I w h).next some) (λ s F. uniform_is bits_price x (value_of e s) s F) F)
-        (add_same (average_is (bits_of_draw None) D (bound_counted bits_price (value_of e) I h)) (same_refl (integral F f.next)))
+        (add_same (average_is (bits_of_draw None) D (bound_counted bits_price (value_of e) I h)) (same_refl (integral F f.next))))
     statement_is (If e a c) w I h F =
         let A = only (holds (value_of e)) I in
         let C = only (fails (value_of e)) I in

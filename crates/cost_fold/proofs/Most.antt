@@ -24,6 +24,7 @@ use Rattle.table_flow.proofs.Amounts.{amount_append, both_first, both_second}
 use Rattle.table_flow.proofs.InsideFlows.{head_whole, first_inside, others_inside, turn_inside, turns_inside, side_first, side_second, choose_inside, first_arm, other_arms}
 use Rattle.table_flow.proofs.Kept.{guard_weight, arms_weight, arms_kept, kept_one, kept_all, sides_kept}
 use Rattle.table_flow.proofs.FittingTables.{AllFit, fit_only, fractions_keep_states, statement_fit, block_fit}
+use Rattle.table_flow.proofs.UniformLists.{reached_by_list}
 use Rattle.mass_fold.specs.Metering.{Priced, price}
 use Rattle.mass_fold.proofs.MeterFolds.{priced_first, priced_second}
 use Rattle.cost_fold.proofs.Prices.{price_most}
@@ -133,7 +134,9 @@ module _ (n r N L M : ℕ) where
     statement_most Skip w f I wi a x s k = none_most r N M (weight N I) 0
     statement_most (Set y e) w f I wi a x s k = none_most r N M (weight N I) 0
     statement_most (Observe e) w f I wi a x s k = none_most r N M (weight N I) 0
-    statement_most (Uniform y e) w f I wi a x s k = most_bound r N M e I f a wi k
+    statement_most (Uniform y e) w f I wi a x s k =
+        let q = reached_by_list fractions_kind (Some r) y (value_of e) I in
+        rw q (most_bound r N M e I f a wi (subst (Priced (Some r) M) q k))
     statement_most (If e p q) w f I wi a x s k =
         let v = value_of e in
         let A = only (holds v) I in

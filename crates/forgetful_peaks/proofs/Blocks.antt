@@ -11,8 +11,9 @@ use Rattle.gcl_core.specs.meaning.Value.{State, value_of}
 use Rattle.gcl_core.specs.meaning.Blocks.{by_value}
 use Rattle.gcl_core.specs.meaning.Outcomes.{zeros}
 use Rattle.gcl_core.specs.weighing.WeightedEnds.{sure, scaled, class_weight}
-use Rattle.table_flow.specs.Tables.{Table, holds, fails, only, statement_flow, block_flow, peak_of}
+use Rattle.table_flow.specs.Tables.{Table, holds, fails, only, statement_flow, block_flow, peak_of, fractions_kind}
 use Rattle.table_flow.proofs.FlowWords.{arms_flow}
+use Rattle.table_flow.proofs.UniformLists.{by_lists}
 use Rattle.forgetting.specs.Liveness.{Names, no_names, both, reads, matters_to, matters_to_arms, before_statement, before}
 use Rattle.forgetting.specs.Filling.{is_nought, filled_by, filled_by_arms, behind_statement}
 use Rattle.forgetting.specs.Forgetful.{forget, ends_with, forgetful_statement, forgetful, forgetful_arms, forgetful_of}
@@ -101,13 +102,13 @@ module _ (n : ℕ) (r : Option ℕ) (count : ℕ) where
         let M = before_statement (Uniform y e) K in
         let P = still (Uniform y e) K in
         let G = behind_statement (Uniform y e) F in
-        record {
+        rw (by_lists fractions_kind r y (value_of e) I) (rw (by_lists fractions_kind r y (value_of e) J) (record {
           next = along_drawn (Cleared count M F) (Cleared count P G) y (value_of e) r I J (λ s t c. value_agrees M e s t (λ x k. left_or (reads x e) _ k) c.agrees)
               (λ s t z. cleared_set count M F P G y z s t (λ x q k. set_agree (K x) (reads x e) (x == y) q k)
               (λ x q m f. set_left (K x) (reads x e) (x == y) (F x) false q m f)
               (λ q. absurd (true≢false (sym (set_there (K y) (reads y e) (y == y) (F y) false (eq-eqb y y refl) q))))) a;
           few = omega arith;
-        }
+        }))
     statement_follows (If e b c) F K I J a =
         let M = before_statement (If e b c) K in
         let P = still (If e b c) K in

@@ -8,11 +8,12 @@ use Rattle.gcl_core.specs.meaning.Parts.{partial_sums}
 use Rattle.gcl_core.specs.meaning.Syntax.{Statement, Skip, Set, If, While, Choice, Choose, Uniform, Observe, Statements, done, ◌▸◌, ArmList, no_arm, arm}
 use Rattle.gcl_core.specs.meaning.Value.{State, Value, value_of}
 use Rattle.gcl_core.specs.weighing.WeightedEnds.{scaled, class_weight}
-use Rattle.table_flow.specs.Tables.{Table, holds, fails, only, faults, statement_flow, block_flow, ReachedDraws}
+use Rattle.table_flow.specs.Tables.{Table, holds, fails, only, faults, statement_flow, block_flow, ReachedDraws, fractions_kind}
 use Rattle.table_flow.specs.Scale.{Wholes, Within}
 use Rattle.table_flow.proofs.FlowWords.{loop_flow, arms_flow, drawn_each, drawn_bound, loop_draws, statement_draws, block_draws, arms_draws}
 use Rattle.table_flow.proofs.Amounts.{both_first, both_second}
 use Rattle.table_flow.proofs.InsideFlows.{head_whole, first_inside, others_inside, turn_inside, turns_inside, side_first, side_second, choose_inside, first_arm, other_arms}
+use Rattle.table_flow.proofs.UniformLists.{reached_by_list}
 
 -- ---- lists of draws
 wholes_append : (N : ℕ) (a b : ReachedDraws) → Wholes N a → Wholes N b → Wholes N (a ++ b)
@@ -53,7 +54,7 @@ module _ (n : ℕ) (r : Option ℕ) (N L : ℕ) where
     one_whole Skip I w s = tt
     one_whole (Set x e) I w s = tt
     one_whole (Observe e) I w s = tt
-    one_whole (Uniform x e) I w s = wholes_bound N (value_of e) I w
+    one_whole (Uniform x e) I w s = rw (reached_by_list fractions_kind r x (value_of e) I) (wholes_bound N (value_of e) I w)
     one_whole (If e p q) I w s =
         let A = only (holds (value_of e)) I in
         let C = only (fails (value_of e)) I in

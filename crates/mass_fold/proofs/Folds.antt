@@ -11,15 +11,16 @@ use Rattle.gcl_core.specs.meaning.Value.{State, Value, value_of}
 use Rattle.gcl_core.specs.meaning.Blocks.{End, failed}
 use Rattle.gcl_core.specs.weighing.Fractions.{Fraction}
 use Rattle.gcl_core.specs.weighing.WeightedEnds.{Weighted}
-use Rattle.table_flow.specs.Tables.{Table, Flow, holds, fails, only, faults, all_end, statement_flow, block_flow, states}
-use Rattle.table_flow.specs.Scale.{Wholes, TablesWithin, Within, amount, weight}
+use Rattle.table_flow.specs.Tables.{Table, Flow, holds, fails, only, faults, all_end, statement_flow, block_flow, states, fractions_kind}
+use Rattle.table_flow.specs.Scale.{Wholes, TablesWithin, Within, amount, weight, AllWhole}
 use Rattle.table_flow.specs.Counts.{moved, stopped, kept_if, none_kept, none_stopped, all_kept, all_stopped, part_at, rest_at, drawn, undrawn}
-use Rattle.table_flow.proofs.FlowWords.{set_to, multiplied}
+use Rattle.table_flow.proofs.FlowWords.{set_to, multiplied, not_drawn}
 use Rattle.table_flow.proofs.Amounts.{amount_append, amount_only, amount_faults, amount_all_end, amount_set, amount_none, amount_sum, both_first, both_second, regroup}
 use Rattle.table_flow.proofs.InsideFlows.{first_inside, others_inside}
 use Rattle.table_flow.proofs.Kept.{kept_one, kept_all, guard_weight}
 use Rattle.table_flow.proofs.Uniforms.{drawn_next, drawn_ended, drawn_whole}
 use Rattle.table_flow.proofs.NoneReached.{none_counts}
+use Rattle.table_flow.proofs.UniformLists.{by_lists}
 use Rattle.mass_fold.specs.declared.error.MassError.{MassError}
 use Rattle.mass_fold.specs.declared.ended.Gone.TheVariants as gone_kind
 use Rattle.mass_fold.specs.declared.ended.Ended.{Ended}
@@ -285,24 +286,26 @@ module _ (n : ℕ) (r : Option ℕ) where
         × (Shares N (rest_at (value_of e) r) es × ((G : State → ℕ) → shared N (rest_at (value_of e) r) G es ≡ amount N G (multiplied (rest_at (value_of e) r) I)))
     drawn_shares N L I Np s w =
         let v = value_of e in
-        let m = drawn_whole x v r N I w.before w.after w.inside.ended in
+        let q = by_lists fractions_kind r x v I in
+        let m = drawn_whole x v r N I w.before (subst (λ f. Wholes N f.next) q w.after) (subst (λ f. Wholes N f.ended) q w.inside.ended) in
         (shares_stand (part_at v r) (part_above v r) N es I Np o w.before m.0 s, shares_stand (rest_at v r) (rest_above v r) N es I Np o w.before m.1 s)
 
     pub fold_draw : (fs : Entries) (F : Ended) → UniformTo x (value_of e) r es E fs F → FoldsOne (statement_flow n r (Uniform x e)) es E fs F
     fold_draw fs F d N L I J Np s t w =
         let v = value_of e in
         let h = drawn_shares N L I Np s w in
-        let u = d N Np s.kept t.kept h.0.0 h.1.0 in (
+        let u = d N Np s.kept t.kept h.0.0 h.1.0 in rw (by_lists fractions_kind r x v I) (
           record { kept = u.kept; same = λ G. let a = u.going G in let b = h.0.1 (drawn x v G) in let c = drawn_next x v r N G I in omega arith },
-          record { kept = u.ended; same = λ G. let a = u.stopping G in let b = h.1.1 (undrawn v G) in let c = drawn_ended x v r N G I in let k = t.same G in let i = amount_append N G J (statement_flow n r (Uniform x e) I).ended in omega arith },
+          record { kept = u.ended; same = λ G. let a = u.stopping G in let b = h.1.1 (undrawn v G) in let c = drawn_ended x v r N G I in let k = t.same G in let i = amount_append N G J (not_drawn v r I) in omega arith },
         )
 
     pub draw_blames : (error : MassError) → UniformBlames x (value_of e) r es E error → OneBlames (statement_flow n r (Uniform x e)) es E error
     draw_blames error d N L I J Np s t w m =
         let v = value_of e in
         let f = statement_flow n r (Uniform x e) I in
+        let q = by_lists fractions_kind r x v I in
         let h = drawn_shares N L I Np s w in
         let k = kept_one n r N L (Uniform x e) I tt w.before w.after w.inside in
-        let dr = each_state (BothWhole N (part_at v r) (rest_at v r)) N es I Np s (draws_in N v r I w.inside.draws) in
-        d N L f.next Np s.kept t.kept h.0.0 h.1.0 dr (λ G. let b = h.0.1 (drawn x v G) in let c = drawn_next x v r N G I in omega arith) (omega arith) w.few_after
-        (let b = h.1.1 (undrawn v (λ x. 1)) in let c = drawn_ended x v r N (λ x. 1) I in let z = t.same (λ x. 1) in omega arith)
+        let dr = each_state (BothWhole N (part_at v r) (rest_at v r)) N es I Np s (draws_in N v r I (subst (λ f. AllWhole N f.draws) q w.inside.draws)) in
+        d N L f.next Np s.kept t.kept h.0.0 h.1.0 dr (λ G. let b = h.0.1 (drawn x v G) in let c = ap (λ f. amount N G f.next) q ∙ drawn_next x v r N G I in omega arith) (omega arith) w.few_after
+        (let b = h.1.1 (undrawn v (λ x. 1)) in let c = ap (λ f. amount N (λ x. 1) f.ended) q ∙ drawn_ended x v r N (λ x. 1) I in let z = t.same (λ x. 1) in omega arith)

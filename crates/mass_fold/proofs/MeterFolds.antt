@@ -10,13 +10,14 @@ use Rattle.gcl_core.specs.meaning.Value.{State, Value, value_of}
 use Rattle.gcl_core.specs.meaning.Blocks.{by_value, by_bound}
 use Rattle.gcl_core.specs.meaning.Draw.{last_end, choice_ends, uniform_ends}
 use Rattle.gcl_core.proofs.EqualClasses.{last_of_equal}
-use Rattle.table_flow.specs.Tables.{Table, Flow, holds, fails, only, faults, statement_flow, block_flow, ReachedDraws}
+use Rattle.table_flow.specs.Tables.{Table, Flow, holds, fails, only, faults, statement_flow, block_flow, ReachedDraws, fractions_kind}
 use Rattle.table_flow.specs.Scale.{amount, weight}
 use Rattle.table_flow.specs.Counts.{stopped, kept_if}
 use Rattle.table_flow.proofs.FlowWords.{drawn_each, drawn_bound, statement_draws, block_draws}
 use Rattle.table_flow.proofs.Amounts.{amount_append, both_first, both_second}
 use Rattle.table_flow.proofs.InsideFlows.{side_first, side_second}
 use Rattle.table_flow.proofs.NoneReached.{amount_drawn_each, amount_drawn_bound, none_one}
+use Rattle.table_flow.proofs.UniformLists.{reached_by_list}
 use Rattle.mass_fold.specs.declared.ended.Ended.{Ended}
 use Rattle.mass_fold.specs.declared.meter.Meter.{Meter}
 use Rattle.mass_fold.specs.Amounts.{held}
@@ -74,8 +75,9 @@ module _ (n : ℕ) (r : Option ℕ) where
       MetersOne r (statement_flow n r (Uniform x e)) (statement_draws n r (Uniform x e)) es E m m'
   uniform_meters x e es E m m' c N M L I J Np Mp s t w k =
       let v = value_of e in
-      counted_as (N * M) _ _ m m' (s.same (bound_price v r M) ∙ sym (amount_drawn_bound N (price r M) v I))
-      (c N M Np Mp s.kept (each_state (IsBoundPriced v r M) N es I Np s (bound_priced r M v I k)))
+      let q = reached_by_list fractions_kind r x v I in
+      counted_as (N * M) _ _ m m' (s.same (bound_price v r M) ∙ sym (ap (amount N (price r M)) q ∙ amount_drawn_bound N (price r M) v I))
+      (c N M Np Mp s.kept (each_state (IsBoundPriced v r M) N es I Np s (bound_priced r M v I (subst (Priced r M) q k))))
 
   pub meters_empty : (st : Statement) (es : Entries) (E : Ended) (m : Meter) → StatementIsWeighed st → es ≡ [] → MetersOne r (statement_flow n r st) (statement_draws n r st) es E m m
   meters_empty st es E m ws e N M L I J Np Mp s t w k =

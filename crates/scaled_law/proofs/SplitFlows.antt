@@ -7,9 +7,10 @@ use Rattle.gcl_core.specs.meaning.Syntax.{Statement, Skip, Set, If, While, Choic
 use Rattle.gcl_core.specs.meaning.Value.{State, Value, value_of}
 use Rattle.gcl_core.specs.meaning.Blocks.{End, failed, limit}
 use Rattle.gcl_core.specs.weighing.WeightedEnds.{Weighted, class_weight, no_class_weight}
-use Rattle.table_flow.specs.Tables.{Table, Flow, holds, fails, draw_weights, statement_flow, block_flow, states}
+use Rattle.table_flow.specs.Tables.{Table, Flow, holds, fails, draw_weights, statement_flow, block_flow, states, fractions_kind}
 use Rattle.table_flow.specs.Scale.{TablesWithin, Within}
 use Rattle.table_flow.proofs.FlowWords.{both, loop_flow, arms_flow}
+use Rattle.table_flow.proofs.UniformLists.{by_lists}
 use Rattle.scaled_law.proofs.Splits.{Splits, none, appended, wholes_split, all_whole_split, fewer, of_parts, only_splits, faults_splits, set_splits, drawn_splits, undrawn_splits, shown_splits, draws_splits, end_splits, scaled_splits}
 
 -- tables one by one
@@ -87,12 +88,13 @@ module _ (n : ℕ) (r : Option ℕ) where
       tables = no_table;
       draws = none;
     }
-    statement_splits (Uniform x e) s = record {
-      next = drawn_splits x (value_of e) r s;
-      ended = undrawn_splits (value_of e) r s;
-      tables = no_table;
-      draws = shown_splits (value_of e) r s;
-    }
+    statement_splits (Uniform x e) {I} {J} {K} s =
+        rw (by_lists fractions_kind r x (value_of e) I) (rw (by_lists fractions_kind r x (value_of e) J) (rw (by_lists fractions_kind r x (value_of e) K) (record {
+          next = drawn_splits x (value_of e) r s;
+          ended = undrawn_splits (value_of e) r s;
+          tables = no_table;
+          draws = shown_splits (value_of e) r s;
+        })))
     statement_splits (If e a c) s =
         both_splits (faults_splits (value_of e) s) (block_splits a _ _ _ (only_splits (holds (value_of e)) s)) (block_splits c _ _ _ (only_splits (fails (value_of e)) s))
     statement_splits (Choice p a c) s =

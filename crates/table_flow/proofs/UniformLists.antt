@@ -59,3 +59,6 @@ module _ {X Y : Type 0} (k : Kind X Y) where
       }
       by_state (Ok z) = by_sign z
       by_state (Err f) = refl
+
+  pub reached_by_list : (r : Option ℕ) (i : ℕ) (v : State → Value) (J : List X) → (uniform_go k r i v J).reached ≡ reached_go v J
+  reached_by_list r i v J = ap (λ f. f.reached) (by_lists r i v J)
