@@ -24,6 +24,8 @@ use Rattle.bits_fold.specs.declared.counted.Counted.{Counted}
 use Rattle.bits_fold.specs.inner.Reading.{price_of_bound, WeighsTo, DrawsCost}
 use Rattle.bits_fold.proofs.Sums.{sum_is, product_is}
 use Rattle.table_flow.proofs.FlowWords.{drawn_each, drawn_bound}
+use Rattle.table_flow.proofs.UniformLists.{reached_by_list}
+use Rattle.table_flow.specs.Tables.{fractions_kind, uniform_go}
 
 -- ---- sums over entries
 pub record SoFar (F : State → Rational) (all rest : Entries) (sum : Fraction) : Type 0 where
@@ -136,11 +138,12 @@ module _ (P : Price) where
         is = same_trans (of_equal more (times f price) g.some (product_pos f.1 price.1 h (omega arith)) g.equal) (same_trans (of_times f price) (times_same (of f) (bound_price (v s) price (omega arith) e)));
       }
 
-  pub bound_end : (v : State → Value) (all rest : Entries) (sum : Fraction) → rest ≡ [] → SumsSoFar (bound_of v) all rest sum → DrawsCost P (drawn_bound v) all sum
-  bound_end v all rest sum p so h =
+  pub bound_end : (v : State → Value) (all rest : Entries) (sum : Fraction) → rest ≡ [] → SumsSoFar (bound_of v) all rest sum → (x : ℕ) → DrawsCost P (λ I. (uniform_go fractions_kind None x v I).reached) all sum
+  bound_end v all rest sum p so x h =
       let o = subst (λ z. SoFar (bound_of v) all z sum) p (so h) in
       let I = as_table all in
-      let ip = above_positive all h in (
+      let ip = above_positive all h in
+      rw (reached_by_list fractions_kind None x v I) (
         let z = o.some in omega arith,
         equal_of sum (price_of_draws P (drawn_bound v I)) o.some (bound_some P v I ip) (same_trans (sums_end (bound_of v) all sum o) (same_sym (bound_is P v I ip))),
       )

@@ -1,5 +1,5 @@
 -- What a table reads in a block depends on what its states weigh alone; and it may be said as another table, and bits, that weigh the same.
-use Rattle.std.proofs.Common.{ℕ, ◌-◌, ◌≤◌, Bool, true, false, ◌<◌, List, ◌++◌, None, refl, sym, arith}
+use Rattle.std.proofs.Common.{ℕ, ◌-◌, ◌≤◌, Bool, true, false, ◌<◌, List, ◌++◌, None, refl, sym, arith, subst}
 use Rattle.std.specs.List.{sum}
 use Rattle.numbers.specs.Fraction.{IsEqual}
 use Rattle.numbers.proofs.Divisors.{equal_trans}
@@ -13,10 +13,11 @@ use Rattle.gcl_core.specs.meaning.Value.{value_of}
 use Rattle.gcl_core.specs.weighing.Fractions.{Fraction, zero_share, plus}
 use Rattle.gcl_core.specs.weighing.WeightedEnds.{class_weight, statement_weighted}
 use Rattle.gcl_core.proofs.PartialSums.{last_is}
-use Rattle.table_flow.specs.Tables.{Table, holds, fails, statement_flow}
+use Rattle.table_flow.specs.Tables.{Table, holds, fails, statement_flow, fractions_kind}
 use Rattle.table_flow.proofs.FlowWords.{drawn_each, drawn_bound}
 use Rattle.table_flow.proofs.Positive.{p_one}
 use Rattle.table_flow.proofs.EqualFractions.{equal_plus}
+use Rattle.table_flow.proofs.UniformLists.{reached_by_list}
 use Rattle.weighing_law.proofs.Shares.{product_pos}
 use Rattle.unlimited_law.specs.Alike.{Alike}
 use Rattle.unlimited_law.proofs.Numbers.{Rational, ◌≃◌, same_sym, same_trans}
@@ -88,8 +89,10 @@ module _ (price : Price) where
         comes_from J bits _ _ zero_share (alone_next I I' h (Observe e) w (λ H K. seen_counted H (value_of e) K)) o
     statement_from (Uniform x e) w I I' J bits h o =
         let d = price_of_draws price (drawn_bound (value_of e) I') in
-        comes_at J bits _ d _ (bound_some price (value_of e) I' (all_positive I' h.second)) (equal_turned _ d (bits_bound I I' h e))
-        (comes_from J bits _ _ d (alone_next I I' h (Uniform x e) w (λ H K. drawn_counted H x (value_of e) K)) o)
+        let o' = subst (λ d. Comes J bits (statement_flow 0 None (Uniform x e) I').next (price_of_draws price d)) (reached_by_list fractions_kind None x (value_of e) I') o in
+        rw (reached_by_list fractions_kind None x (value_of e) I)
+        (comes_at J bits _ d _ (bound_some price (value_of e) I' (all_positive I' h.second)) (equal_turned _ d (bits_bound I I' h e))
+        (comes_from J bits _ _ d (alone_next I I' h (Uniform x e) w (λ H K. drawn_counted H x (value_of e) K)) o'))
     statement_from (If e a c) w I I' J bits h o = (
       o.0,
       o.1,

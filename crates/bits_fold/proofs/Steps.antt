@@ -15,9 +15,9 @@ use Rattle.gcl_core.specs.meaning.Syntax.{Statement, Skip, Set, If, Choice, Choo
 use Rattle.gcl_core.specs.meaning.Views.{list_of}
 use Rattle.gcl_core.specs.meaning.Value.{value_of}
 use Rattle.gcl_core.specs.weighing.Fractions.{Fraction, zero_share, plus}
-use Rattle.table_flow.specs.Tables.{Table, holds, fails, statement_flow}
+use Rattle.table_flow.specs.Tables.{Table, holds, fails, statement_flow, fractions_kind, uniform_go}
 use Rattle.table_flow.specs.Counts.{kept_if, stopped, all_kept, none_stopped}
-use Rattle.table_flow.proofs.FlowWords.{drawn_each, drawn_bound}
+use Rattle.table_flow.proofs.FlowWords.{drawn_each}
 use Rattle.table_flow.proofs.EqualFractions.{equal_plus}
 use Rattle.mass_fold.specs.declared.ended.Ended.{Ended}
 use Rattle.mass_fold.specs.inner.Amounts.{Entries}
@@ -83,7 +83,7 @@ module _ (price : Price) where
       let s = alone_settles (Observe e) es E fs F tt (observe_back e es) (one_unlimited 0 (Observe e) tt (as_table es)) d h u in
       record { above = s.above; reads = nothing _ _ bits z (s.settles).next }
 
-  pub uniform_reads : (x : ℕ) (e : Expression) (es fs : Entries) (E F : Ended) (bits : Fraction) → AreFractions (rows_of E) → DrawsCost price (drawn_bound (value_of e)) es bits → FoldsOne (statement_flow 0 None (Uniform x e)) es E fs F → ReadsFrom (StatementCosts price (Uniform x e)) es fs bits
+  pub uniform_reads : (x : ℕ) (e : Expression) (es fs : Entries) (E F : Ended) (bits : Fraction) → AreFractions (rows_of E) → DrawsCost price (λ I. (uniform_go fractions_kind None x (value_of e) I).reached) es bits → FoldsOne (statement_flow 0 None (Uniform x e)) es E fs F → ReadsFrom (StatementCosts price (Uniform x e)) es fs bits
   uniform_reads x e es fs E F bits u b d h =
       let s = alone_settles (Uniform x e) es E fs F tt (uniform_back x e es) (one_unlimited 0 (Uniform x e) tt (as_table es)) d h u in
       let r = b h in

@@ -127,7 +127,8 @@ fn cost_of_state(what: Counted, e: &Expr, s: &State) -> Frac
 // What the uniform draw of each state of a table costs, whichever variable is drawn.
 pub fn cost_of_uniform(what: Counted, e: &Expr, table: &Table) -> Option<Frac>
     requires { ExpressionBelow (expression_of e.now) table.now.vars }
-    ensures { (x : ℕ) → IfSome result (DrawsCost (price_of what) (λ I. (uniform_go fractions_kind None x (value_of (expression_of e.now)) I).reached) table.now.states.entries) }
+    ensures { IfSome result (λ f. (x : ℕ) → DrawsCost (price_of what)
+        (λ I. (uniform_go fractions_kind None x (value_of (expression_of e.now)) I).reached) table.now.states.entries f) }
 {
     let mut sum = Frac::of(0, 1);
     for (s, f) in &table.states {

@@ -30,7 +30,7 @@ use Rattle.table_flow.proofs.Draws.{class_pos, no_class_pos}
 use Rattle.table_flow.proofs.Paths.{statement_positive}
 use Rattle.table_flow.proofs.Positive.{Positive, p_taken, p_scaled, p_only, p_one, p_all}
 use Rattle.table_flow.proofs.EqualFractions.{equal_plus, equal_times}
-use Rattle.table_flow.proofs.UniformLists.{by_lists}
+use Rattle.table_flow.proofs.UniformLists.{by_lists, reached_by_list}
 use Rattle.weighing_law.proofs.Shares.{factor_pos}
 use Rattle.cost_fold.proofs.Equal.{plus_assoc, nothing_plus, average_positive, average_append, average_equal, average_nothing, average_scaled, average_within, average_taken, average_sum, average_guard}
 
@@ -499,7 +499,8 @@ module _ (n r : ℕ) where
     statement_goes (Set x e) w I p more pm = goes_on more pm (set_to x (value_of e) I) _ (set_same more pm x (value_of e) I p)
     statement_goes (Observe e) w I p more pm = goes_on more pm (only (holds (value_of e)) I) _ (seen_same more pm (value_of e) I p)
     statement_goes (Uniform x e) w I p more pm =
-        rw (by_lists fractions_kind (Some r) x (value_of e) I) (uniform_goes more pm x (value_of e) (λ s. statement_positive n (Some r) (Uniform x e) s w) I p)
+        rw (reached_by_list fractions_kind (Some r) x (value_of e) I) (rw (by_lists fractions_kind (Some r) x (value_of e) I)
+        (uniform_goes more pm x (value_of e) (λ s. statement_positive n (Some r) (Uniform x e) s w) I p))
     statement_goes (If e a b) w I p more pm =
         let A = only (holds (value_of e)) I in
         let C = only (fails (value_of e)) I in

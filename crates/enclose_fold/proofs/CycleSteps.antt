@@ -78,7 +78,7 @@ module _ (n : ℕ) (r : Option ℕ) where
   pub set_gives : (x : ℕ) (e : Expression) (es fs : Units State) (E F : Ended) → fs ≡ merged (set_units x (value_of e) es) → EndsWith E (fault_units (value_of e) es) F → Gives (statement_units down n r (Set x e) es) E fs F
   set_gives x e es fs E F p h = record { next = p; ended = h }
 
-  pub draw_gives : (x : ℕ) (e : Expression) (es fs : Units State) (E F : Ended) → fs ≡ merged (drawn_units down x (value_of e) r es) → EndsWith E (undrawn_units down (value_of e) r es) F → Gives (statement_units down n r (Uniform x e) es) E fs F
+  pub draw_gives : (x : ℕ) (e : Expression) (es fs : Units State) (E F : Ended) → fs ≡ merged (drawn_units down x (value_of e) r es) → EndsWith E (undrawn_units down x (value_of e) r es) F → Gives (statement_units down n r (Uniform x e) es) E fs F
   draw_gives x e es fs E F p h = record { next = p; ended = h }
 
   pub observe_gives : (e : Expression) (es first second : Units State) (E F F' : Ended) (w : ℕ) → first ≡ merged (only_units (holds (value_of e)) es) → second ≡ merged (only_units (fails (value_of e)) es) →

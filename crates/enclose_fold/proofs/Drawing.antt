@@ -48,7 +48,7 @@ module _ (x : ℕ) (v : State → Value) (r : Option ℕ) (es : Units State) whe
 
 -- no units are made
 pub draws_within : (x : ℕ) (v : State → Value) (r : Option ℕ) (fs fs' now rest : Units State) (s : State) (w T : ℕ) (F F' : Ended) → now ≡ (s, w) ∷ rest → w ≤ ALL →
-    fs' ≡ merged (fs ++ drawn_units down x v r ((s, w) ∷ [])) → EndsWith F (undrawn_units down v r ((s, w) ∷ [])) F' →
+    fs' ≡ merged (fs ++ drawn_units down x v r ((s, w) ∷ [])) → EndsWith F (undrawn_units down x v r ((s, w) ∷ [])) F' →
     total fs + (total (units_of F) + total now) ≤ T → total fs' + (total (units_of F') + total rest) ≤ T
 draws_within x v r fs fs' now rest s w T F F' q l p g h =
     let a = both_hold fs (drawn_units down x v r ((s, w) ∷ [])) fs' p (λ s. 1) in

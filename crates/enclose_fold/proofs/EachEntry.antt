@@ -52,8 +52,8 @@ append_more G H C = let a = held_append G H C in let b = held_append G H [] in o
 pub each_drawn : (x : ℕ) (v : State → Value) (r : Option ℕ) → IsEach (drawn_units down x v r)
 each_drawn x v r = record { none = refl; more = λ e J G. append_more G _ (drawn_units down x v r J) }
 
-pub each_undrawn : (v : State → Value) (r : Option ℕ) → IsEach (undrawn_units down v r)
-each_undrawn v r = record { none = refl; more = λ e J G. append_more G _ (undrawn_units down v r J) }
+pub each_undrawn : (x : ℕ) (v : State → Value) (r : Option ℕ) → IsEach (undrawn_units down x v r)
+each_undrawn x v r = record { none = refl; more = λ e J G. append_more G _ (undrawn_units down x v r J) }
 
 -- ---- one entry, by the value of an expression at its state
 

@@ -9,11 +9,13 @@ use Rattle.gcl_core.specs.meaning.Bounds.{BlockIsWeighed}
 use Rattle.gcl_core.specs.meaning.Syntax.{Expression, Statement, Skip, Set, If, While, Choice, Choose, Uniform, Observe, Statements, done, ◌▸◌}
 use Rattle.gcl_core.specs.meaning.Value.{State, Value, value_of}
 use Rattle.table_flow.specs.Counts.{moved, stopped, kept_if}
-use Rattle.table_flow.specs.Tables.{holds, fails}
+use Rattle.table_flow.specs.Tables.{holds, fails, uniform_go}
+use Rattle.table_flow.proofs.UniformLists.{by_lists}
 use Rattle.units_law.specs.Down.{down}
 use Rattle.units_law.specs.Flows.{UnitFlow, statement_units, block_units}
 use Rattle.units_law.specs.Merged.{merged}
 use Rattle.units_law.specs.Units.{Units, held, total, only_units, fault_units, end_units}
+use Rattle.units_law.specs.Rounding.{units_kind}
 use Rattle.units_law.proofs.UnitWords.{both_units, drawn_units, undrawn_units}
 use Rattle.units_law.proofs.Downs.{rounds_down}
 use Rattle.units_law.proofs.Held.{held_append}
@@ -212,8 +214,11 @@ module _ (n : ℕ) (r : Option ℕ) where
       let drawn : Sums (drawn_units down x v r A) (drawn_units down x v r B) (drawn_units down x v r (A ++ B)) = each_sums (drawn_units down x v r) (each_drawn x v r) A B in
       let l = longer A B in
       behind_parts (Uniform x e) b A B (A ++ B) l.0 l.1
-      (record { next = drawn; ended = each_sums (undrawn_units down v r) (each_undrawn v r) A B; first = λ L k. k; second = λ L k. k })
+      (record { next = drawn; ended = each_sums (undrawn_units down x v r) (each_undrawn x v r) A B; first = λ L k. rw (no_tables A) (All-nil (λ J. length J ≤ L)); second = λ L k. rw (no_tables B) (All-nil (λ J. length J ≤ L)) })
       (block_parts b h (drawn_units down x v r A) (drawn_units down x v r B) (drawn_units down x v r (A ++ B)) drawn)
+    where
+      no_tables : (J : Units State) → (uniform_go (units_kind down) r x (value_of e) J).tables ≡ []
+      no_tables J = ap (λ f. f.tables) (by_lists (units_kind down) r x (value_of e) J)
 
   pub draw_in_entries : (x : ℕ) (e : Expression) (b : Statements) → BlockIsWeighed b → any_rounds b ≡ false → (M : Units State) → All (λ w. 0 < w) (values_of M) → InEntries (from_table n r (Uniform x e) b) M
   draw_in_entries x e b w h [] k = let z = none_made down rounds_down n r (Uniform x e ▸ b) (tt, w) [] in (omega arith, omega arith)

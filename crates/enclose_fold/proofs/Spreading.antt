@@ -6,11 +6,12 @@ use Rattle.gcl_core.specs.declared.answers.Fault.{Fault}
 use Rattle.gcl_core.specs.declared.answers.Fault.TheVariants.{BadBound}
 use Rattle.gcl_core.specs.declared.answers.Limit.TheVariants.{Attempts}
 use Rattle.gcl_core.specs.meaning.Value.{State, Value}
-use Rattle.gcl_core.specs.meaning.Blocks.{End, fault, limit, by_value, by_bound}
+use Rattle.gcl_core.specs.meaning.Blocks.{End, fault, limit}
 use Rattle.mass_fold.proofs.Bounds.{unsigned, IsBound}
-use Rattle.units_law.specs.Down.{share_of, rest_of}
+use Rattle.units_law.specs.Down.{share_of, rest_of, down}
 use Rattle.units_law.specs.Merged.{merged, IsMerged}
 use Rattle.units_law.specs.Units.{Units, held, total}
+use Rattle.units_law.specs.Rounding.{units_kind}
 use Rattle.units_law.proofs.UnitWords.{below_units}
 use Rattle.units_law.proofs.Held.{held_append}
 use Rattle.units_law.proofs.Merging.{merged_same}
@@ -20,6 +21,7 @@ use Rattle.enclose_fold.specs.inner.Ended.{EndsWith}
 use Rattle.enclose_fold.specs.inner.Refusals.{RefusedAt}
 use Rattle.enclose_fold.proofs.Putting.{is_merged, refused_in}
 use Rattle.enclose_fold.proofs.Within.{drawn_within}
+use Rattle.table_flow.specs.Tables.{number_go}
 
 -- ---- the numbers from i on
 
@@ -92,10 +94,10 @@ state_within x r (suc k) s w p l =
 
 module _ (x : ℕ) (r : Option ℕ) (s : State) (w : ℕ) where
   abbrev pub drawn_at : Value → Units State
-  drawn_at o = by_value o (λ f. []) (λ z. by_bound z [] (λ m. below_units x m s (share_of m r 1 w))) ++ []
+  drawn_at o = (number_go (units_kind down) r x o (s, w)).next ++ []
 
   abbrev pub undrawn_at : Value → Units End
-  undrawn_at o = by_value o (λ f. (fault f, w) ∷ []) (λ z. by_bound z ((fault BadBound, w) ∷ []) (λ m. (limit Attempts, rest_of m r w) ∷ [])) ++ []
+  undrawn_at o = (number_go (units_kind down) r x o (s, w)).ended ++ []
 
   abbrev pub AddedAt : Value → Units State → Units State → Type 0
   AddedAt o fs fs' = fs' ≡ merged (fs ++ drawn_at o)

@@ -22,7 +22,7 @@ shared_within : (n D T R : ℕ) → 0 < D → n ≤ D → D * R ≤ n * T → R 
 shared_within n D T R p l h = let x = mul-le-mul_left T l in from_left D R T p (omega arith)
 
 module _ (r : Option ℕ) (J : Units State) (most : total J ≤ ALL) where
-  pub drawn_within : (x : ℕ) (v : State → Value) → total (drawn_units down x v r J) + total (undrawn_units down v r J) ≤ total J
+  pub drawn_within : (x : ℕ) (v : State → Value) → total (drawn_units down x v r J) + total (undrawn_units down x v r J) ≤ total J
   drawn_within x v = let l = loses r in (drawn_total down rounds_down l.0 ALL r l.1 x v J most).0
 
   module _ (b : ℕ) (some : 0 < b) where

@@ -4,10 +4,10 @@ use Rattle.std.proofs.lemmas.Int.{ints}
 use Rattle.gcl_core.specs.declared.answers.Fault.{Fault}
 use Rattle.gcl_core.specs.declared.answers.Fault.TheVariants.{BadBound}
 use Rattle.gcl_core.specs.declared.answers.Limit.TheVariants.{Attempts}
-use Rattle.gcl_core.specs.meaning.Blocks.{End, fault, limit, by_value, by_bound}
+use Rattle.gcl_core.specs.meaning.Blocks.{End, fault, limit}
 use Rattle.gcl_core.specs.meaning.Value.{State, Value}
-use Rattle.table_flow.specs.Tables.{below_go}
-use Rattle.table_flow.proofs.UniformLists.{drawn_go, undrawn_go}
+use Rattle.table_flow.specs.Tables.{below_go, number_go}
+use Rattle.scaled_fold.proofs.DrawnPairs.{drawn_pairs, undrawn_pairs}
 use Rattle.mass_fold.proofs.Bounds.{unsigned, IsBound}
 use Rattle.units_law.specs.Down.{down, share_of, rest_of}
 use Rattle.scaled_law.specs.Pairs.{Pair, Pairs, counted_pairs, pairs_kind, put_pair, put_pairs}
@@ -18,12 +18,12 @@ use Rattle.scaled_fold.proofs.Merged.{put_further}
 
 -- the first entry's, before those of the rest
 pub drawn_first : (x : ℕ) (v : State → Value) (r : Option ℕ) (s : State) (w : Pair) (J : Pairs State) →
-    drawn_go (pairs_kind down up) x v r ((s, w) ∷ J) ≡ drawn_go (pairs_kind down up) x v r ((s, w) ∷ []) ++ drawn_go (pairs_kind down up) x v r J
-drawn_first x v r s w J = sym (append_assoc _ [] (drawn_go (pairs_kind down up) x v r J))
+    drawn_pairs x v r ((s, w) ∷ J) ≡ drawn_pairs x v r ((s, w) ∷ []) ++ drawn_pairs x v r J
+drawn_first x v r s w J = sym (append_assoc _ [] (drawn_pairs x v r J))
 
-pub undrawn_first : (v : State → Value) (r : Option ℕ) (s : State) (w : Pair) (J : Pairs State) →
-    undrawn_go (pairs_kind down up) v r ((s, w) ∷ J) ≡ undrawn_go (pairs_kind down up) v r ((s, w) ∷ []) ++ undrawn_go (pairs_kind down up) v r J
-undrawn_first v r s w J = sym (append_assoc _ [] (undrawn_go (pairs_kind down up) v r J))
+pub undrawn_first : (x : ℕ) (v : State → Value) (r : Option ℕ) (s : State) (w : Pair) (J : Pairs State) →
+    undrawn_pairs x v r ((s, w) ∷ J) ≡ undrawn_pairs x v r ((s, w) ∷ []) ++ undrawn_pairs x v r J
+undrawn_first x v r s w J = sym (append_assoc _ [] (undrawn_pairs x v r J))
 
 -- one number more
 pub number_more : (x i : ℕ) (s t : State) (w : Pair) (es fs fs' : Pairs State) → t ≡ slice_set s x (pos i) → fs ≡ put_pairs es (below_go counted_pairs x i ((s, w) ∷ [])) → fs' ≡ put_pair fs t w.0 w.1 →
@@ -44,10 +44,10 @@ module _ (x : ℕ) (r : Option ℕ) (s : State) (w : Pair) where
   none_of m = (rest_of m r w.0, rest_up m r w.1)
 
   abbrev pub drawn_at : Value → Pairs State
-  drawn_at o = by_value o (λ f. []) (λ z. by_bound z [] (λ m. below_go counted_pairs x m ((s, each m) ∷ []))) ++ []
+  drawn_at o = (number_go (pairs_kind down up) r x o (s, w)).next ++ []
 
   abbrev pub undrawn_at : Value → Pairs End
-  undrawn_at o = by_value o (λ f. (fault f, w) ∷ []) (λ z. by_bound z ((fault BadBound, w) ∷ []) (λ m. (limit Attempts, none_of m) ∷ [])) ++ []
+  undrawn_at o = (number_go (pairs_kind down up) r x o (s, w)).ended ++ []
 
   abbrev pub AddedAt : Value → Pairs State → Pairs State → Type 0
   AddedAt o es fs = fs ≡ put_pairs es (drawn_at o)

@@ -6,11 +6,11 @@ use Rattle.gcl_core.specs.meaning.Blocks.{End, failed, limit}
 use Rattle.gcl_core.specs.meaning.Syntax.{Expression, Set, Uniform, Observe}
 use Rattle.gcl_core.specs.meaning.Value.{State, value_of}
 use Rattle.table_flow.specs.Tables.{holds, fails, set_go, only_go, faults_go, end_go}
-use Rattle.table_flow.proofs.UniformLists.{drawn_go, undrawn_go}
+use Rattle.scaled_fold.proofs.DrawnPairs.{drawn_pairs, undrawn_pairs}
 use Rattle.units_law.specs.Down.{down}
 use Rattle.units_law.specs.Merged.{IsMerged}
 use Rattle.units_law.specs.Units.{held, total}
-use Rattle.scaled_law.specs.Pairs.{Pair, Pairs, InOrder, added, at_least, at_most, counted_pairs, class_pairs, rest_pairs, pairs_kind, put_pairs, merged_pairs}
+use Rattle.scaled_law.specs.Pairs.{Pair, Pairs, InOrder, added, at_least, at_most, counted_pairs, class_pairs, rest_pairs, put_pairs, merged_pairs}
 use Rattle.scaled_law.specs.Scaled.{Scaled, top, below, with_tables, swapped, taken_back, enters, left_loop}
 use Rattle.scaled_law.specs.Up.{up}
 use Rattle.scaled_law.proofs.Merging.{merged_in_order, pairs_merged_again}
@@ -202,12 +202,12 @@ module _ (w t : Walk) where
       vars = vars;
     }
 
-    pub drawn_follows : (x : ℕ) (e : Expression) (r : Option ℕ) → ts ≡ merged_pairs (drawn_go (pairs_kind down up) x (value_of e) r es) → EndsWith w.ended (undrawn_go (pairs_kind down up) (value_of e) r es) t.ended → Follows (statement_after 0 r (Uniform x e)) w t
+    pub drawn_follows : (x : ℕ) (e : Expression) (r : Option ℕ) → ts ≡ merged_pairs (drawn_pairs x (value_of e) r es) → EndsWith w.ended (undrawn_pairs x (value_of e) r es) t.ended → Follows (statement_after 0 r (Uniform x e)) w t
     drawn_follows x e r p q = record {
       holds = λ f h. record {
-        next = of_table (drawn_go (pairs_kind down up) x (value_of e) r) (order_drawn x (value_of e) r) ts p f h;
+        next = of_table (drawn_pairs x (value_of e) r) (order_drawn x (value_of e) r) ts p f h;
         aside = as_aside _ _ f.aside aside h.aside;
-        ended = of_ends (undrawn_go (pairs_kind down up) (value_of e) r) q f h;
+        ended = of_ends (undrawn_pairs x (value_of e) r) q f h;
         loose = still_loose w t loose f h;
         scale = still_scaled w t loose f h;
       };

@@ -1,3 +1,4 @@
+pub mod DrawnPairs
 pub mod Merged
 pub mod Passing
 pub mod Entries

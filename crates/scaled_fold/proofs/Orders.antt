@@ -5,11 +5,11 @@ use Rattle.std.proofs.lemmas.Nat.{le-div}
 use Rattle.std.proofs.Math.Nat.{div-mul-le_self, mul-le-mul_left}
 use Rattle.numbers.specs.declared.units.TheConstants.{ALL}
 use Rattle.numbers.specs.Units.{shared, shared_up, power_down, power_up}
-use Rattle.gcl_core.specs.meaning.Blocks.{by_value, by_bound}
+use Rattle.gcl_core.specs.meaning.Blocks.{by_value}
 use Rattle.gcl_core.specs.meaning.Draw.{bits_for, rejected_numbers}
 use Rattle.gcl_core.specs.meaning.Value.{State, Value}
-use Rattle.table_flow.specs.Tables.{set_go, only_go, below_go}
-use Rattle.table_flow.proofs.UniformLists.{drawn_go}
+use Rattle.table_flow.specs.Tables.{set_go, only_go, below_go, number_go}
+use Rattle.scaled_fold.proofs.DrawnPairs.{drawn_pairs}
 use Rattle.units_law.specs.Down.{down, share_of, again_down, again_up}
 use Rattle.scaled_law.specs.Pairs.{Pair, Pairs, InOrder, counted_pairs, class_pairs, pairs_kind}
 use Rattle.scaled_law.specs.Up.{up, share_up}
@@ -71,19 +71,19 @@ order_below : (x m : ℕ) (e : State × Pair) → e.1.0 ≤ e.1.1 → InOrder (b
 order_below x zero e i = tt
 order_below x (suc m) e i = order_append (below_go counted_pairs x m (e ∷ [])) ((slice_set e.0 x (pos m), e.1) ∷ []) (order_below x m e i) (i, tt)
 
-pub order_drawn : (x : ℕ) (v : State → Value) (r : Option ℕ) (J : Pairs State) → InOrder J → InOrder (drawn_go (pairs_kind down up) x v r J)
+pub order_drawn : (x : ℕ) (v : State → Value) (r : Option ℕ) (J : Pairs State) → InOrder J → InOrder (drawn_pairs x v r J)
 order_drawn x v r [] i = tt
 order_drawn x v r (e ∷ J) i =
-    order_append (by_value (v e.0) (λ f. []) (λ z. by_bound z [] (λ m. below_go counted_pairs x m (class_pairs down up m r 1 (e ∷ []))))) (drawn_go (pairs_kind down up) x v r J) (by (v e.0)) (order_drawn x v r J i.1)
+    order_append (number_go (pairs_kind down up) r x (v e.0) e).next (drawn_pairs x v r J) (by (v e.0)) (order_drawn x v r J i.1)
   where
     numbers : (m : ℕ) → InOrder (below_go counted_pairs x m (class_pairs down up m r 1 (e ∷ [])))
     numbers m = let s = order_class m r 1 (e ∷ []) (i.0, tt) in order_below x m _ s.0
 
-    at : (z : ℤ) → InOrder (by_bound z [] (λ m. below_go counted_pairs x m (class_pairs down up m r 1 (e ∷ []))))
+    at : (z : ℤ) → InOrder (number_go (pairs_kind down up) r x (Ok z) e).next
     at (pos zero) = tt
     at (pos (suc m)) = numbers (suc m)
     at (negsuc m) = tt
 
-    by : (o : Value) → InOrder (by_value o (λ f. []) (λ z. by_bound z [] (λ m. below_go counted_pairs x m (class_pairs down up m r 1 (e ∷ [])))))
+    by : (o : Value) → InOrder (number_go (pairs_kind down up) r x o e).next
     by (Ok z) = at z
     by (Err f) = tt

@@ -7,12 +7,14 @@ use Rattle.gcl_core.specs.meaning.Value.{State, Value, is_zero}
 use Rattle.gcl_core.specs.meaning.Blocks.{End, fault, limit, by_value, by_bound}
 use Rattle.gcl_core.specs.weighing.Fractions.{Fraction}
 use Rattle.gcl_core.specs.weighing.WeightedEnds.{class_weight, no_class_weight}
-use Rattle.table_flow.specs.Tables.{holds, fails}
+use Rattle.table_flow.specs.Tables.{holds, fails, uniform_go}
 use Rattle.table_flow.proofs.Draws.{each_part, no_part, all_parts, parts_add_up, all_parts_pos, class_pos, no_class_pos, class_share, no_class_share}
+use Rattle.table_flow.proofs.UniformLists.{drawn_go, undrawn_go, by_lists}
 use Rattle.units_law.specs.Flows.{UnitFlow, all_units}
-use Rattle.units_law.specs.Rounding.{Rounding, RoundsDown, LosesFew, class_units, rest_units}
+use Rattle.units_law.specs.Rounding.{Rounding, RoundsDown, LosesFew, class_units, rest_units, units_kind}
 use Rattle.units_law.specs.Units.{Units, total, only_units, fault_units, end_units, set_units}
-use Rattle.units_law.proofs.UnitWords.{both_units, drawn_units, undrawn_units, below_units}
+use Rattle.units_law.specs.Roundings.{roundings_of}
+use Rattle.units_law.proofs.UnitWords.{both_units, below_units}
 use Rattle.units_law.proofs.Held.{held_append}
 use Rattle.units_law.proofs.Roundings.{bound_roundings, first_bound}
 use Rattle.units_law.proofs.Orders.{from_left}
@@ -127,14 +129,18 @@ module _ (cut : Rounding) (c : RoundsDown cut) (k S : ℕ) (r : Option ℕ) (few
   draw_head x w s h (Ok (negsuc m)) = none_lost _ _ _ (omega arith)
   draw_head x w s h (Err f) = none_lost _ _ _ (omega arith)
 
-  pub drawn_total : (x : ℕ) (v : State → Value) (J : Units State) → total J ≤ S → Loses (total J) (total (drawn_units cut x v r J) + total (undrawn_units cut v r J)) (k * bound_roundings cut v J)
-  drawn_total x v [] s = none_lost _ _ _ refl
-  drawn_total x v (e ∷ J) s =
+  lists_total : (x : ℕ) (v : State → Value) (J : Units State) → total J ≤ S → Loses (total J) (total (drawn_go (units_kind cut) x v r J) + total (undrawn_go (units_kind cut) v r J)) (k * bound_roundings cut v J)
+  lists_total x v [] s = none_lost _ _ _ refl
+  lists_total x v (e ∷ J) s =
       let h = draw_head x e.1 e.0 (omega arith) (v e.0) in
-      let i = drawn_total x v J (omega arith) in
-      let a = held_append (λ s. 1) (by_value (v e.0) (λ f. []) (λ z. by_bound z [] (λ m. below_units x m e.0 (cut.share m r 1 e.1)))) (drawn_units cut x v r J) in
-      let b = held_append (λ s. 1) (by_value (v e.0) (λ f. (fault f, e.1) ∷ []) (λ z. by_bound z ((fault BadBound, e.1) ∷ []) (λ m. (limit Attempts, cut.rest m r e.1) ∷ []))) (undrawn_units cut v r J) in
+      let i = lists_total x v J (omega arith) in
+      let a = held_append (λ s. 1) (by_value (v e.0) (λ f. []) (λ z. by_bound z [] (λ m. below_units x m e.0 (cut.share m r 1 e.1)))) (drawn_go (units_kind cut) x v r J) in
+      let b = held_append (λ s. 1) (by_value (v e.0) (λ f. (fault f, e.1) ∷ []) (λ z. by_bound z ((fault BadBound, e.1) ∷ []) (λ m. (limit Attempts, cut.rest m r e.1) ∷ []))) (undrawn_go (units_kind cut) v r J) in
       like _ _ _ _ _ _ (lost_beside _ _ _ _ _ _ h i) (omega arith) (regroup _ _ _ _ _ _ a b) (let z = ap (λ t. k * t) (first_bound cut v e J) in omega arith)
     where
       regroup : (X Y a b p q : ℕ) → X ≡ a + p → Y ≡ b + q → X + Y ≡ a + b + (p + q)
       regroup X Y a b p q e f = omega arith
+
+  pub drawn_total : (x : ℕ) (v : State → Value) (J : Units State) → total J ≤ S →
+      Loses (total J) (total (uniform_go (units_kind cut) r x v J).next + total (uniform_go (units_kind cut) r x v J).ended) (k * roundings_of (uniform_go (units_kind cut) r x v J).reached)
+  drawn_total x v J s = rw (by_lists (units_kind cut) r x v J) (lists_total x v J s)

@@ -12,10 +12,9 @@ use Rattle.gcl_core.specs.meaning.Blocks.{failed, limit}
 use Rattle.gcl_core.specs.weighing.WeightedEnds.{class_weight, no_class_weight}
 use Rattle.table_flow.specs.Tables.{holds, fails}
 use Rattle.table_flow.proofs.Draws.{each_part, no_part, all_parts, parts_add_up, all_parts_pos}
-use Rattle.table_flow.proofs.UniformLists.{by_lists}
 use Rattle.units_law.specs.Flows.{all_units, statement_units, block_units}
 use Rattle.units_law.specs.Merged.{merged}
-use Rattle.units_law.specs.Rounding.{Rounding, RoundsDown, LosesFew, class_units, rest_units, units_kind}
+use Rattle.units_law.specs.Rounding.{Rounding, RoundsDown, LosesFew, class_units, rest_units}
 use Rattle.units_law.specs.Roundings.{roundings_of}
 use Rattle.units_law.specs.Units.{Units, total, only_units, fault_units, end_units}
 use Rattle.units_law.proofs.UnitWords.{loop_units, arms_units, block_roundings}
@@ -66,7 +65,7 @@ module _ (cut : Rounding) (c : RoundsDown cut) (k S : ℕ) (r : Option ℕ) (few
         let a = held_append (λ s. 1) (fault_units v J) (end_units failed (only_units (fails v) J)) in
         let d = end_total failed (only_units (fails v) J) in
         none_lost _ _ _ (omega arith)
-    statement_loses (Uniform x e) p J s = rw (by_lists (units_kind cut) r x (value_of e) J) (drawn_total cut c k S r few x (value_of e) J s)
+    statement_loses (Uniform x e) p J s = drawn_total cut c k S r few x (value_of e) J s
     statement_loses (If e a b) p J s =
         let v = value_of e in
         let A = only_units (holds v) J in

@@ -24,7 +24,7 @@ loop-s-init c =
       vars = c.new-next.ensures.vars;
       within = let a = ap total c.new-next.ensures.empty in let b = ap total p in omega arith;
       so_far = draws_start c.args.x v r es _ _ c.new-next.ensures.empty p;
-      stopped = stop_start (undrawn_units down v r) (each_undrawn v r) es c.args.ended.now _ p;
+      stopped = stop_start (undrawn_units down c.args.x v r) (each_undrawn c.args.x v r) es c.args.ended.now _ p;
     }
 
 pub draw_entry-requires-clause-sized : goal.draw_entry-requires-clause-sized
@@ -59,8 +59,8 @@ loop-s-preserved c =
       within = draws_within c.args.x v r c.loop-s.next.states.entries _ _ c.next.new.self c.in-Some.s c.in-Some.w _ c.loop-s.ended _ c.in-Some.ensures.steps few
           c.in_ok-draw_entry.ensures.added c.in_ok-draw_entry.ensures.stopped c.loop-s.invariant.within;
       so_far = draws_next c.args.x v r es c.loop-s.next.states.entries _ c.next.new.self c.in-Some.s c.in-Some.w c.in-Some.ensures.steps c.loop-s.invariant.so_far _ c.in_ok-draw_entry.ensures.added;
-      stopped = stop_go (undrawn_units down v r) (each_undrawn v r) es c.args.ended.now _ c.in-Some.s c.in-Some.w c.next.new.self
-          (stop_along (undrawn_units down v r) (each_undrawn v r) es c.args.ended.now _ _ _ c.in-Some.ensures.steps c.loop-s.invariant.stopped) _
+      stopped = stop_go (undrawn_units down c.args.x v r) (each_undrawn c.args.x v r) es c.args.ended.now _ c.in-Some.s c.in-Some.w c.next.new.self
+          (stop_along (undrawn_units down c.args.x v r) (each_undrawn c.args.x v r) es c.args.ended.now _ _ _ c.in-Some.ensures.steps c.loop-s.invariant.stopped) _
           c.in_ok-draw_entry.ensures.stopped;
     }
 
@@ -74,8 +74,8 @@ returns-clause-stopped c =
     let v = value_of (expression_of c.args.e.now) in
     let r = c.args.self.attempts in
     let es = c.args.table.states.entries in
-    stop_all (undrawn_units down v r) (each_undrawn v r) es c.args.ended.now _
-    (stop_along (undrawn_units down v r) (each_undrawn v r) es c.args.ended.now _ _ _ c.in-None.ensures.steps.0 c.loop-s.invariant.stopped)
+    stop_all (undrawn_units down c.args.x v r) (each_undrawn c.args.x v r) es c.args.ended.now _
+    (stop_along (undrawn_units down c.args.x v r) (each_undrawn c.args.x v r) es c.args.ended.now _ _ _ c.in-None.ensures.steps.0 c.loop-s.invariant.stopped)
 
 pub returns-in_err-draw_entry-clause-cause : goal.returns-in_err-draw_entry-clause-cause
 returns-in_err-draw_entry-clause-cause c =

@@ -16,5 +16,5 @@ invariant-loop-s l = record {
   within : total l.next.states.entries + (total (units_of l.ended) + total l.s-iterator) ≤ total l.fn.table.states.entries + total (units_of l.fn.ended);
   so_far : (G : State → ℕ) → held G l.next.states.entries + held G (drawn_units down l.x (value_of (expression_of l.e)) l.self.attempts l.s-iterator)
       ≡ held G (drawn_units down l.x (value_of (expression_of l.e)) l.self.attempts l.fn.table.states.entries);
-  stopped : Stops (undrawn_units down (value_of (expression_of l.e)) l.self.attempts) l.fn.table.states.entries l.fn.ended l.ended l.s-iterator;
+  stopped : Stops (undrawn_units down l.x (value_of (expression_of l.e)) l.self.attempts) l.fn.table.states.entries l.fn.ended l.ended l.s-iterator;
 }
