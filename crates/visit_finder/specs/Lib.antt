@@ -2,3 +2,4 @@ pub mod Number
 pub mod Found
 pub mod Forms
 pub mod Places
+pub mod Equations

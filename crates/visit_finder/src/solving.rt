@@ -1,6 +1,11 @@
 // The visits of a loop by elimination of its states, one after the other: that which may add the fewest entries first. Nothing is
 // promised of them.
 
+ghost use Rattle.std.specs.Prelude.{◌≡◌, ◌<◌, ℕ, false, Contains, IfOk};
+ghost use Rattle.visit_finder.specs.declared.residues.Residues.{Residues as residues};
+ghost use Rattle.visit_finder.specs.Equations.{AreBetween, AreKnown};
+ghost use Rattle.visit_finder.specs.Places.{is_lost, AreForms, Loses};
+
 use crate::error::FinderError;
 use crate::residues::{Moduli, Residues};
 use std::alloc::Global;
@@ -230,7 +235,13 @@ pub fn solved(
     entered: BTreeMap<u64, Residues>,
     parts: &BTreeMap<(u64, u64), Residues>,
     states: &Vec<u64>,
-) -> Result<BTreeMap<u64, Residues>, FinderError> {
+) -> Result<BTreeMap<u64, Residues>, FinderError>
+    ensures loses { Loses moduli.old moduli.new }
+    ensures known { IfOk result (λ found. ((s : ℕ) (r : residues) → Contains entered.entries (s, r) → AreForms moduli.old r) →
+        ((t s : ℕ) (r : residues) → Contains parts.now.entries ((t, s), r) → AreForms moduli.old r) → AreBetween states.now.items parts.now.entries →
+        (place : ℕ) → place < 5 → is_lost moduli.new place ≡ false →
+        AreKnown moduli.old place entered.entries parts.now.entries states.now.items found.entries) }
+{
     let mut left = Left {
         out: BTreeMap::new(alloc),
         into: BTreeMap::new(alloc),
