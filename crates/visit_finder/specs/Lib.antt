@@ -3,3 +3,4 @@ pub mod Found
 pub mod Forms
 pub mod Places
 pub mod Equations
+pub mod Exact
