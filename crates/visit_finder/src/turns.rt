@@ -1,7 +1,6 @@
 // Where the turns of a loop lead, and how often each state is expected to be visited.
 
-ghost use Rattle.std.specs.Prelude.{◌≡◌, IfOk, IfErr};
-ghost use Rattle.std.specs.BTreeMap.{keys};
+ghost use Rattle.std.specs.Prelude.{◌≡◌, map, IfOk, IfErr};
 ghost use Rattle.visit_finder.specs.declared.error.FinderError.TheVariants.{NoneNarrow};
 ghost use Rattle.visit_finder.specs.Exact.{AreClosed, AreOnly, HaveNone};
 
@@ -105,7 +104,7 @@ impl Turns {
     /// The states from which the loop is left with some weight: those from which a turn leads on with less than all, and those
     /// from which a turn leads to one of them.
     pub fn leaving(&self, alloc: Global, states: u64) -> Result<BTreeMap<u64, bool>, FinderError>
-        ensures { IfOk result (λ leaving. AreClosed (keys leaving.entries) self.now.parts.items) }
+        ensures { IfOk result (λ leaving. AreClosed (map (λ e. e.0) leaving.entries) self.now.parts.items) }
     {
         let (sums, sources) = self.sums_and_sources(alloc)?;
         let mut whole = BTreeSet::new(alloc);
