@@ -3,7 +3,11 @@ use Rattle.std.specs.Prelude.{ℕ, ◌+◌, ◌*◌, ◌^◌, ◌==◌, if◌the
 use Rattle.narrow_fractions.specs.Remainders.{Same}
 use Rattle.visit_finder.specs.declared.residues.Moduli.{Moduli}
 use Rattle.visit_finder.specs.declared.residues.Residues.{Residues}
-use Rattle.visit_finder.specs.Places.{modulus, form_at}
+use Rattle.visit_finder.specs.Places.{modulus, form_at, AreForms}
+
+-- each is below the moduli
+abbrev pub AllForms : {K : Type 0} → Moduli → List (K × Residues) → Type 0
+AllForms {K} moduli es = (k : K) (r : Residues) → Contains es (k, r) → AreForms moduli r
 
 -- with what a loop is entered in a state
 abbrev pub entered_at : ℕ → List (ℕ × Residues) → ℕ → ℕ
@@ -18,10 +22,6 @@ led_at place (e ∷ es) v s = (if e.0.1 == s then form_at place e.1 * v e.0.0 el
 -- the visits v of a state are what the loop is entered with, `once` for each whole, and what turns lead to it
 abbrev pub Balances : ℕ → ℕ → List (ℕ × Residues) → List ((ℕ × ℕ) × Residues) → ℕ → (ℕ → ℕ) → ℕ → Type 0
 Balances m place entered parts once v s = Same m (2 ^ 64 * v s) (entered_at place entered s * once + led_at place parts v s)
-
--- each part leads from one of the states to another
-abbrev pub AreBetween : List ℕ → List ((ℕ × ℕ) × Residues) → Type 0
-AreBetween states parts = (t s : ℕ) (r : Residues) → Contains parts ((t, s), r) → Contains states t × Contains states s
 
 -- At a place, whatever visits balance in all states are, in each, `once` times what was found of it.
 abbrev pub AreKnown : Moduli → ℕ → List (ℕ × Residues) → List ((ℕ × ℕ) × Residues) → List ℕ → List (ℕ × Residues) → Type 0
