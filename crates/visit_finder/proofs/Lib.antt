@@ -1,6 +1,9 @@
+pub mod AtPlaces
 mod Digits
 mod Division
 mod Ends
+pub mod Eliminated
 pub mod Forms
 pub mod Newton
 pub mod Places
+pub mod Rows

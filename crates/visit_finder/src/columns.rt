@@ -31,13 +31,14 @@ pub fn without(
     ensures sum { IfOk result (λ t. (place : ℕ) → place < 5 → (v : ℕ → ℕ) → Same (modulus moduli.now place)
         (row_at place row.now.items v) (form_at place t.1 * v state + row_at place t.0.items v)) }
 {
+    moduli.are_prime_to_words();
     let mut others = Vec::with_capacity(alloc, row.len())?;
     let mut part = Residues::zero();
-    for (source, weight) in row {
-        if *source == state {
-            part = moduli.sum(&part, weight);
+    for entry in row {
+        if entry.0 == state {
+            part = moduli.sum(&part, &entry.1);
         } else {
-            others.push((*source, *weight))?;
+            others.push(*entry)?;
         }
     }
     Ok((others, part))
@@ -81,16 +82,17 @@ pub fn added(
     ensures sum { IfOk result (λ all. (place : ℕ) → place < 5 → (v : ℕ → ℕ) → Same (modulus moduli.now place)
         (2 ^ 64 * row_at place all.items v) (2 ^ 64 * row_at place row.now.items v + form_at place factor.now * row_at place other.now.items v)) }
 {
+    moduli.are_prime_to_words();
     let mut all = Vec::with_capacity(alloc, row.len())?;
     let mut at = 0;
-    for (source, part) in other {
-        at = copied_below(row, at, *source, &mut all)?;
-        let more = moduli.product(factor, part);
-        if at < row.len() && row[at].0 == *source {
-            all.push((*source, moduli.sum(&row[at].1, &more)))?;
+    for entry in other {
+        at = copied_below(row, at, entry.0, &mut all)?;
+        let more = moduli.product(factor, &entry.1);
+        if at < row.len() && row[at].0 == entry.0 {
+            all.push((entry.0, moduli.sum(&row[at].1, &more)))?;
             at += 1;
         } else {
-            all.push((*source, more))?;
+            all.push((entry.0, more))?;
         }
     }
     while at < row.len() {

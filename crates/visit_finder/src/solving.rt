@@ -195,6 +195,7 @@ impl Left {
         ensures hold { OnOk result ((place : ℕ) → place < 5 → is_lost moduli.new place ≡ false → (once : ℕ) (v : ℕ → ℕ) → ColumnHolds moduli.old place once v state column →
             ColumnsHold moduli.old place once v self.old.columns.entries → ColumnsHold moduli.old place once v self.new.columns.entries) }
     {
+        moduli.are_prime_to_words();
         let (from, back) = without(alloc, moduli, &column.from, state)?;
         let one = moduli.of_number(1);
         let leaves = moduli.inverse(&moduli.difference(&one, &back));
@@ -234,6 +235,7 @@ fn replaced(
     ensures hold { IfOk result (λ next. (place : ℕ) → place < 5 → (once : ℕ) (v : ℕ → ℕ) → PivotHolds moduli.now place once v state leaves.now other.now →
         (s : ℕ) → ColumnHolds moduli.now place once v s column → ColumnHolds moduli.now place once v s next) }
 {
+    moduli.are_prime_to_words();
     let (others, part) = without(alloc, moduli, &column.from, state)?;
     let factor = moduli.product(&part, leaves);
     let more = moduli.product(&factor, &other.entered);
