@@ -4,6 +4,7 @@ mod Division
 mod Ends
 pub mod Eliminated
 pub mod Forms
+pub mod Maps
 pub mod Newton
 pub mod Places
 pub mod Rows

@@ -7,7 +7,7 @@ ghost use Rattle.visit_finder.specs.declared.solving.Pivot.{Pivot as pivot};
 ghost use Rattle.visit_finder.specs.Equations.{entered_at, led_at, AreKnown, AllForms};
 ghost use Rattle.visit_finder.specs.Places.{modulus, form_at, is_lost, AreForms, Loses};
 ghost use Rattle.visit_finder.specs.inner.Columns.{sum_at, HasKey, ColumnForms, ColumnHolds, ColumnsForms, ColumnsHold};
-ghost use Rattle.visit_finder.specs.inner.Pivots.{Takes, PivotForms, PivotsForms, PivotHolds, PivotsHold, FoundHolds};
+ghost use Rattle.visit_finder.specs.inner.Pivots.{Takes, Renews, PivotForms, PivotsForms, PivotHolds, PivotsHold, FoundHolds};
 
 use crate::columns::{Column, added, without};
 use crate::error::FinderError;
@@ -151,27 +151,48 @@ impl Left {
     ) -> Result<(), FinderError>
         requires columns { ColumnsForms moduli.now self.old.columns.entries }
         requires pivot { PivotForms moduli.now leaves.now column.now }
-        ensures forms { OnOk result (ColumnsForms moduli.now self.new.columns.entries) }
-        ensures keys { OnOk result ((s : ℕ) → HasKey self.old.columns.entries s → HasKey self.new.columns.entries s) }
-        ensures count { OnOk result (length self.new.columns.entries ≡ length self.old.columns.entries) }
-        ensures hold { OnOk result ((place : ℕ) → place < 5 → (once : ℕ) (v : ℕ → ℕ) → PivotHolds moduli.now place once v state leaves.now column.now →
-            ColumnsHold moduli.now place once v self.old.columns.entries → ColumnsHold moduli.now place once v self.new.columns.entries) }
+        ensures { OnOk result (Renews moduli.now state leaves.now column.now self.old.columns.entries self.new.columns.entries) }
     {
         let targets = match self.targets.remove(&state) {
             Some(targets) => targets,
             None => BTreeSet::new(alloc),
         };
         for target in targets {
-            if let Some(old) = self.columns.remove(&target) {
-                let next = replaced(alloc, moduli, old, state, leaves, column)?;
-                for (source, _) in &column.from {
-                    self.stand(alloc, *source, target)?;
-                }
-                self.columns.insert(target, next)?;
-                self.rank(target)?;
-            }
+            renew(alloc, moduli, &mut self.columns, target, state, leaves, column)?;
+            self.stand_all(alloc, column, target)?;
+            self.rank(target)?;
         }
         Ok(())
+    }
+
+    // The states of a column stand in that of another.
+    fn stand_all(&mut self, alloc: Global, column: &Column, target: u64) -> Result<(), FinderError>
+        ensures { self.new.columns.entries ≡ self.old.columns.entries }
+    {
+        for entry in &column.from {
+            self.stand(alloc, entry.0, target)?;
+        }
+        Ok(())
+    }
+
+    fn rank_all(&mut self, column: &Column) -> Result<(), FinderError>
+        ensures { self.new.columns.entries ≡ self.old.columns.entries }
+    {
+        for entry in &column.from {
+            self.rank(entry.0)?;
+        }
+        Ok(())
+    }
+
+    // The states of a column stand no more in that of a state.
+    fn stand_down(&mut self, column: &Column, state: u64)
+        ensures { self.new.columns.entries ≡ self.old.columns.entries }
+    {
+        for entry in &column.from {
+            if let Some(targets) = self.targets.get_mut(&entry.0) {
+                targets.remove(&state);
+            }
+        }
     }
 
     // The state is eliminated, whose column was taken away.
@@ -187,13 +208,9 @@ impl Left {
         ensures loses { Loses moduli.old moduli.new }
         ensures state { IfOk result (λ pivot. pivot.state ≡ state) }
         ensures pivot { IfOk result (λ pivot. PivotForms moduli.old pivot.leaves pivot.column) }
-        ensures forms { OnOk result (ColumnsForms moduli.old self.new.columns.entries) }
-        ensures keys { OnOk result ((s : ℕ) → HasKey self.old.columns.entries s → HasKey self.new.columns.entries s) }
-        ensures count { OnOk result (length self.new.columns.entries ≡ length self.old.columns.entries) }
+        ensures renews { IfOk result (λ pivot. Renews moduli.old state pivot.leaves pivot.column self.old.columns.entries self.new.columns.entries) }
         ensures told { IfOk result (λ pivot. (place : ℕ) → place < 5 → is_lost moduli.new place ≡ false → (once : ℕ) (v : ℕ → ℕ) →
             ColumnHolds moduli.old place once v state column → PivotHolds moduli.old place once v state pivot.leaves pivot.column) }
-        ensures hold { OnOk result ((place : ℕ) → place < 5 → is_lost moduli.new place ≡ false → (once : ℕ) (v : ℕ → ℕ) → ColumnHolds moduli.old place once v state column →
-            ColumnsHold moduli.old place once v self.old.columns.entries → ColumnsHold moduli.old place once v self.new.columns.entries) }
     {
         moduli.are_prime_to_words();
         let (from, back) = without(alloc, moduli, &column.from, state)?;
@@ -207,17 +224,32 @@ impl Left {
                 from,
             },
         };
-        for (source, _) in &pivot.column.from {
-            if let Some(targets) = self.targets.get_mut(source) {
-                targets.remove(&state);
-            }
-        }
+        self.stand_down(&pivot.column, state);
         self.replace(alloc, moduli, state, &pivot.leaves, &pivot.column)?;
-        for (source, _) in &pivot.column.from {
-            self.rank(*source)?;
-        }
+        self.rank_all(&pivot.column)?;
         Ok(pivot)
     }
+}
+
+// In the column of the target, if it has one, the state is replaced by its own column, so many times.
+fn renew(
+    alloc: Global,
+    moduli: &Moduli,
+    columns: &mut BTreeMap<u64, Column>,
+    target: u64,
+    state: u64,
+    leaves: &Residues,
+    column: &Column,
+) -> Result<(), FinderError>
+    requires columns { ColumnsForms moduli.now columns.old.entries }
+    requires pivot { PivotForms moduli.now leaves.now column.now }
+    ensures { OnOk result (Renews moduli.now state leaves.now column.now columns.old.entries columns.new.entries) }
+{
+    if let Some(old) = columns.remove(&target) {
+        let next = replaced(alloc, moduli, old, state, leaves, column)?;
+        columns.insert(target, next)?;
+    }
+    Ok(())
 }
 
 // A column in which the state is replaced by its own column, so many times.
