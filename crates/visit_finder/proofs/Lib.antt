@@ -1,3 +1,4 @@
+pub mod AtPlaces
 mod Digits
 mod Division
 mod Ends
