@@ -1,74 +1,88 @@
--- Sums, products and differences of forms at one place, by the clauses of their calls.
-use Rattle.std.proofs.Common.{◌≡◌, ℕ, zero, suc, ◌+◌, ◌-◌, ◌*◌, ◌%◌, ◌^◌, ◌<◌, List, [], ◌∷◌, length, get_or, refl, sym, ap, subst, arith}
+-- What sums, products and differences of forms are at a place, whatever numbers the forms are of.
+use Rattle.std.proofs.Common.{◌≡◌, ℕ, zero, suc, ◌+◌, ◌*◌, ◌%◌, ◌^◌, ◌<◌, List, [], ◌∷◌, map, slice_index, refl, sym, ap, subst, arith}
 use Rattle.narrow_fractions.specs.Remainders.{Same}
 use Rattle.narrow_fractions.proofs.Congruence.{equal, turned, chained, added, times, product}
 use Rattle.visit_finder.specs.declared.primes.Prime.{Prime}
 use Rattle.visit_finder.specs.declared.residues.Moduli.{Moduli}
-use Rattle.visit_finder.specs.Forms.{IsForm, IsInverse, IsPrimeToWords}
-use Rattle.visit_finder.specs.Places.{modulus}
-use Rattle.visit_finder.proofs.Forms.{some_number}
-use Rattle.visit_finder.proofs.Places.{modulus_is}
+use Rattle.visit_finder.specs.declared.residues.Residues.{Residues}
+use Rattle.visit_finder.specs.Places.{modulus, form_at, AreAt, Loses}
+use Rattle.visit_finder.proofs.Forms.{some_number, without_word}
 
-pub prime_to_words : (moduli : Moduli) (place : ℕ) → place < 5 → length moduli.primes ≡ 5 → IsPrimeToWords (modulus moduli place)
-prime_to_words moduli place within count = by moduli.primes refl
+-- what is above a form is one of the primes
+pub prime_at : (moduli : Moduli) (place form : ℕ) → form < modulus moduli place → (prime : Prime) × (modulus moduli place ≡ prime.p)
+prime_at moduli place form below = by moduli.primes place below
   where
-    by : (primes : List Prime) → moduli.primes ≡ primes → IsPrimeToWords (modulus moduli place)
-    by [] e = absurd (let n = ap length e in omega (arith, count, n))
-    by (prime ∷ primes) e =
-        let at = get_or moduli.primes place prime in
-        let is : modulus moduli place ≡ at.p = modulus_is moduli place prime (omega (arith, count, within)) in
-        (at.inverse, subst (λ m. (m * at.inverse + 1) % 2 ^ 64 ≡ 0) (sym is) at.inverted, let s = at.some in omega (arith, is, s))
+    by : (primes : List Prime) (place : ℕ) → form < slice_index (map (λ prime. prime.p) primes) place → (prime : Prime) × (slice_index (map (λ prime. prime.p) primes) place ≡ prime.p)
+    by [] place below = absurd (omega (arith, below))
+    by (prime ∷ primes) zero below = (prime, refl)
+    by (prime ∷ primes) (suc place) below = by primes place below
 
-pub sum_at : (p f g r : ℕ) → IsPrimeToWords p → ((v u : ℕ) → IsForm p f v → IsForm p g u → IsForm p r (v + u)) → f < p → g < p → (r < p) × Same p r (f + g)
-sum_at p f g r word clause first second =
-    let v = some_number (2 ^ 64) p word.0 f word.1 in
-    let u = some_number (2 ^ 64) p word.0 g word.1 in
-    let is = clause v.0 u.0 (first, v.1) (second, u.1) in (
-      is.0,
-      chained p _ _ _ is.1 (chained p _ _ _ (equal p _ (2 ^ 64 * v.0 + 2 ^ 64 * u.0) (omega arith)) (added p _ _ _ _ (turned p _ _ v.1) (turned p _ _ u.1))),
-    )
+-- -1 over the modulus, modulo 2 ^ 64
+pub inverse_at : (moduli : Moduli) (place form : ℕ) → form < modulus moduli place → (i : ℕ) × ((modulus moduli place * i + 1) % 2 ^ 64 ≡ 0)
+inverse_at moduli place form below =
+    let prime = prime_at moduli place form below in
+    (prime.0.inverse, subst (λ p. (p * prime.0.inverse + 1) % 2 ^ 64 ≡ 0) (sym prime.1) prime.0.inverted)
 
-pub product_at : (p f g r : ℕ) → IsPrimeToWords p → ((v u : ℕ) → IsForm p f v → IsForm p g u → IsForm p r (v * u)) → f < p → g < p → (r < p) × Same p (2 ^ 64 * r) (f * g)
-product_at p f g r word clause first second =
-    let v = some_number (2 ^ 64) p word.0 f word.1 in
-    let u = some_number (2 ^ 64) p word.0 g word.1 in
-    let is = clause v.0 u.0 (first, v.1) (second, u.1) in (
-      is.0,
-      chained p _ _ _ (times p (2 ^ 64) _ _ is.1) (chained p _ _ _ (parts (2 ^ 64) v.0 u.0) (product p _ _ _ _ (turned p _ _ v.1) (turned p _ _ u.1))),
-    )
+-- each form below the modulus is one of a number
+pub number_at : (moduli : Moduli) (place : ℕ) (one : Residues) → form_at place one < modulus moduli place → (v : ℕ) × AreAt moduli place one v
+number_at moduli place one below =
+    let i = inverse_at moduli place (form_at place one) below in
+    let v = some_number (2 ^ 64) (modulus moduli place) i.0 (form_at place one) i.1 in
+    (v.0, (below, v.1))
+
+-- 2 ^ 64 falls away
+pub without_word_at : (moduli : Moduli) (place form a b : ℕ) → form < modulus moduli place → Same (modulus moduli place) (2 ^ 64 * a) (2 ^ 64 * b) → Same (modulus moduli place) a b
+without_word_at moduli place form a b below s = let i = inverse_at moduli place form below in without_word (2 ^ 64) (modulus moduli place) i.0 a b i.1 s
+
+sum_over : (w p f g v u r : ℕ) → Same p f (w * v) → Same p g (w * u) → Same p r (w * (v + u)) → Same p r (f + g)
+sum_over w p f g v u r a b s = chained p _ _ _ s (chained p _ _ _ (equal p _ (w * v + w * u) (omega arith)) (added p _ _ _ _ (turned p _ _ a) (turned p _ _ b)))
+
+product_over : (w p f g v u r : ℕ) → Same p f (w * v) → Same p g (w * u) → Same p r (w * (v * u)) → Same p (w * r) (f * g)
+product_over w p f g v u r a b s =
+    chained p _ _ _ (times p w _ _ s) (chained p _ _ _ (equal p _ (w * v * (w * u)) (omega arith)) (product p _ _ _ _ (turned p _ _ a) (turned p _ _ b)))
+
+difference_over : (w p f g v u d r : ℕ) → Same p f (w * v) → Same p g (w * u) → Same p (d + u) v → Same p r (w * d) → Same p (r + g) f
+difference_over w p f g v u d r a b apart s =
+    chained p _ _ _ (added p _ _ _ _ s b) (chained p _ _ _ (equal p _ (w * (d + u)) (omega arith)) (chained p _ _ _ (times p w _ _ apart) (turned p _ _ a)))
+
+-- what is left of one number when the other is taken away
+apart_by : (p v u : ℕ) → 0 < p → (d : ℕ) × Same p (d + u) v
+apart_by zero v u some = absurd (omega (arith, some))
+apart_by (suc q) v u some = (v + q * u, (0, u, join q v u))
   where
-    parts : (w v u : ℕ) → Same p (w * (w * (v * u))) (w * v * (w * u))
-    parts w v u = equal p _ _ (omega arith)
+    join : (q v u : ℕ) → v + q * u + u + suc q * 0 ≡ v + suc q * u
+    join q v u = omega arith
 
-pub difference_at : (p f g r : ℕ) → IsPrimeToWords p → ((v u d : ℕ) → IsForm p f v → IsForm p g u → Same p (d + u) v → IsForm p r d) → f < p → g < p → (r < p) × Same p (r + g) f
-difference_at p f g r word clause first second =
-    let v = some_number (2 ^ 64) p word.0 f word.1 in
-    let u = some_number (2 ^ 64) p word.0 g word.1 in
-    let d = v.0 + (p - 1) * u.0 in
-    let apart : Same p (d + u.0) v.0 = (0, u.0, less p v.0 u.0 first) in
-    let is = clause v.0 u.0 d (first, v.1) (second, u.1) apart in (
-      is.0,
-      chained p _ _ _ (added p _ _ _ _ is.1 u.1)
-      (chained p _ _ _ (equal p _ (2 ^ 64 * (d + u.0)) (omega arith)) (chained p _ _ _ (times p (2 ^ 64) _ _ apart) (turned p _ _ v.1))),
-    )
-  where
-    less : (p v u : ℕ) → f < p → v + (p - 1) * u + u + p * 0 ≡ v + p * u
-    less zero v u h = absurd (omega (arith, h))
-    less (suc p) v u h = let e : suc p - 1 ≡ p = omega arith in rw e (omega arith)
+pub sum_at : (moduli : Moduli) (place : ℕ) (one other result : Residues) → ((v u : ℕ) → AreAt moduli place one v → AreAt moduli place other u → AreAt moduli place result (v + u)) →
+    form_at place one < modulus moduli place → form_at place other < modulus moduli place →
+    (form_at place result < modulus moduli place) × Same (modulus moduli place) (form_at place result) (form_at place one + form_at place other)
+sum_at moduli place one other result clause below below' =
+    let v = number_at moduli place one below in
+    let u = number_at moduli place other below' in
+    let is = clause v.0 u.0 v.1 u.1 in
+    (is.0, sum_over (2 ^ 64) (modulus moduli place) (form_at place one) (form_at place other) v.0 u.0 (form_at place result) v.1.1 u.1.1 is.1)
 
--- forms of numbers that are one another's inverse
-pub inverse_at : (p f g : ℕ) → IsPrimeToWords p → IsInverse p f g → f < p → (g < p) × Same p (g * f) (2 ^ 64 * 2 ^ 64)
-inverse_at p f g word inverse below =
-    let v = some_number (2 ^ 64) p word.0 f word.1 in
-    let u = inverse v.0 (below, v.1) in (
-      u.1.0,
-      chained p _ _ _ (product p _ _ _ _ u.1.1 v.1)
-      (chained p _ _ _ (parts (2 ^ 64) u.0 v.0) (chained p _ _ _ (times p _ _ _ u.2) (equal p _ _ (omega arith)))),
-    )
-  where
-    parts : (w u v : ℕ) → Same p (w * u * (w * v)) (w * w * (u * v))
-    parts w u v = equal p _ _ (omega arith)
+pub product_at : (moduli : Moduli) (place : ℕ) (one other result : Residues) → ((v u : ℕ) → AreAt moduli place one v → AreAt moduli place other u → AreAt moduli place result (v * u)) →
+    form_at place one < modulus moduli place → form_at place other < modulus moduli place →
+    (form_at place result < modulus moduli place) × Same (modulus moduli place) (2 ^ 64 * form_at place result) (form_at place one * form_at place other)
+product_at moduli place one other result clause below below' =
+    let v = number_at moduli place one below in
+    let u = number_at moduli place other below' in
+    let is = clause v.0 u.0 v.1 u.1 in
+    (is.0, product_over (2 ^ 64) (modulus moduli place) (form_at place one) (form_at place other) v.0 u.0 (form_at place result) v.1.1 u.1.1 is.1)
 
--- the form of nothing
-pub none_at : (p f : ℕ) → IsPrimeToWords p → (0 < p → IsForm p f 0) → (f < p) × Same p f 0
-none_at p f word clause = let is = clause word.2 in (is.0, chained p _ _ _ is.1 (equal p _ _ (omega arith)))
+pub difference_at : (moduli : Moduli) (place : ℕ) (one other result : Residues) →
+    ((v u d : ℕ) → AreAt moduli place one v → AreAt moduli place other u → Same (modulus moduli place) (d + u) v → AreAt moduli place result d) →
+    form_at place one < modulus moduli place → form_at place other < modulus moduli place →
+    (form_at place result < modulus moduli place) × Same (modulus moduli place) (form_at place result + form_at place other) (form_at place one)
+difference_at moduli place one other result clause below below' =
+    let p = modulus moduli place in
+    let v = number_at moduli place one below in
+    let u = number_at moduli place other below' in
+    let d = apart_by p v.0 u.0 (omega (arith, below)) in
+    let is = clause v.0 u.0 d.0 v.1 u.1 d.1 in
+    (is.0, difference_over (2 ^ 64) p (form_at place one) (form_at place other) v.0 u.0 d.0 (form_at place result) v.1.1 u.1.1 d.1 is.1)
+
+-- the moduli stay when some are lost
+pub same_modulus : (old new : Moduli) (place : ℕ) → Loses old new → modulus new place ≡ modulus old place
+same_modulus old new place loses = ap (λ primes. slice_index (map (λ prime. prime.p) primes) place) loses.0

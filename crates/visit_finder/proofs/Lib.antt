@@ -7,4 +7,5 @@ pub mod Forms
 pub mod Maps
 pub mod Newton
 pub mod Places
+pub mod Renewals
 pub mod Rows

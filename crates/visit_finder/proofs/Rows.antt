@@ -7,7 +7,7 @@ use Rattle.narrow_fractions.proofs.Congruence.{equal, turned, chained, added, ti
 use Rattle.visit_finder.specs.declared.residues.Moduli.{Moduli}
 use Rattle.visit_finder.specs.declared.residues.Residues.{Residues}
 use Rattle.visit_finder.specs.Equations.{AllForms}
-use Rattle.visit_finder.specs.Places.{modulus, form_at, AreForms}
+use Rattle.visit_finder.specs.Places.{modulus, form_at, AreAt, AreForms}
 use Rattle.visit_finder.specs.inner.Columns.{row_at}
 
 abbrev pub Row : Type 0
@@ -62,7 +62,7 @@ pub record Without (moduli : Moduli) (state : ℕ) (row : Row) (part : Residues)
   pub sum : (place : ℕ) → place < 5 → (v : ℕ → ℕ) →
       Same (modulus moduli place) (row_at place row v) (form_at place part * v state + (row_at place others v + row_at place rest v))
 
-pub none_without : (moduli : Moduli) (state : ℕ) (row : Row) (part : Residues) → ((place : ℕ) → place < 5 → (form_at place part < modulus moduli place) × Same (modulus moduli place) (form_at place part) 0) → AllForms moduli row → Without moduli state row part [] row
+pub none_without : (moduli : Moduli) (state : ℕ) (row : Row) (part : Residues) → ((place : ℕ) → place < 5 → AreAt moduli place part 0) → AllForms moduli row → Without moduli state row part [] row
 none_without moduli state row part nothing all = record {
   over = λ place within. (nothing place within).0;
   put_by = no_forms moduli;
@@ -70,7 +70,7 @@ none_without moduli state row part nothing all = record {
   sum = λ place within v.
       let m = modulus moduli place in
       chained m _ _ _ (equal m _ (0 * v state + row_at place row v) (omega arith))
-      (chained m _ _ _ (added m _ _ _ _ (product m _ _ (v state) (v state) (turned m _ _ (nothing place within).1) (equal m _ _ refl)) (equal m _ _ refl)) (equal m _ _ (omega arith)));
+      (chained m _ _ _ (added m _ _ _ _ (product m _ _ (v state) (v state) (chained m 0 _ _ (equal m 0 _ (omega arith)) (turned m _ _ (nothing place within).1)) (equal m _ _ refl)) (equal m _ _ refl)) (equal m _ _ (omega arith)));
 }
 
 pub another_without : (moduli : Moduli) (state : ℕ) (row : Row) (part : Residues) (others rest : Row) (s : ℕ) (r : Residues)

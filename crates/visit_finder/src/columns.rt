@@ -4,7 +4,7 @@ ghost use Rattle.std.specs.Prelude.{◌≡◌, ◌+◌, ◌*◌, ◌^◌, ◌<�
 ghost use Rattle.narrow_fractions.specs.Remainders.{Same};
 ghost use Rattle.visit_finder.specs.Equations.{AllForms};
 ghost use Rattle.visit_finder.specs.Places.{modulus, form_at, AreForms};
-ghost use Rattle.visit_finder.specs.inner.Columns.{row_at};
+ghost use Rattle.visit_finder.specs.inner.Columns.{row_at, ColumnForms};
 
 use crate::error::FinderError;
 use crate::residues::{Moduli, Residues};
@@ -18,23 +18,22 @@ pub struct Column {
     pub from: Vec<(u64, Residues)>,
 }
 
-/// The row without a state, and its part.
+/// The row of a column without a state, and its part.
 pub fn without(
     alloc: Global,
     moduli: &Moduli,
-    row: &Vec<(u64, Residues)>,
+    column: &Column,
     state: u64,
 ) -> Result<(Vec<(u64, Residues)>, Residues), FinderError>
-    requires { AllForms moduli.now row.now.items }
+    requires { ColumnForms moduli.now column.now }
     ensures others { IfOk result (λ t. AllForms moduli.now t.0.items) }
     ensures part { IfOk result (λ t. AreForms moduli.now t.1) }
     ensures sum { IfOk result (λ t. (place : ℕ) → place < 5 → (v : ℕ → ℕ) → Same (modulus moduli.now place)
-        (row_at place row.now.items v) (form_at place t.1 * v state + row_at place t.0.items v)) }
+        (row_at place column.now.from.items v) (form_at place t.1 * v state + row_at place t.0.items v)) }
 {
-    moduli.are_prime_to_words();
-    let mut others = Vec::with_capacity(alloc, row.len())?;
+    let mut others = Vec::with_capacity(alloc, column.from.len())?;
     let mut part = Residues::zero();
-    for entry in row {
+    for entry in &column.from {
         if entry.0 == state {
             part = moduli.sum(&part, &entry.1);
         } else {
@@ -82,7 +81,6 @@ pub fn added(
     ensures sum { IfOk result (λ all. (place : ℕ) → place < 5 → (v : ℕ → ℕ) → Same (modulus moduli.now place)
         (2 ^ 64 * row_at place all.items v) (2 ^ 64 * row_at place row.now.items v + form_at place factor.now * row_at place other.now.items v)) }
 {
-    moduli.are_prime_to_words();
     let mut all = Vec::with_capacity(alloc, row.len())?;
     let mut at = 0;
     for entry in other {

@@ -212,8 +212,7 @@ impl Left {
         ensures told { IfOk result (λ pivot. (place : ℕ) → place < 5 → is_lost moduli.new place ≡ false → (once : ℕ) (v : ℕ → ℕ) →
             ColumnHolds moduli.old place once v state column → PivotHolds moduli.old place once v state pivot.leaves pivot.column) }
     {
-        moduli.are_prime_to_words();
-        let (from, back) = without(alloc, moduli, &column.from, state)?;
+            let (from, back) = without(alloc, moduli, &column, state)?;
         let one = moduli.of_number(1);
         let leaves = moduli.inverse(&moduli.difference(&one, &back));
         let pivot = Pivot {
@@ -267,8 +266,7 @@ fn replaced(
     ensures hold { IfOk result (λ next. (place : ℕ) → place < 5 → (once : ℕ) (v : ℕ → ℕ) → PivotHolds moduli.now place once v state leaves.now other.now →
         (s : ℕ) → ColumnHolds moduli.now place once v s column → ColumnHolds moduli.now place once v s next) }
 {
-    moduli.are_prime_to_words();
-    let (others, part) = without(alloc, moduli, &column.from, state)?;
+    let (others, part) = without(alloc, moduli, &column, state)?;
     let factor = moduli.product(&part, leaves);
     let more = moduli.product(&factor, &other.entered);
     let from = added(alloc, moduli, &others, &factor, &other.from)?;

@@ -37,7 +37,7 @@ loop-entry-preserved c =
         subst₂ (λ put left. Joined moduli factor row other put left) (sym c.in_ok-at.ensures.moved)
         (one_step entries c.loop-entry.entry-index none c.loop-entry-test.true) c.loop-entry.invariant.joined in
     let times = λ (place : ℕ) (within : place < 5) (below : form_at place entry.1 < modulus moduli place).
-        product_at (modulus moduli place) _ _ _ (c.are_prime_to_words.ensures place within) (c.product-more.ensures place within) (c.requires.factor place within) below in
+        product_at moduli place _ _ _ (c.product-more.ensures place within) (c.requires.factor place within) below in
     elim c.if-at-len.branch [
       | then-at-len+then-index-entry+in_ok-push w ↦
           let below : at < length row = omega (arith, w.if-at-len.true, c.len-in-loop-entry.ensures) in
@@ -46,7 +46,7 @@ loop-entry-preserved c =
           let same : here.0 ≡ entry.0 = ap (λ e. e.0) (w.index-then-index-entry.ensures ∙ get_or_default row at here w.index.result.now below ∙ sym w.index.ensures) ∙ w.if-index-entry.true in
           let first : drop at row ≡ (entry.0, here.1) ∷ behind = one_step row at here below ∙ ap (λ e. e ∷ behind) (sym w.index-then-index-entry.ensures) ∙ ap (λ s. (s, here.1) ∷ behind) same in
           let adds = λ (place : ℕ) (within : place < 5) (first : form_at place here.1 < modulus moduli place) (second : form_at place c.product-more.result < modulus moduli place).
-              sum_at (modulus moduli place) _ _ _ (c.are_prime_to_words.ensures place within) (w.sum.ensures place within) first second in record {
+              sum_at moduli place _ _ _ (w.sum.ensures place within) first second in record {
                 within = omega (arith, below, w.at-is);
                 joined =
                     subst₂ (λ put at. Joined moduli factor row other (put ++ drop at row) rest) (sym (ap (λ all. all.items) w.all-is ∙ w.in_ok-push.ensures.items)) (sym w.at-is)
