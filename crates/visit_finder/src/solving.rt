@@ -71,7 +71,12 @@ fn columns_of(
 
 impl Left {
     // The columns of states, and in which each stands.
-    fn of(alloc: Global, columns: BTreeMap<u64, Column>, parts: &BTreeMap<(u64, u64), Residues>, states: &Vec<u64>) -> Result<Left, FinderError>
+    fn of(
+        alloc: Global,
+        columns: BTreeMap<u64, Column>,
+        parts: &BTreeMap<(u64, u64), Residues>,
+        states: &Vec<u64>,
+    ) -> Result<Left, FinderError>
         ensures { IfOk result (λ left. left.columns.entries ≡ columns.entries) }
     {
         let mut left = Left {

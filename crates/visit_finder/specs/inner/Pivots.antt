@@ -1,5 +1,5 @@
 -- States that were eliminated, and what is found of them, at a modulus.
-use Rattle.std.specs.Prelude.{◌≡◌, ◌⊎◌, ℕ, suc, ◌*◌, ◌^◌, ◌<◌, List, length, Contains}
+use Rattle.std.specs.Prelude.{◌≡◌, ◌⊎◌, ℕ, suc, ◌*◌, ◌^◌, ◌≤◌, ◌<◌, List, length, Contains}
 use Rattle.narrow_fractions.specs.Remainders.{Same}
 use Rattle.visit_finder.specs.declared.columns.Column.{Column}
 use Rattle.visit_finder.specs.declared.residues.Moduli.{Moduli}
@@ -31,7 +31,7 @@ PivotHolds moduli place once v s leaves column =
 pub record Renews (moduli : Moduli) (s : ℕ) (leaves : Residues) (pivot : Column) (old new : List (ℕ × Column)) : Type 0 where
   pub forms : ColumnsForms moduli old → ColumnsForms moduli new
   pub keys : (t : ℕ) → HasKey old t → HasKey new t
-  pub count : length new ≡ length old
+  pub count : length new ≤ length old
   pub hold : (place : ℕ) → place < 5 → (once : ℕ) (v : ℕ → ℕ) → PivotHolds moduli place once v s leaves pivot → ColumnsHold moduli place once v old →
       ColumnsHold moduli place once v new
 
