@@ -1,10 +1,11 @@
 pub mod AtPlaces
 mod Digits
 mod Division
-mod Ends
 pub mod Eliminated
+mod Ends
 pub mod Entries
 pub mod Forms
+mod Inverses
 pub mod Maps
 pub mod Newton
 pub mod Places
