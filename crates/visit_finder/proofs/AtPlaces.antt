@@ -5,6 +5,7 @@ use Rattle.narrow_fractions.proofs.Congruence.{equal, turned, chained, added, ti
 use Rattle.visit_finder.specs.declared.primes.Prime.{Prime}
 use Rattle.visit_finder.specs.declared.residues.Moduli.{Moduli}
 use Rattle.visit_finder.specs.declared.residues.Residues.{Residues}
+use Rattle.visit_finder.specs.Forms.{IsInverse}
 use Rattle.visit_finder.specs.Places.{modulus, form_at, AreAt, Loses}
 use Rattle.visit_finder.proofs.Forms.{some_number, without_word}
 
@@ -86,3 +87,15 @@ difference_at moduli place one other result clause below below' =
 -- the moduli stay when some are lost
 pub same_modulus : (old new : Moduli) (place : ℕ) → Loses old new → modulus new place ≡ modulus old place
 same_modulus old new place loses = ap (λ primes. slice_index (map (λ prime. prime.p) primes) place) loses.0
+
+over_inverse : (w p f g v u : ℕ) → Same p f (w * v) → Same p g (w * u) → Same p (u * v) 1 → Same p (g * f) (w * w)
+over_inverse w p f g v u a b s =
+    chained p _ _ _ (product p _ _ _ _ b a)
+    (chained p _ _ _ (equal p _ (w * w * (u * v)) (omega arith)) (chained p _ _ _ (times p (w * w) _ _ s) (equal p _ _ (omega arith))))
+
+pub over_inverse_at : (moduli : Moduli) (place : ℕ) (one other : Residues) → IsInverse (modulus moduli place) (form_at place one) (form_at place other) → form_at place one < modulus moduli place →
+    Same (modulus moduli place) (form_at place other * form_at place one) (2 ^ 64 * 2 ^ 64)
+over_inverse_at moduli place one other inverse below =
+    let v = number_at moduli place one below in
+    let u = inverse v.0 v.1 in
+    over_inverse (2 ^ 64) (modulus moduli place) (form_at place one) (form_at place other) v.0 u.0 v.1.1 u.1.1 u.2

@@ -217,9 +217,10 @@ impl Left {
         ensures told { IfOk result (λ pivot. (place : ℕ) → place < 5 → is_lost moduli.new place ≡ false → (once : ℕ) (v : ℕ → ℕ) →
             ColumnHolds moduli.old place once v state column → PivotHolds moduli.old place once v state pivot.leaves pivot.column) }
     {
-            let (from, back) = without(alloc, moduli, &column, state)?;
-        let one = moduli.of_number(1);
-        let leaves = moduli.inverse(&moduli.difference(&one, &back));
+            let before = *moduli;
+        let (from, back) = without(alloc, &before, &column, state)?;
+        let rest = before.difference(&before.of_number(1), &back);
+        let leaves = moduli.inverse(&rest);
         let pivot = Pivot {
             state,
             leaves,
@@ -229,7 +230,7 @@ impl Left {
             },
         };
         self.stand_down(&pivot.column, state);
-        self.replace(alloc, moduli, state, &pivot.leaves, &pivot.column)?;
+        self.replace(alloc, &before, state, &pivot.leaves, &pivot.column)?;
         self.rank_all(&pivot.column)?;
         Ok(pivot)
     }
