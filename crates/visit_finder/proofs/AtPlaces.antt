@@ -1,11 +1,11 @@
 -- What sums, products and differences of forms are at a place, whatever numbers the forms are of.
-use Rattle.std.proofs.Common.{◌≡◌, ℕ, zero, suc, ◌+◌, ◌*◌, ◌%◌, ◌^◌, ◌<◌, List, [], ◌∷◌, map, slice_index, refl, sym, ap, subst, arith}
+use Rattle.std.proofs.Common.{◌≡◌, ℕ, zero, suc, ◌+◌, ◌*◌, ◌%◌, ◌^◌, ◌<◌, List, [], ◌∷◌, map, slice_index, refl, sym, ap, subst, ◌∙◌, arith}
 use Rattle.narrow_fractions.specs.Remainders.{Same}
 use Rattle.narrow_fractions.proofs.Congruence.{equal, turned, chained, added, times, product}
 use Rattle.visit_finder.specs.declared.primes.Prime.{Prime}
 use Rattle.visit_finder.specs.declared.residues.Moduli.{Moduli}
 use Rattle.visit_finder.specs.declared.residues.Residues.{Residues}
-use Rattle.visit_finder.specs.Places.{modulus, form_at, AreAt, Loses}
+use Rattle.visit_finder.specs.Places.{modulus, form_at, AreAt, AreForms, Loses}
 use Rattle.visit_finder.proofs.Forms.{some_number, without_word}
 
 -- what is above a form is one of the primes
@@ -86,3 +86,15 @@ difference_at moduli place one other result clause below below' =
 -- the moduli stay when some are lost
 pub same_modulus : (old new : Moduli) (place : ℕ) → Loses old new → modulus new place ≡ modulus old place
 same_modulus old new place loses = ap (λ primes. slice_index (map (λ prime. prime.p) primes) place) loses.0
+
+pub forms_after : (old new : Moduli) (residues : Residues) → Loses old new → AreForms old residues → AreForms new residues
+forms_after old new residues loses forms place small = subst (λ p. form_at place residues < p) (sym (same_modulus old new place loses)) (forms place small)
+
+pub forms_before : (old new : Moduli) (residues : Residues) → Loses old new → AreForms new residues → AreForms old residues
+forms_before old new residues loses forms place small = subst (λ p. form_at place residues < p) (same_modulus old new place loses) (forms place small)
+
+pub loses_none : (moduli : Moduli) → Loses moduli moduli
+loses_none moduli = (refl, λ place kept. kept)
+
+pub loses_after : (old new newer : Moduli) → Loses old new → Loses new newer → Loses old newer
+loses_after old new newer first then = (then.0 ∙ first.0, λ place kept. first.1 place (then.1 place kept))
