@@ -1,12 +1,12 @@
 -- What sums, products and differences of forms are at a place, whatever numbers the forms are of.
-use Rattle.std.proofs.Common.{◌≡◌, ℕ, zero, suc, ◌+◌, ◌*◌, ◌%◌, ◌^◌, ◌<◌, List, [], ◌∷◌, map, slice_index, refl, sym, ap, subst, arith}
+use Rattle.std.proofs.Common.{◌≡◌, ℕ, zero, suc, ◌+◌, ◌*◌, ◌%◌, ◌^◌, ◌<◌, List, [], ◌∷◌, map, slice_index, refl, sym, ap, subst, ◌∙◌, arith}
 use Rattle.narrow_fractions.specs.Remainders.{Same}
 use Rattle.narrow_fractions.proofs.Congruence.{equal, turned, chained, added, times, product}
 use Rattle.visit_finder.specs.declared.primes.Prime.{Prime}
 use Rattle.visit_finder.specs.declared.residues.Moduli.{Moduli}
 use Rattle.visit_finder.specs.declared.residues.Residues.{Residues}
 use Rattle.visit_finder.specs.Forms.{IsInverse}
-use Rattle.visit_finder.specs.Places.{modulus, form_at, AreAt, Loses}
+use Rattle.visit_finder.specs.Places.{modulus, form_at, AreAt, AreForms, Loses}
 use Rattle.visit_finder.proofs.Forms.{some_number, without_word}
 
 -- what is above a form is one of the primes
@@ -99,3 +99,15 @@ over_inverse_at moduli place one other inverse below =
     let v = number_at moduli place one below in
     let u = inverse v.0 v.1 in
     over_inverse (2 ^ 64) (modulus moduli place) (form_at place one) (form_at place other) v.0 u.0 v.1.1 u.1.1 u.2
+
+pub forms_after : (old new : Moduli) (residues : Residues) → Loses old new → AreForms old residues → AreForms new residues
+forms_after old new residues loses forms place small = subst (λ p. form_at place residues < p) (sym (same_modulus old new place loses)) (forms place small)
+
+pub forms_before : (old new : Moduli) (residues : Residues) → Loses old new → AreForms new residues → AreForms old residues
+forms_before old new residues loses forms place small = subst (λ p. form_at place residues < p) (same_modulus old new place loses) (forms place small)
+
+pub loses_none : (moduli : Moduli) → Loses moduli moduli
+loses_none moduli = (refl, λ place kept. kept)
+
+pub loses_after : (old new newer : Moduli) → Loses old new → Loses new newer → Loses old newer
+loses_after old new newer first then = (then.0 ∙ first.0, λ place kept. first.1 place (then.1 place kept))

@@ -5,10 +5,12 @@ pub mod Eliminated
 mod Ends
 pub mod Entries
 pub mod Forms
+pub mod FoundVisits
 mod Inverses
 pub mod Maps
 pub mod Newton
 pub mod Places
 pub mod Renewals
 pub mod Rows
+pub mod Taken
 pub mod Visited
