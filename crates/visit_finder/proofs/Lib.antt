@@ -4,4 +4,5 @@ mod Ends
 mod Inverses
 pub mod Forms
 pub mod Newton
+mod Numbers
 pub mod Places
