@@ -9,6 +9,7 @@ pub mod FoundVisits
 mod Inverses
 pub mod Maps
 pub mod Newton
+mod Numbers
 pub mod Places
 pub mod Renewals
 pub mod Rows
