@@ -2,8 +2,10 @@ pub mod AtPlaces
 mod Digits
 mod Division
 pub mod Eliminated
+pub mod Eliminating
 mod Ends
 pub mod Entries
+pub mod Forming
 pub mod Forms
 pub mod FoundVisits
 mod Inverses

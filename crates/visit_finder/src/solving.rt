@@ -1,6 +1,6 @@
 // The visits of a loop by elimination of its states, one after the other: that which may add the fewest entries first.
 
-ghost use Rattle.std.specs.Prelude.{◌≡◌, ◌<◌, ◌+◌, ◌*◌, ◌^◌, ℕ, [], false, length, Contains, IfOk, OnOk, IfSome, IsNone};
+ghost use Rattle.std.specs.Prelude.{◌≡◌, ◌<◌, ◌+◌, ◌*◌, ◌^◌, ℕ, [], true, false, length, Contains, IfOk, OnOk, IfSome, IsNone};
 ghost use Rattle.narrow_fractions.specs.Remainders.{Same};
 ghost use Rattle.visit_finder.specs.declared.columns.Column.{Column as column};
 ghost use Rattle.visit_finder.specs.declared.solving.Pivot.{Pivot as pivot};
@@ -282,6 +282,18 @@ fn replaced(
     })
 }
 
+// Whether all residues are below the moduli.
+fn are_forms<K: Ord + Drop>(moduli: &Moduli, residues: &BTreeMap<K, Residues>) -> bool
+    ensures { result ≡ true → AllForms moduli.now residues.now.entries }
+{
+    for (_, part) in residues {
+        if !moduli.are_forms(part) {
+            return false;
+        }
+    }
+    true
+}
+
 /// The expected visits of each state, by its number. `entered` has the weight with which the loop comes to each state, and
 /// `parts` the probability that one turn leads from one state to another.
 ///
@@ -294,10 +306,13 @@ pub fn solved(
     states: &Vec<u64>,
 ) -> Result<BTreeMap<u64, Residues>, FinderError>
     ensures loses { Loses moduli.old moduli.new }
-    ensures known { IfOk result (λ found. AllForms moduli.old entered.entries → AllForms moduli.old parts.now.entries →
-        (place : ℕ) → place < 5 → is_lost moduli.new place ≡ false →
+    ensures known { IfOk result (λ found. (place : ℕ) → place < 5 → is_lost moduli.new place ≡ false →
         AreKnown moduli.old place entered.entries parts.now.entries states.now.items found.entries) }
 {
+    if !are_forms(moduli, &entered) || !are_forms(moduli, parts) {
+        moduli.lose();
+        return Ok(BTreeMap::new(alloc));
+    }
     let columns = columns_of(alloc, moduli, &entered, parts, states)?;
     let mut left = Left::of(alloc, columns, parts, states)?;
     let mut pivots = Vec::new(alloc);
