@@ -1,3 +1,4 @@
+mod Closed
 mod Digits
 mod Division
 mod Ends
