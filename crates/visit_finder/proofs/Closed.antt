@@ -1,14 +1,19 @@
 -- What is said of lists of states under states, turn by turn, and of a search that comes to no end before what is under each state that it found is found.
-use Rattle.std.proofs.Common.{◌≡◌, ◌⊎◌, inl, inr, ⊎_elim, ℕ, suc, ◌+◌, ◌<◌, ◌≤◌, true, false, Ordering, Less, Equal, Greater, is_eq, nat_cmp, Option, Some, None, BTreeMap, List, [], ◌∷◌, ◌++◌, Contains, IsSome, length, get_or, take, take-suc, take_all, refl, sym, ap, subst, ◌∙◌, arith}
+use Rattle.std.proofs.Common.{Bool, true≢false, cond, length-append, is_some, ◌≡◌, ◌⊎◌, inl, inr, ⊎_elim, ℕ, suc, ◌+◌, ◌<◌, ◌≤◌, true, false, Ordering, Less, Equal, Greater, is_eq, nat_cmp, Option, Some, None, BTreeMap, List, [], ◌∷◌, ◌++◌, Contains, IsSome, length, get_or, slice_index, take, take-suc, take_all, refl, sym, ap, subst, ◌∙◌, arith}
 use Rattle.std.specs.Global.{Vec}
 use Rattle.std.specs.Option.{option_map, unwrap_or}
-use Rattle.std.specs.BTreeMap.{get, is_at, ContainsKey, UpdatesBy, Updates}
+use Rattle.std.specs.Cmp.{nat_cmp_total}
+use Rattle.std.specs.List.{sum_by}
+use Rattle.std.specs.Map.{lookup, remove_entry, values_of}
+use Rattle.std.specs.BTreeMap.{keys, get, is_at, ContainsKey, UpdatesBy, Updates}
 use Rattle.std.proofs.lemmas.Bool.{cases_eq}
 use Rattle.std.proofs.lemmas.List.Elements.{Contains-append_left, Contains-push, Contains-push_cases}
+use Rattle.std.proofs.lemmas.Map.Entries.{sum_by-remove_entry}
+use Rattle.std.proofs.lemmas.Map.Views.{btree_map_contains_key_iff}
 use Rattle.std.proofs.lemmas.Map.Lookups.{exact_unsigned}
 use Rattle.numbers.specs.Fraction.{Fraction}
 use Rattle.visit_finder.specs.Exact.{Turn}
-use Rattle.visit_finder.specs.Sources.{Sources, sources_of, HaveTurns}
+use Rattle.visit_finder.specs.Sources.{Sources, sources_of, HaveTurns, AreClosedUnder}
 
 -- a search for another number goes past this one
 not_at : (s q : ℕ) → (q ≡ s → ⊥) → is_at (nat_cmp s) q ≡ false
@@ -96,24 +101,17 @@ module _ (Found : ℕ → Type 0) (waiting : List ℕ) (now first : ℕ → List
             ⊎_elim (λ c. c) (λ e. absurd (other (sym e))) (Contains-push_cases rest to s (subst (λ xs. Contains xs s) popped (was.1 found))),
       ))
 
-  found_more : (list : List ℕ) (i t : ℕ) → i < length list → t ≡ get_or list i t → ((u : ℕ) → Contains (take i list) u → Found u) → Found t → (u : ℕ) → Contains (take (i + 1) list) u → Found u
-  found_more list i t within is before here u c =
-      ⊎_elim (before u) (λ (e : get_or list i t ≡ u). subst Found (is ∙ e) here)
-      (Contains-push_cases (take i list) (get_or list i t) u (subst (λ xs. Contains xs u) (take_more list i t within) c))
+  found_more : (list : List ℕ) (i : ℕ) → i < length list → ((u : ℕ) → Contains (take i list) u → Found u) → Found (slice_index list i) → (u : ℕ) → Contains (take (i + 1) list) u → Found u
+  found_more list i within before here u c =
+      ⊎_elim (before u) (λ (e : slice_index list i ≡ u). subst Found e here)
+      (Contains-push_cases (take i list) (slice_index list i) u (subst (λ xs. Contains xs u) (take_more list i 0 within) c))
 
-  pub settling_passes : (list : List ℕ) (i t : ℕ) → i < length list → t ≡ get_or list i t → Found t →
+  pub settling_passes : (list : List ℕ) (i : ℕ) → i < length list → Found (slice_index list i) →
       AreSettling Found waiting now first list i → AreSettling Found waiting now first list (i + 1)
-  settling_passes list i t within is here h = record { each = h.each; found = found_more list i t within is h.found here }
+  settling_passes list i within here h = record { each = h.each; found = found_more list i within h.found here }
 
   pub settling_ends : (list : List ℕ) (i : ℕ) → length list ≤ i → AreSettling Found waiting now first list i → AreSettled Found waiting now first
   settling_ends list i past h = λ s. ⊎_elim (λ is. is) (λ (e : first s ≡ list). inr (λ t c. h.found t (subst (λ xs. Contains xs t) (e ∙ sym (take_all i list past)) c))) (h.each s)
-
-  pub closed : waiting ≡ [] → AreSettled Found waiting now first → (t s : ℕ) → Contains (first s) t → Found s → Found t
-  closed none h t s c found = by (h s)
-    where
-      by : IsSettled Found waiting now first s → Found t
-      by (inl was) = absurd (none_in s (subst (λ xs. Contains xs s) none (was.1 found)))
-      by (inr all) = all t c
 
 module _ (Old New : ℕ → Type 0) (t : ℕ) (one : FindsOne Old New t) (waiting : List ℕ) where
   -- whatever was found waits
@@ -121,11 +119,11 @@ module _ (Old New : ℕ → Type 0) (t : ℕ) (one : FindsOne Old New t) (waitin
   waits_more wait s found =
       ⊎_elim (λ old. Contains-append_left waiting (t ∷ []) s (wait s old)) (λ e. subst (λ s. Contains (waiting ++ t ∷ []) s) (sym e) (Contains-push waiting t)) (one.only s found)
 
-  pub settling_finds : (now first : ℕ → List ℕ) (list : List ℕ) (i : ℕ) → i < length list → t ≡ get_or list i t →
+  pub settling_finds : (now first : ℕ → List ℕ) (list : List ℕ) (i : ℕ) → i < length list → t ≡ slice_index list i →
       AreSettling Old waiting now first list i → AreSettling New (waiting ++ t ∷ []) now first list (i + 1)
   settling_finds now first list i within is h = record {
     each = λ s. by s (h.each s);
-    found = found_more New waiting now first list i t within is (λ u c. one.kept u (h.found u c)) one.here;
+    found = found_more New waiting now first list i within (λ u c. one.kept u (h.found u c)) (subst New is one.here);
   }
     where
       by : (s : ℕ) → IsSettled Old waiting now first s ⊎ (first s ≡ list) → IsSettled New (waiting ++ t ∷ []) now first s ⊎ (first s ≡ list)
@@ -136,3 +134,54 @@ module _ (Old New : ℕ → Type 0) (t : ℕ) (one : FindsOne Old New t) (waitin
         λ found.
             ⊎_elim (λ old. Contains-append_left waiting (t ∷ []) s (was.1 old)) (λ e. subst (λ s. Contains (waiting ++ t ∷ []) s) (sym e) (Contains-push waiting t)) (one.only s found),
       ))
+
+-- ---- a search that keeps what it found as the keys of a map
+
+module _ (old new : BTreeMap ℕ Bool) (t : ℕ) (v : Bool) (inserted : Updates nat_cmp old new t (Some v)) where
+  pub finds_one : FindsOne (ContainsKey nat_cmp old) (ContainsKey nat_cmp new) t
+  finds_one = record {
+    kept = λ s found. by_kept s (is_at (nat_cmp t) s) (inserted.0 s) found;
+    here = ap is_some inserted.1;
+    only = λ s found. by_only s (nat_cmp t s) refl (inserted.0 s) found;
+  }
+    where
+      by_kept : (s : ℕ) (b : Bool) → get nat_cmp new s ≡ cond b (Some v) (get nat_cmp old s) → ContainsKey nat_cmp old s → ContainsKey nat_cmp new s
+      by_kept s true e found = ap is_some e
+      by_kept s false e found = subst IsSome (sym e) found
+
+      by_only : (s : ℕ) (o : Ordering) → nat_cmp t s ≡ o → get nat_cmp new s ≡ cond (is_eq o) (Some v) (get nat_cmp old s) → ContainsKey nat_cmp new s → ContainsKey nat_cmp old s ⊎ (s ≡ t)
+      by_only s Less e at found = inl (subst IsSome at found)
+      by_only s Equal e at found = inr (sym (exact_unsigned t s e))
+      by_only s Greater e at found = inl (subst IsSome at found)
+
+pub none_found : (m : BTreeMap ℕ Bool) → m.entries ≡ [] → (s : ℕ) → ContainsKey nat_cmp m s → ⊥
+none_found m empty s found = true≢false (sym found ∙ ap (λ (es : List (ℕ × Bool)). is_some (lookup (is_at (nat_cmp s)) es)) empty)
+
+pub apart_from_removed : (to : ℕ) (old new : BTreeMap ℕ (Vec ℕ)) → UpdatesBy nat_cmp (nat_cmp to) old new None → (q : ℕ) → (q ≡ to → ⊥) → sources_of new.entries q ≡ sources_of old.entries q
+apart_from_removed to old new removed q other = ap found_items (removed.2 q (not_at to q other))
+
+pub closed : (leaving : BTreeMap ℕ Bool) (waiting : List ℕ) (now : ℕ → List ℕ) (first : Sources) → length waiting ≡ 0 → AreSettled (ContainsKey nat_cmp leaving) waiting now (sources_of first) →
+    AreClosedUnder (keys leaving) first
+closed leaving waiting now first none h t s under among =
+    let of_keys = btree_map_contains_key_iff nat_cmp_total exact_unsigned leaving in
+    (of_keys t).0 (by (h s) ((of_keys s).1 among))
+  where
+    by : IsSettled (ContainsKey nat_cmp leaving) waiting now (sources_of first) s → ContainsKey nat_cmp leaving s → ContainsKey nat_cmp leaving t
+    by (inl was) found = let c = was.1 found in absurd (omega (arith, none, c.1))
+    by (inr all) found = all t under
+
+-- ---- a search comes to its end
+
+-- how many states stand under states
+abbrev pub count_under : Sources → ℕ
+count_under sources = sum_by (λ v. length v.items) (values_of sources)
+
+pub count_removed : (to : ℕ) (old new : Sources) (list : Vec ℕ) → lookup (is_at (nat_cmp to)) old ≡ Some list → new ≡ remove_entry (is_at (nat_cmp to)) old → count_under new + length list.items ≡ count_under old
+count_removed to old new list is removed =
+    let all = sum_by-remove_entry (λ (v : Vec ℕ). length v.items) (is_at (nat_cmp to)) old in
+    let here = ap (λ (o : Option (Vec ℕ)). unwrap_or (option_map (λ v. length v.items) o) 0) is in
+    let left = ap count_under removed in
+    omega (arith, all, here, left)
+
+pub one_popped : (waiting rest : List ℕ) (to : ℕ) → waiting ≡ rest ++ to ∷ [] → length waiting ≡ length rest + 1
+one_popped waiting rest to popped = ap length popped ∙ length-append rest (to ∷ [])
