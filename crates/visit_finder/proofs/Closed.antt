@@ -12,7 +12,7 @@ use Rattle.std.proofs.lemmas.Map.Entries.{sum_by-remove_entry}
 use Rattle.std.proofs.lemmas.Map.Views.{btree_map_contains_key_iff}
 use Rattle.std.proofs.lemmas.Map.Lookups.{exact_unsigned}
 use Rattle.numbers.specs.Fraction.{Fraction}
-use Rattle.visit_finder.specs.Exact.{Turn}
+use Rattle.visit_finder.specs.Exact.{Turn, AreClosed}
 use Rattle.visit_finder.specs.Sources.{Sources, sources_of, HaveTurns, AreClosedUnder}
 
 -- a search for another number goes past this one
@@ -63,6 +63,10 @@ have_more turns i turn old new within is put before = λ t s f c.
     by t s (inl e) c = subst (λ s. Contains (sources_of new s) t) (sym e)
         (subst (λ xs. Contains xs t) (sym put.here) (Contains-append_left (sources_of old turn.1) (turn.0 ∷ []) t (subst (λ s. Contains (sources_of old s) t) e c)))
     by t s (inr other) c = subst (λ xs. Contains xs t) (sym (put.apart s other)) c
+
+-- states that are closed under what has the turns
+pub closed_by : (states : List ℕ) (sources : Sources) (turns : List Turn) → HaveTurns sources turns → AreClosedUnder states sources → AreClosed states turns
+closed_by states sources turns have closed t s f turn among = closed t s (have t s f turn) among
 
 -- ---- a search
 
