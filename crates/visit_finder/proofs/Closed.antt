@@ -1,5 +1,5 @@
--- What is said of lists of states under states, turn by turn, and of a search that comes to no end before what is under each state that it found is found.
-use Rattle.std.proofs.Common.{Bool, true≢false, cond, length-append, is_some, ◌≡◌, ◌⊎◌, inl, inr, ⊎_elim, ℕ, suc, ◌+◌, ◌<◌, ◌≤◌, true, false, Ordering, Less, Equal, Greater, is_eq, nat_cmp, Option, Some, None, BTreeMap, List, [], ◌∷◌, ◌++◌, Contains, IsSome, length, get_or, slice_index, take, take-suc, take_all, refl, sym, ap, subst, ◌∙◌, arith}
+-- States that are kept under those to which a turn leads from them, and a search that finds whatever is under a state that it found.
+use Rattle.std.proofs.Common.{◌≡◌, ◌⊎◌, inl, inr, ⊎_elim, ℕ, suc, ◌+◌, ◌<◌, ◌≤◌, Bool, true, false, true≢false, cond, is_some, Ordering, Less, Equal, Greater, is_eq, nat_cmp, Option, Some, None, BTreeMap, List, [], ◌∷◌, ◌++◌, Contains, IsSome, length, length-append, get_or, slice_index, take, take-suc, take_all, refl, sym, ap, subst, ◌∙◌, arith}
 use Rattle.std.specs.Global.{Vec}
 use Rattle.std.specs.Option.{option_map, unwrap_or}
 use Rattle.std.specs.Cmp.{nat_cmp_total}
@@ -11,11 +11,10 @@ use Rattle.std.proofs.lemmas.List.Elements.{Contains-append_left, Contains-push,
 use Rattle.std.proofs.lemmas.Map.Entries.{sum_by-remove_entry}
 use Rattle.std.proofs.lemmas.Map.Views.{btree_map_contains_key_iff}
 use Rattle.std.proofs.lemmas.Map.Lookups.{exact_unsigned}
-use Rattle.numbers.specs.Fraction.{Fraction}
 use Rattle.visit_finder.specs.Exact.{Turn, AreClosed}
 use Rattle.visit_finder.specs.Sources.{Sources, sources_of, HaveTurns, AreClosedUnder}
 
--- a search for another number goes past this one
+-- a look-up of s passes another number by
 not_at : (s q : ℕ) → (q ≡ s → ⊥) → is_at (nat_cmp s) q ≡ false
 not_at s q other = by (nat_cmp s q) refl
   where
@@ -38,7 +37,7 @@ pub record Puts (old new : Sources) (s t : ℕ) : Type 0 where
   pub here : sources_of new s ≡ sources_of old s ++ t ∷ []
   pub apart : (q : ℕ) → (q ≡ s → ⊥) → sources_of new q ≡ sources_of old q
 
--- what a search finds, as a list
+-- what a look-up finds, as a list
 abbrev pub found_items : Option (Vec ℕ) → List ℕ
 found_items o = unwrap_or (option_map (λ v. v.items) o) []
 
@@ -89,6 +88,7 @@ pub record FindsOne (Old New : ℕ → Type 0) (t : ℕ) : Type 0 where
   pub only : (s : ℕ) → New s → Old s ⊎ (s ≡ t)
 
 module _ (Found : ℕ → Type 0) (waiting : List ℕ) (now first : ℕ → List ℕ) where
+  -- the last of those that wait is taken, with what is under it
   pub settling_begins : (to : ℕ) (rest list : List ℕ) (left : ℕ → List ℕ) → waiting ≡ rest ++ to ∷ [] → list ≡ now to → ((q : ℕ) → (q ≡ to → ⊥) → left q ≡ now q) →
       AreSettled Found waiting now first → AreSettling Found rest left first list 0
   settling_begins to rest list left popped is apart h = record {
@@ -110,6 +110,7 @@ module _ (Found : ℕ → Type 0) (waiting : List ℕ) (now first : ℕ → List
       ⊎_elim (before u) (λ (e : slice_index list i ≡ u). subst Found e here)
       (Contains-push_cases (take i list) (slice_index list i) u (subst (λ xs. Contains xs u) (take_more list i 0 within) c))
 
+  -- the next was found before
   pub settling_passes : (list : List ℕ) (i : ℕ) → i < length list → Found (slice_index list i) →
       AreSettling Found waiting now first list i → AreSettling Found waiting now first list (i + 1)
   settling_passes list i within here h = record { each = h.each; found = found_more list i within h.found here }
@@ -118,11 +119,12 @@ module _ (Found : ℕ → Type 0) (waiting : List ℕ) (now first : ℕ → List
   settling_ends list i past h = λ s. ⊎_elim (λ is. is) (λ (e : first s ≡ list). inr (λ t c. h.found t (subst (λ xs. Contains xs t) (e ∙ sym (take_all i list past)) c))) (h.each s)
 
 module _ (Old New : ℕ → Type 0) (t : ℕ) (one : FindsOne Old New t) (waiting : List ℕ) where
-  -- whatever was found waits
-  pub waits_more : ((s : ℕ) → Old s → Contains waiting s) → (s : ℕ) → New s → Contains (waiting ++ t ∷ []) s
-  waits_more wait s found =
-      ⊎_elim (λ old. Contains-append_left waiting (t ∷ []) s (wait s old)) (λ e. subst (λ s. Contains (waiting ++ t ∷ []) s) (sym e) (Contains-push waiting t)) (one.only s found)
+  -- where s was found it waits
+  pub waits_more : (s : ℕ) → (Old s → Contains waiting s) → New s → Contains (waiting ++ t ∷ []) s
+  waits_more s wait found =
+      ⊎_elim (λ old. Contains-append_left waiting (t ∷ []) s (wait old)) (λ e. subst (λ s. Contains (waiting ++ t ∷ []) s) (sym e) (Contains-push waiting t)) (one.only s found)
 
+  -- the next is found, and waits
   pub settling_finds : (now first : ℕ → List ℕ) (list : List ℕ) (i : ℕ) → i < length list → t ≡ slice_index list i →
       AreSettling Old waiting now first list i → AreSettling New (waiting ++ t ∷ []) now first list (i + 1)
   settling_finds now first list i within is h = record {
@@ -133,11 +135,7 @@ module _ (Old New : ℕ → Type 0) (t : ℕ) (one : FindsOne Old New t) (waitin
       by : (s : ℕ) → IsSettled Old waiting now first s ⊎ (first s ≡ list) → IsSettled New (waiting ++ t ∷ []) now first s ⊎ (first s ≡ list)
       by s (inr e) = inr e
       by s (inl (inr all)) = inl (inr (λ u c. one.kept u (all u c)))
-      by s (inl (inl was)) = inl (inl (
-        was.0,
-        λ found.
-            ⊎_elim (λ old. Contains-append_left waiting (t ∷ []) s (was.1 old)) (λ e. subst (λ s. Contains (waiting ++ t ∷ []) s) (sym e) (Contains-push waiting t)) (one.only s found),
-      ))
+      by s (inl (inl was)) = inl (inl (was.0, waits_more s was.1))
 
 -- ---- a search that keeps what it found as the keys of a map
 
@@ -164,9 +162,10 @@ none_found m empty s found = true≢false (sym found ∙ ap (λ (es : List (ℕ 
 pub apart_from_removed : (to : ℕ) (old new : BTreeMap ℕ (Vec ℕ)) → UpdatesBy nat_cmp (nat_cmp to) old new None → (q : ℕ) → (q ≡ to → ⊥) → sources_of new.entries q ≡ sources_of old.entries q
 apart_from_removed to old new removed q other = ap found_items (removed.2 q (not_at to q other))
 
-pub closed : (leaving : BTreeMap ℕ Bool) (waiting : List ℕ) (now : ℕ → List ℕ) (first : Sources) → length waiting ≡ 0 → AreSettled (ContainsKey nat_cmp leaving) waiting now (sources_of first) →
+-- at the end none waits
+pub none_waits : (leaving : BTreeMap ℕ Bool) (waiting : List ℕ) (now : ℕ → List ℕ) (first : Sources) → length waiting ≡ 0 → AreSettled (ContainsKey nat_cmp leaving) waiting now (sources_of first) →
     AreClosedUnder (keys leaving) first
-closed leaving waiting now first none h t s under among =
+none_waits leaving waiting now first none h t s under among =
     let of_keys = btree_map_contains_key_iff nat_cmp_total exact_unsigned leaving in
     (of_keys t).0 (by (h s) ((of_keys s).1 among))
   where

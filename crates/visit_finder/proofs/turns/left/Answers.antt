@@ -1,8 +1,8 @@
-use Rattle.std.proofs.Common.{rules, ◌≡◌, ◌⊎◌, inl, inr, ℕ, ◌+◌, ◌<◌, ◌≤◌, true, Contains, nat_cmp, length, length-append, slice_index, Bool, BTreeMap, List, ◌++◌, ◌∷◌, [], refl, sym, ap, subst, subst₂, ◌∙◌, arith}
+use Rattle.std.proofs.Common.{rules, ◌≡◌, inl, ℕ, ◌+◌, ◌≤◌, true, Contains, nat_cmp, length, length-append, slice_index, Bool, BTreeMap, List, ◌++◌, ◌∷◌, [], refl, sym, ap, subst, subst₂, ◌∙◌, arith}
 use Rattle.std.specs.Global.{Vec}
-use Rattle.std.specs.BTreeMap.{get, ContainsKey}
+use Rattle.std.specs.BTreeMap.{ContainsKey}
 use Rattle.visit_finder.specs.Sources.{sources_of}
-use Rattle.visit_finder.proofs.Closed.{AreSettling, found_items, none_found, finds_one, waits_more, settling_begins, settling_passes, settling_finds, settling_ends, apart_from_removed, closed, count_under, count_removed, one_popped}
+use Rattle.visit_finder.proofs.Closed.{AreSettling, found_items, none_found, finds_one, waits_more, settling_begins, settling_passes, settling_finds, settling_ends, apart_from_removed, none_waits, count_under, count_removed, one_popped}
 use Rattle.visit_finder.proofs.turns.left.Goals.{then-not-contains+in_ok-insert+in_ok-push, else-not-contains, then-not-contains_key+in_ok-insert-2+in_ok-push-2, else-not-contains_key}
 use Rattle.visit_finder.proofs.turns.left.Goals as goal
 
@@ -15,8 +15,8 @@ loop-number-preserved c =
     elim c.if-not-contains.branch [
       | then-not-contains+in_ok-insert+in_ok-push w ↦ subst₂ All (sym w.leaving-is) (sym w.waiting-is)
           (subst (λ (xs : List ℕ). (s : ℕ) → ContainsKey nat_cmp w.insert.new.self s → Contains xs s) (sym w.in_ok-push.ensures.items)
-          (waits_more (ContainsKey nat_cmp c.loop-number.leaving) (ContainsKey nat_cmp w.insert.new.self) c.loop-number.number-counter
-          (finds_one c.loop-number.leaving w.insert.new.self c.loop-number.number-counter true w.in_ok-insert.ensures.updates) c.loop-number.waiting.items c.loop-number.invariant))
+          (λ s. waits_more (ContainsKey nat_cmp c.loop-number.leaving) (ContainsKey nat_cmp w.insert.new.self) c.loop-number.number-counter
+          (finds_one c.loop-number.leaving w.insert.new.self c.loop-number.number-counter true w.in_ok-insert.ensures.updates) c.loop-number.waiting.items s (c.loop-number.invariant s)))
       | else-not-contains w ↦ subst₂ All (sym w.leaving-is) (sym w.waiting-is) c.loop-number.invariant
     ]
 
@@ -91,4 +91,4 @@ loop-to-preserved c =
 pub returns : goal.returns
 returns c =
     let none : length c.loop-to.waiting.items ≡ 0 = let e = c.in_default.ensures.cases.0 in search rules in
-    closed c.loop-to.leaving c.loop-to.waiting.items (sources_of c.loop-to.sources.entries) c.args.sources.entries none c.loop-to.invariant
+    none_waits c.loop-to.leaving c.loop-to.waiting.items (sources_of c.loop-to.sources.entries) c.args.sources.entries none c.loop-to.invariant

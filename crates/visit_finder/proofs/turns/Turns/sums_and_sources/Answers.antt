@@ -1,4 +1,4 @@
-use Rattle.std.proofs.Common.{◌≡◌, ℕ, List, Contains, get_or, take, take_all, sym, ap, subst, ◌∙◌}
+use Rattle.std.proofs.Common.{◌≡◌, ℕ, List, Contains, get_or, take_all, sym, ap, subst, ◌∙◌}
 use Rattle.std.specs.Global.{Vec}
 use Rattle.visit_finder.specs.Exact.{Turn}
 use Rattle.visit_finder.specs.Sources.{sources_of}
