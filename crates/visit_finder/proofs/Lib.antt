@@ -1,4 +1,5 @@
 pub mod AtPlaces
+mod Closed
 mod Digits
 mod Division
 pub mod Eliminated

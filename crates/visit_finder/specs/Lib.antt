@@ -5,3 +5,4 @@ pub mod Places
 pub mod Equations
 pub mod Exact
 pub mod inner
+pub mod Sources

@@ -1,8 +1,10 @@
 // Where the turns of a loop lead, and how often each state is expected to be visited.
 
 ghost use Rattle.std.specs.Prelude.{◌≡◌, map, IfOk, IfErr};
+ghost use Rattle.std.specs.BTreeMap.{keys};
 ghost use Rattle.visit_finder.specs.declared.error.FinderError.TheVariants.{NoneNarrow};
 ghost use Rattle.visit_finder.specs.Exact.{AreClosed, AreOnly, HaveNone};
+ghost use Rattle.visit_finder.specs.Sources.{HaveTurns, AreClosedUnder};
 
 use crate::error::FinderError;
 use crate::primes::PRIMES;
@@ -39,7 +41,9 @@ pub fn left(
     states: u64,
     whole: &BTreeSet<u64>,
     sources: BTreeMap<u64, Vec<u64>>,
-) -> Result<BTreeMap<u64, bool>, FinderError> {
+) -> Result<BTreeMap<u64, bool>, FinderError>
+    ensures { IfOk result (λ leaving. AreClosedUnder (keys leaving) sources.entries) }
+{
     let mut sources = sources;
     let mut leaving = BTreeMap::new(alloc);
     let mut waiting = Vec::new(alloc);
@@ -49,15 +53,12 @@ pub fn left(
             waiting.push(number)?;
         }
     }
-    for _ in 0..states {
-        let Some(to) = waiting.pop() else {
-            break;
-        };
+    while let Some(to) = waiting.pop() {
         if let Some(list) = sources.remove(&to) {
-            for from in list {
-                if !leaving.contains_key(&from) {
-                    leaving.insert(from, true)?;
-                    waiting.push(from)?;
+            for from in &list {
+                if !leaving.contains_key(from) {
+                    leaving.insert(*from, true)?;
+                    waiting.push(*from)?;
                 }
             }
         }
@@ -82,7 +83,9 @@ impl Turns {
     fn sums_and_sources(
         &self,
         alloc: Global,
-    ) -> Result<(BTreeMap<u64, Frac>, BTreeMap<u64, Vec<u64>>), FinderError> {
+    ) -> Result<(BTreeMap<u64, Frac>, BTreeMap<u64, Vec<u64>>), FinderError>
+        ensures { IfOk result (λ made. HaveTurns made.1.entries self.now.parts.items) }
+    {
         let mut sums = BTreeMap::new(alloc);
         let mut sources: BTreeMap<u64, Vec<u64>> = BTreeMap::new(alloc);
         for (from, to, weight) in &self.parts {
