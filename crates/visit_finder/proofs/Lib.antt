@@ -10,6 +10,7 @@ pub mod Forming
 pub mod Forms
 pub mod FoundVisits
 mod Inverses
+pub mod Losing
 pub mod Maps
 pub mod Newton
 mod Numbers
