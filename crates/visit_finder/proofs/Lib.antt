@@ -1,4 +1,5 @@
 pub mod AtPlaces
+pub mod ColumnsOf
 mod Digits
 mod Division
 mod Ends

@@ -48,10 +48,11 @@ fn columns_of(
     ensures hold { IfOk result (λ columns. (place : ℕ) → place < 5 → (once : ℕ) (v : ℕ → ℕ) → (s : ℕ) (column : column) → Contains columns.entries (s, column) →
         Same (modulus moduli.now place) (entered_at place entered.now.entries s * once + led_at place parts.now.entries v s) (sum_at place once v column.entered column.from.items)) }
 {
+    let nothing = moduli.of_number(0);
     let mut columns = BTreeMap::new(alloc);
     for state in states {
         let none = Column {
-            entered: Residues::zero(),
+            entered: nothing,
             from: Vec::new(alloc),
         };
         columns.insert(*state, none)?;
