@@ -7,7 +7,7 @@ use Rattle.std.specs.Ordering.{nat_cmp}
 use Rattle.std.specs.Prelude.{cond}
 use Rattle.std.proofs.lemmas.Bool.{cases_eq}
 use Rattle.std.proofs.lemmas.Bool.Decides.{nat_tests}
-use Rattle.std.proofs.lemmas.List.Elements.{Contains-push_cases}
+use Rattle.std.proofs.lemmas.List.Elements.{Contains-append_left, Contains-push, Contains-push_cases}
 use Rattle.std.proofs.lemmas.Map.Lookups.{exact_unsigned}
 use Rattle.std.proofs.lemmas.Map.Views.{btree_map_get_iff}
 use Rattle.narrow_fractions.specs.Remainders.{Same}
@@ -36,15 +36,20 @@ not_at k s not same =
 -- each of these states has a column, and each column has something
 pub record Each (states : List ℕ) (Has : ℕ → Column → Type 0) (columns : BTreeMap ℕ Column) : Type 0 where
   pub all : (s : ℕ) → Contains states s → IsSome (get nat_cmp columns s)
+  pub only : (s : ℕ) (column : Column) → get nat_cmp columns s ≡ Some column → Contains states s
   pub ordered : IsOrdered nat_cmp columns
   pub has : (s : ℕ) (column : Column) → get nat_cmp columns s ≡ Some column → Has s column
 
 pub each_none : (Has : ℕ → Column → Type 0) (columns : BTreeMap ℕ Column) → columns.entries ≡ [] → IsOrdered nat_cmp columns → Each [] Has columns
 each_none Has columns none ordered = record {
   all = λ s has. let below = has.1 in absurd (omega (arith, below));
+  only = λ s column found. absurd (nothing s column found);
   ordered = ordered;
-  has = λ s column found. let is : ◌≡◌ {A = Option Column} None (Some column) = subst (λ es. lookup (is_at (nat_cmp s)) es ≡ Some column) none found in absurd (cc);
+  has = λ s column found. absurd (nothing s column found);
 }
+  where
+    nothing : (s : ℕ) (column : Column) → get nat_cmp columns s ≡ Some column → ⊥
+    nothing s column found = let is : ◌≡◌ {A = Option Column} None (Some column) = subst (λ es. lookup (is_at (nat_cmp s)) es ≡ Some column) none found in cc
 
 found_still : (o : Option Column) (b : Bool) (column : Column) → IsSome o → IsSome (cond b (Some column) o)
 found_still o true column some = refl
@@ -55,6 +60,7 @@ pub each_put : (states : List ℕ) (Has : ℕ → Column → Type 0) (old new : 
     Each states Has old → Each (states ++ k ∷ []) Has new
 each_put states Has old new k column updates ordered is h = record {
   all = λ s has. all s (Contains-push_cases states k s has);
+  only = λ s other found. only s other (is_at (nat_cmp k) s) refl (sym (updates.0 s) ∙ found);
   ordered = ordered;
   has = λ s other found. has s other (is_at (nat_cmp k) s) refl (sym (updates.0 s) ∙ found);
 }
@@ -62,6 +68,10 @@ each_put states Has old new k column updates ordered is h = record {
     all : (s : ℕ) → Contains states s ⊎ (k ≡ s) → IsSome (get nat_cmp new s)
     all s (inl there) = subst IsSome (sym (updates.0 s)) (found_still (get nat_cmp old s) (is_at (nat_cmp k) s) column (h.all s there))
     all s (inr same) = subst (λ s. IsSome (get nat_cmp new s)) same (subst IsSome (sym updates.1) refl)
+
+    only : (s : ℕ) (other : Column) (b : Bool) → is_at (nat_cmp k) s ≡ b → cond b (Some column) (get nat_cmp old s) ≡ Some other → Contains (states ++ k ∷ []) s
+    only s other true at found = subst (Contains (states ++ k ∷ [])) (at_key k s at) (Contains-push states k)
+    only s other false at found = Contains-append_left states (k ∷ []) s (h.only s other found)
 
     has : (s : ℕ) (other : Column) (b : Bool) → is_at (nat_cmp k) s ≡ b → cond b (Some column) (get nat_cmp old s) ≡ Some other → Has s other
     has s other true at found = subst₂ Has (at_key k s at) (some_is column other found) is
@@ -72,12 +82,17 @@ pub each_written : (states : List ℕ) (Had Has : ℕ → Column → Type 0) (ol
     WritesThrough nat_cmp (nat_cmp k) old after new → (Had k before → Has k after) → ((s : ℕ) (column : Column) → (s ≡ k → ⊥) → Had s column → Has s column) → Each states Had old → Each states Has new
 each_written states Had Has old new k before after found writes here other h = record {
   all = λ s has. subst IsSome (sym (updates.0 s)) (found_still (get nat_cmp old s) (is_at (nat_cmp k) s) after (h.all s has));
+  only = λ s column is. only s column (is_at (nat_cmp k) s) refl (sym (updates.0 s) ∙ is);
   ordered = writes.4;
   has = λ s column is. has s column (is_at (nat_cmp k) s) refl (sym (updates.0 s) ∙ is);
 }
   where
     updates : Updates nat_cmp old new k (Some after)
     updates = writes.3 (subst IsSome (sym found) refl)
+
+    only : (s : ℕ) (column : Column) (b : Bool) → is_at (nat_cmp k) s ≡ b → cond b (Some after) (get nat_cmp old s) ≡ Some column → Contains states s
+    only s column true at is = subst (Contains states) (at_key k s at) (h.only k before found)
+    only s column false at is = h.only s column is
 
     has : (s : ℕ) (column : Column) (b : Bool) → is_at (nat_cmp k) s ≡ b → cond b (Some after) (get nat_cmp old s) ≡ Some column → Has s column
     has s column true at is = subst₂ Has (at_key k s at) (some_is after column is) (here (h.has k before found))
@@ -88,6 +103,7 @@ pub each_passed : (states : List ℕ) (Had Has : ℕ → Column → Type 0) (old
     ((s : ℕ) (column : Column) → (s ≡ k → ⊥) → Had s column → Has s column) → Each states Had old → Each states Has new
 each_passed states Had Has old new k none same other h = subst (Each states Has) (sym same) (record {
   all = h.all;
+  only = h.only;
   ordered = h.ordered;
   has = λ s column found. other s column (apart s column found) (h.has s column found);
 })
@@ -96,7 +112,7 @@ each_passed states Had Has old new k none same other h = subst (Each states Has)
     apart s column found is = let there : get nat_cmp old k ≡ Some column = subst (λ s. get nat_cmp old s ≡ Some column) is found in cc
 
 pub each_same : (states : List ℕ) (Had Has : ℕ → Column → Type 0) (columns : BTreeMap ℕ Column) → ((s : ℕ) (column : Column) → Had s column → Has s column) → Each states Had columns → Each states Has columns
-each_same states Had Has columns still h = record { all = h.all; ordered = h.ordered; has = λ s column found. still s column (h.has s column found) }
+each_same states Had Has columns still h = record { all = h.all; only = h.only; ordered = h.ordered; has = λ s column found. still s column (h.has s column found) }
 
 counted_itself : (k n : ℕ) → (if k == k then n else 0) ≡ n
 counted_itself k n = grind (arith, nat_tests)
@@ -191,11 +207,13 @@ module _ (moduli : Moduli) (entered : List (ℕ × Residues)) where
   -- all entries are passed
   pub all_told : (parts : List ((ℕ × ℕ) × Residues)) (states : List ℕ) (columns : BTreeMap ℕ Column) → Each states (HasLed parts []) columns →
       ColumnsForms moduli columns.entries × ((s : ℕ) → Contains states s → HasKey columns.entries s) ×
+      ((s : ℕ) (column : Column) → Contains columns.entries (s, column) → Contains states s) ×
       ((place : ℕ) → place < 5 → (once : ℕ) (v : ℕ → ℕ) (s : ℕ) (column : Column) → Contains columns.entries (s, column) →
       Same (modulus moduli place) (entered_at place entered s * once + led_at place parts v s) (sum_at place once v column.entered column.from.items))
   all_told parts states columns h = (
     λ s column has. (is s column has).forms,
     λ s has. let found = some_of (get nat_cmp columns s) (h.all s has) in (found.0, has_found columns.entries s found.0 found.1),
+    λ s column has. h.only s column (found s column has),
     λ place small once v s column has.
         let m = modulus moduli place in
         let all = (is s column has).led place v in
@@ -203,8 +221,11 @@ module _ (moduli : Moduli) (entered : List (ℕ × Residues)) where
         (equal m _ _ (omega (arith, all))),
   )
     where
+      found : (s : ℕ) (column : Column) → Contains columns.entries (s, column) → get nat_cmp columns s ≡ Some column
+      found s column has = (btree_map_get_iff nat_cmp_total exact_unsigned columns h.ordered s column).1 has
+
       is : (s : ℕ) (column : Column) → Contains columns.entries (s, column) → HasLed parts [] s column
-      is s column has = h.has s column ((btree_map_get_iff nat_cmp_total exact_unsigned columns h.ordered s column).1 has)
+      is s column has = h.has s column (found s column has)
 
 pub first_forms : {K : Type 0} (moduli : Moduli) (all rest : List (K × Residues)) (e : K × Residues) → all ≡ e ∷ rest → AllForms moduli all → AreForms moduli e.1
 first_forms moduli all rest e is forms = forms e.0 e.1 (subst (λ es. Contains es e) (sym is) (first_is e rest))

@@ -131,6 +131,15 @@ returns-clause-all c =
     (all_told moduli entered parts states c.loop-ends.columns
     (subst (λ it. Each states (HasLed moduli entered parts it) c.loop-ends.columns) c.in-None-2.ensures.steps.0 c.loop-ends.invariant.1)).1
 
+pub returns-clause-only : goal.returns-clause-only
+returns-clause-only c =
+    let moduli = c.args.moduli.now in
+    let entered = c.args.entered.now.entries in
+    let parts = c.args.parts.now.entries in
+    let states = c.args.states.now.items in
+    (all_told moduli entered parts states c.loop-ends.columns
+    (subst (λ it. Each states (HasLed moduli entered parts it) c.loop-ends.columns) c.in-None-2.ensures.steps.0 c.loop-ends.invariant.1)).2
+
 pub returns-clause-hold : goal.returns-clause-hold
 returns-clause-hold c =
     let moduli = c.args.moduli.now in
@@ -138,4 +147,4 @@ returns-clause-hold c =
     let parts = c.args.parts.now.entries in
     let states = c.args.states.now.items in
     (all_told moduli entered parts states c.loop-ends.columns
-    (subst (λ it. Each states (HasLed moduli entered parts it) c.loop-ends.columns) c.in-None-2.ensures.steps.0 c.loop-ends.invariant.1)).2
+    (subst (λ it. Each states (HasLed moduli entered parts it) c.loop-ends.columns) c.in-None-2.ensures.steps.0 c.loop-ends.invariant.1)).3
