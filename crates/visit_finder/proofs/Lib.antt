@@ -1,5 +1,6 @@
 pub mod AtPlaces
 mod Closed
+pub mod ColumnsOf
 mod Digits
 mod Division
 pub mod Eliminated

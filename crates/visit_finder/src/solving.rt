@@ -45,13 +45,15 @@ fn columns_of(
     requires parts { AllForms moduli.now parts.now.entries }
     ensures forms { IfOk result (λ columns. ColumnsForms moduli.now columns.entries) }
     ensures all { IfOk result (λ columns. (s : ℕ) → Contains states.now.items s → HasKey columns.entries s) }
+    ensures only { IfOk result (λ columns. (s : ℕ) (column : column) → Contains columns.entries (s, column) → Contains states.now.items s) }
     ensures hold { IfOk result (λ columns. (place : ℕ) → place < 5 → (once : ℕ) (v : ℕ → ℕ) → (s : ℕ) (column : column) → Contains columns.entries (s, column) →
         Same (modulus moduli.now place) (entered_at place entered.now.entries s * once + led_at place parts.now.entries v s) (sum_at place once v column.entered column.from.items)) }
 {
+    let nothing = moduli.of_number(0);
     let mut columns = BTreeMap::new(alloc);
     for state in states {
         let none = Column {
-            entered: Residues::zero(),
+            entered: nothing,
             from: Vec::new(alloc),
         };
         columns.insert(*state, none)?;
