@@ -32,7 +32,9 @@ impl From<MassError> for SettleError {
 impl From<FinderError> for SettleError {
     fn from(error: FinderError) -> Self {
         match error {
-            FinderError::TooWide => SettleError::TooWide,
+            FinderError::TooWide | FinderError::NoneNarrow | FinderError::TooFewPrimes => {
+                SettleError::TooWide
+            }
             FinderError::OutOfMemory => SettleError::OutOfMemory,
         }
     }

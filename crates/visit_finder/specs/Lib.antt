@@ -2,3 +2,7 @@ pub mod Number
 pub mod Found
 pub mod Forms
 pub mod Places
+pub mod Equations
+pub mod Exact
+pub mod inner
+pub mod Sources

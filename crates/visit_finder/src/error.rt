@@ -5,8 +5,12 @@ use std::alloc::{AllocError, AllocFailed};
 /// Why no visits are found.
 #[derive(Clone, Copy, PartialEq, Eq, Debug)]
 pub enum FinderError {
-    /// A fraction is wider than 128 bits, or four of eight primes above 2^62 divide what an elimination divides by.
+    /// The weights with which one turn leads on from a state add up to a fraction of more than 128 bits.
     TooWide,
+    /// Some state has no visits of two numbers of 128 bits, whatever visits balance.
+    NoneNarrow,
+    /// Four of eight primes above 2^62 divide what an elimination divides by.
+    TooFewPrimes,
     /// Memory ran out.
     OutOfMemory,
 }

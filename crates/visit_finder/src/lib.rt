@@ -8,6 +8,7 @@
 //! there is none (`Wide::quotient_of`).
 #![tactic(auto)]
 
+mod columns;
 mod error;
 mod primes;
 mod residues;

@@ -1,283 +1,366 @@
-// The visits of a loop by elimination of its states, one after the other: that which may add the fewest entries first. Nothing is
-// promised of them.
+// The visits of a loop by elimination of its states, one after the other: that which may add the fewest entries first.
 
+ghost use Rattle.std.specs.Prelude.{◌≡◌, ◌<◌, ◌+◌, ◌*◌, ◌^◌, ℕ, [], true, false, length, Contains, IfOk, OnOk, IfSome, IsNone};
+ghost use Rattle.narrow_fractions.specs.Remainders.{Same};
+ghost use Rattle.visit_finder.specs.declared.columns.Column.{Column as column};
+ghost use Rattle.visit_finder.specs.declared.solving.Pivot.{Pivot as pivot};
+ghost use Rattle.visit_finder.specs.Equations.{entered_at, led_at, AreKnown, AllForms};
+ghost use Rattle.visit_finder.specs.Places.{modulus, form_at, is_lost, AreForms, Loses};
+ghost use Rattle.visit_finder.specs.inner.Columns.{sum_at, HasKey, ColumnForms, ColumnHolds, ColumnsForms, ColumnsHold};
+ghost use Rattle.visit_finder.specs.inner.Pivots.{Takes, Renews, PivotForms, PivotsForms, PivotHolds, PivotsHold, FoundHolds};
+
+use crate::columns::{Column, added, without};
 use crate::error::FinderError;
 use crate::residues::{Moduli, Residues};
 use std::alloc::Global;
 use std::collections::{BTreeMap, BTreeSet};
 
-// Where a turn leads from a state: states in order, each with its part.
-type Row = Vec<(u64, Residues)>;
-
-// A state that was eliminated: 1 over what leaves it, and the parts of other states that lead to it.
+// A state that was eliminated: 1 over what leaves it, and its column, without the part from itself.
 #[derive(Drop)]
-struct Pivot {
+pub struct Pivot {
     state: u64,
     leaves: Residues,
-    from: Row,
+    column: Column,
 }
 
-// The states that are left: where a turn leads from each, from which states a turn leads to it, and what it is entered with.
+// The states that are left: the column of each, and in which columns each stands. And which of them is the next, which is a matter of
+// speed alone: by how many entries the columns may gain.
 #[derive(Drop)]
 struct Left {
-    out: BTreeMap<u64, Row>,
-    into: BTreeMap<u64, BTreeSet<u64>>,
-    entered: BTreeMap<u64, Residues>,
-    order: BTreeSet<u64>,
-    ranks: BTreeMap<u64, u64>,
+    columns: BTreeMap<u64, Column>,
+    targets: BTreeMap<u64, BTreeSet<u64>>,
+    order: BTreeSet<(u64, u64)>,
+    gains: BTreeMap<u64, u64>,
 }
 
-// Ranks begin with how many entries may be added, and end with the state.
-const NUMBERS: u64 = 1 << 32;
-
-// The row without a state, and its part.
-fn without(alloc: Global, row: &Row, state: u64) -> Result<(Row, Residues), FinderError> {
-    let mut others = Vec::with_capacity(alloc, row.len())?;
-    let mut part = Residues::zero();
-    for (to, weight) in row {
-        if *to == state {
-            part = *weight;
-        } else {
-            others.push((*to, *weight))?;
+// The columns of states, as what the loop is entered with and the parts of its turns tell.
+fn columns_of(
+    alloc: Global,
+    moduli: &Moduli,
+    entered: &BTreeMap<u64, Residues>,
+    parts: &BTreeMap<(u64, u64), Residues>,
+    states: &Vec<u64>,
+) -> Result<BTreeMap<u64, Column>, FinderError>
+    requires entered { AllForms moduli.now entered.now.entries }
+    requires parts { AllForms moduli.now parts.now.entries }
+    ensures forms { IfOk result (λ columns. ColumnsForms moduli.now columns.entries) }
+    ensures all { IfOk result (λ columns. (s : ℕ) → Contains states.now.items s → HasKey columns.entries s) }
+    ensures only { IfOk result (λ columns. (s : ℕ) (column : column) → Contains columns.entries (s, column) → Contains states.now.items s) }
+    ensures hold { IfOk result (λ columns. (place : ℕ) → place < 5 → (once : ℕ) (v : ℕ → ℕ) → (s : ℕ) (column : column) → Contains columns.entries (s, column) →
+        Same (modulus moduli.now place) (entered_at place entered.now.entries s * once + led_at place parts.now.entries v s) (sum_at place once v column.entered column.from.items)) }
+{
+    let nothing = moduli.of_number(0);
+    let mut columns = BTreeMap::new(alloc);
+    for state in states {
+        let none = Column {
+            entered: nothing,
+            from: Vec::new(alloc),
+        };
+        columns.insert(*state, none)?;
+    }
+    for (state, part) in entered {
+        if let Some(column) = columns.get_mut(state) {
+            column.entered = moduli.sum(&column.entered, part);
         }
     }
-    Ok((others, part))
-}
-
-// The entries from an index on are put behind others, up to a state; and the index behind them.
-fn copied_below(row: &Row, from: usize, state: u64, all: &mut Row) -> Result<usize, FinderError> {
-    let mut at = from;
-    for _ in from..row.len() {
-        match row.get(at) {
-            Some(entry) if entry.0 < state => {
-                all.push(*entry)?;
-                at = at.saturating_add(1);
-            }
-            _ => return Ok(at),
+    for (ends, part) in parts {
+        if let Some(column) = columns.get_mut(&ends.1) {
+            column.from.push((ends.0, *part))?;
         }
     }
-    Ok(at)
+    Ok(columns)
 }
 
 impl Left {
-    // A turn leads from one state to another with this part, behind those that it leads to before.
-    fn add(
-        &mut self,
+    // The columns of states, and in which each stands.
+    fn of(
         alloc: Global,
-        from: u64,
-        to: u64,
-        part: &Residues,
-    ) -> Result<(), FinderError> {
-        let mut row = match self.out.remove(&from) {
-            Some(row) => row,
-            None => Vec::new(alloc),
+        columns: BTreeMap<u64, Column>,
+        parts: &BTreeMap<(u64, u64), Residues>,
+        states: &Vec<u64>,
+    ) -> Result<Left, FinderError>
+        ensures { IfOk result (λ left. left.columns.entries ≡ columns.entries) }
+    {
+        let mut left = Left {
+            columns,
+            targets: BTreeMap::new(alloc),
+            order: BTreeSet::new(alloc),
+            gains: BTreeMap::new(alloc),
         };
-        row.push((to, *part))?;
-        self.out.insert(from, row)?;
-        self.source(alloc, from, to)
+        for (ends, _) in parts {
+            left.stand(alloc, ends.0, ends.1)?;
+        }
+        for state in states {
+            left.rank(*state)?;
+        }
+        Ok(left)
     }
 
-    // A turn leads from one state to another.
-    fn source(&mut self, alloc: Global, from: u64, to: u64) -> Result<(), FinderError> {
-        let mut sources = match self.into.remove(&to) {
-            Some(sources) => sources,
+    // The state stands in the column of another.
+    fn stand(&mut self, alloc: Global, state: u64, target: u64) -> Result<(), FinderError>
+        ensures { self.new.columns.entries ≡ self.old.columns.entries }
+    {
+        let mut targets = match self.targets.remove(&state) {
+            Some(targets) => targets,
             None => BTreeSet::new(alloc),
         };
-        sources.insert(from)?;
-        self.into.insert(to, sources)?;
+        targets.insert(target)?;
+        self.targets.insert(state, targets)?;
         Ok(())
     }
 
-    // How many entries the rows may gain where the state is eliminated.
+    // How many entries the columns may gain where the state is eliminated.
     fn gain(&self, state: u64) -> u64 {
-        let out = match self.out.get(&state) {
-            Some(row) => row.len() as u64,
+        let from = match self.columns.get(&state) {
+            Some(column) => column.from.len() as u64,
             None => 0,
         };
-        let into = match self.into.get(&state) {
-            Some(sources) => sources.len() as u64,
+        let into = match self.targets.get(&state) {
+            Some(targets) => targets.len() as u64,
             None => 0,
         };
-        out.saturating_mul(into).min(NUMBERS - 1)
+        from.saturating_mul(into)
     }
 
-    fn rank(&mut self, state: u64) -> Result<(), FinderError> {
-        if let Some(old) = self.ranks.get(&state) {
-            self.order.remove(old);
+    fn rank(&mut self, state: u64) -> Result<(), FinderError>
+        ensures { self.new.columns.entries ≡ self.old.columns.entries }
+    {
+        if let Some(old) = self.gains.get(&state) {
+            self.order.remove(&(*old, state));
         }
-        let rank = self.gain(state).wrapping_mul(NUMBERS).wrapping_add(state);
-        self.ranks.insert(state, rank)?;
-        self.order.insert(rank)?;
+        let gain = self.gain(state);
+        self.gains.insert(state, gain)?;
+        self.order.insert((gain, state))?;
         Ok(())
     }
 
-    // The state's row without the part from itself, and that part.
-    fn take(&mut self, alloc: Global, state: u64) -> Result<(Row, Residues), FinderError> {
-        let row = match self.out.remove(&state) {
-            Some(row) => row,
-            None => Vec::new(alloc),
-        };
-        let (row, back) = without(alloc, &row, state)?;
-        for (to, _) in &row {
-            if let Some(sources) = self.into.get_mut(to) {
-                sources.remove(&state);
+    // The next state, with its column, which is taken away. A state that the order lacks is taken at last.
+    fn taken(&mut self) -> Option<(u64, Column)>
+        ensures some { IfSome result (λ t. Takes self.old.columns.entries t.0 t.1 self.new.columns.entries) }
+        ensures none { IsNone result → self.old.columns.entries ≡ [] }
+    {
+        if let Some((_, state)) = self.order.pop_first() {
+            if let Some(column) = self.columns.remove(&state) {
+                return Some((state, column));
             }
         }
-        Ok((row, back))
+        self.columns.pop_first()
     }
 
-    // The row of a source, and so many times another, in one.
-    fn joined(
-        &mut self,
-        alloc: Global,
-        moduli: &Moduli,
-        source: u64,
-        row: &Row,
-        factor: &Residues,
-        other: &Row,
-    ) -> Result<Row, FinderError> {
-        let mut all = Vec::new(alloc);
-        let mut at = 0;
-        for (to, part) in other {
-            at = copied_below(row, at, *to, &mut all)?;
-            let more = moduli.product(factor, part);
-            match row.get(at) {
-                Some(entry) if entry.0 == *to => {
-                    all.push((*to, moduli.sum(&entry.1, &more)))?;
-                    at = at.saturating_add(1);
-                }
-                _ => {
-                    all.push((*to, more))?;
-                    self.source(alloc, source, *to)?;
-                }
-            }
-        }
-        copied_below(row, at, u64::MAX, &mut all)?;
-        Ok(all)
-    }
-
-    // What a state is entered with grows.
-    fn enter(&mut self, moduli: &Moduli, state: u64, part: &Residues) -> Result<(), FinderError> {
-        let sum = match self.entered.get(&state) {
-            Some(old) => moduli.sum(old, part),
-            None => *part,
-        };
-        self.entered.insert(state, sum)?;
-        Ok(())
-    }
-
-    // In the rows of the states that lead to it the state is replaced by what it leads to, so many times; and its parts there.
+    // In the columns in which a state stands it is replaced by its own column, so many times.
     fn replace(
         &mut self,
         alloc: Global,
         moduli: &Moduli,
         state: u64,
         leaves: &Residues,
-        row: &Row,
-    ) -> Result<Row, FinderError> {
-        let sources = match self.into.remove(&state) {
-            Some(sources) => sources,
+        column: &Column,
+    ) -> Result<(), FinderError>
+        requires columns { ColumnsForms moduli.now self.old.columns.entries }
+        requires pivot { PivotForms moduli.now leaves.now column.now }
+        ensures { OnOk result (Renews moduli.now state leaves.now column.now self.old.columns.entries self.new.columns.entries) }
+    {
+        let targets = match self.targets.remove(&state) {
+            Some(targets) => targets,
             None => BTreeSet::new(alloc),
         };
-        let mut from = Vec::new(alloc);
-        for source in sources {
-            if let Some(old) = self.out.remove(&source) {
-                let (others, weight) = without(alloc, &old, state)?;
-                let factor = moduli.product(&weight, leaves);
-                let next = self.joined(alloc, moduli, source, &others, &factor, row)?;
-                self.out.insert(source, next)?;
-                from.push((source, weight))?;
-                self.rank(source)?;
-            }
+        for target in targets {
+            renew(alloc, moduli, &mut self.columns, target, state, leaves, column)?;
+            self.stand_all(alloc, column, target)?;
+            self.rank(target)?;
         }
-        Ok(from)
+        Ok(())
     }
 
-    // The state is replaced by what it leads to.
+    // The states of a column stand in that of another.
+    fn stand_all(&mut self, alloc: Global, column: &Column, target: u64) -> Result<(), FinderError>
+        ensures { self.new.columns.entries ≡ self.old.columns.entries }
+    {
+        for entry in &column.from {
+            self.stand(alloc, entry.0, target)?;
+        }
+        Ok(())
+    }
+
+    fn rank_all(&mut self, column: &Column) -> Result<(), FinderError>
+        ensures { self.new.columns.entries ≡ self.old.columns.entries }
+    {
+        for entry in &column.from {
+            self.rank(entry.0)?;
+        }
+        Ok(())
+    }
+
+    // The states of a column stand no more in that of a state.
+    fn stand_down(&mut self, column: &Column, state: u64)
+        ensures { self.new.columns.entries ≡ self.old.columns.entries }
+    {
+        for entry in &column.from {
+            if let Some(targets) = self.targets.get_mut(&entry.0) {
+                targets.remove(&state);
+            }
+        }
+    }
+
+    // The state is eliminated, whose column was taken away.
     fn eliminate(
         &mut self,
         alloc: Global,
         moduli: &mut Moduli,
         state: u64,
-    ) -> Result<Pivot, FinderError> {
-        let (row, back) = self.take(alloc, state)?;
-        let pivot = moduli.difference(&moduli.of_number(1), &back);
-        let leaves = moduli.inverse(&pivot);
-        let entered = match self.entered.get(&state) {
-            Some(part) => moduli.product(part, &leaves),
-            None => Residues::zero(),
-        };
-        for (to, part) in &row {
-            self.enter(moduli, *to, &moduli.product(&entered, part))?;
-        }
-        let from = self.replace(alloc, moduli, state, &leaves, &row)?;
-        for (to, _) in &row {
-            self.rank(*to)?;
-        }
-        Ok(Pivot {
+        column: Column,
+    ) -> Result<Pivot, FinderError>
+        requires columns { ColumnsForms moduli.old self.old.columns.entries }
+        requires column { ColumnForms moduli.old column }
+        ensures loses { Loses moduli.old moduli.new }
+        ensures state { IfOk result (λ pivot. pivot.state ≡ state) }
+        ensures pivot { IfOk result (λ pivot. PivotForms moduli.old pivot.leaves pivot.column) }
+        ensures renews { IfOk result (λ pivot. Renews moduli.old state pivot.leaves pivot.column self.old.columns.entries self.new.columns.entries) }
+        ensures told { IfOk result (λ pivot. (place : ℕ) → place < 5 → is_lost moduli.new place ≡ false → (once : ℕ) (v : ℕ → ℕ) →
+            ColumnHolds moduli.old place once v state column → PivotHolds moduli.old place once v state pivot.leaves pivot.column) }
+    {
+            let before = *moduli;
+        let (from, back) = without(alloc, &before, &column, state)?;
+        let rest = before.difference(&before.of_number(1), &back);
+        let leaves = moduli.inverse(&rest);
+        let pivot = Pivot {
             state,
             leaves,
-            from,
-        })
+            column: Column {
+                entered: column.entered,
+                from,
+            },
+        };
+        self.stand_down(&pivot.column, state);
+        self.replace(alloc, &before, state, &pivot.leaves, &pivot.column)?;
+        self.rank_all(&pivot.column)?;
+        Ok(pivot)
     }
+}
+
+// In the column of the target, if it has one, the state is replaced by its own column, so many times.
+fn renew(
+    alloc: Global,
+    moduli: &Moduli,
+    columns: &mut BTreeMap<u64, Column>,
+    target: u64,
+    state: u64,
+    leaves: &Residues,
+    column: &Column,
+) -> Result<(), FinderError>
+    requires columns { ColumnsForms moduli.now columns.old.entries }
+    requires pivot { PivotForms moduli.now leaves.now column.now }
+    ensures { OnOk result (Renews moduli.now state leaves.now column.now columns.old.entries columns.new.entries) }
+{
+    if let Some(old) = columns.remove(&target) {
+        let next = replaced(alloc, moduli, old, state, leaves, column)?;
+        columns.insert(target, next)?;
+    }
+    Ok(())
+}
+
+// A column in which the state is replaced by its own column, so many times.
+fn replaced(
+    alloc: Global,
+    moduli: &Moduli,
+    column: Column,
+    state: u64,
+    leaves: &Residues,
+    other: &Column,
+) -> Result<Column, FinderError>
+    requires column { ColumnForms moduli.now column }
+    requires pivot { PivotForms moduli.now leaves.now other.now }
+    ensures forms { IfOk result (λ next. ColumnForms moduli.now next) }
+    ensures hold { IfOk result (λ next. (place : ℕ) → place < 5 → (once : ℕ) (v : ℕ → ℕ) → PivotHolds moduli.now place once v state leaves.now other.now →
+        (s : ℕ) → ColumnHolds moduli.now place once v s column → ColumnHolds moduli.now place once v s next) }
+{
+    let (others, part) = without(alloc, moduli, &column, state)?;
+    let factor = moduli.product(&part, leaves);
+    let more = moduli.product(&factor, &other.entered);
+    let from = added(alloc, moduli, &others, &factor, &other.from)?;
+    Ok(Column {
+        entered: moduli.sum(&column.entered, &more),
+        from,
+    })
+}
+
+// Whether all residues are below the moduli.
+fn are_forms<K: Ord + Drop>(moduli: &Moduli, residues: &BTreeMap<K, Residues>) -> bool
+    ensures { result ≡ true → AllForms moduli.now residues.now.entries }
+{
+    for (_, part) in residues {
+        if !moduli.are_forms(part) {
+            return false;
+        }
+    }
+    true
 }
 
 /// The expected visits of each state, by its number. `entered` has the weight with which the loop comes to each state, and
 /// `parts` the probability that one turn leads from one state to another.
+///
+/// At a modulus that is not lost, whatever visits balance are so many times what is found.
 pub fn solved(
     alloc: Global,
     moduli: &mut Moduli,
     entered: BTreeMap<u64, Residues>,
     parts: &BTreeMap<(u64, u64), Residues>,
     states: &Vec<u64>,
-) -> Result<BTreeMap<u64, Residues>, FinderError> {
-    let mut left = Left {
-        out: BTreeMap::new(alloc),
-        into: BTreeMap::new(alloc),
-        entered,
-        order: BTreeSet::new(alloc),
-        ranks: BTreeMap::new(alloc),
-    };
-    for (ends, part) in parts {
-        left.add(alloc, ends.0, ends.1, part)?;
+) -> Result<BTreeMap<u64, Residues>, FinderError>
+    ensures loses { Loses moduli.old moduli.new }
+    ensures known { IfOk result (λ found. (place : ℕ) → place < 5 → is_lost moduli.new place ≡ false →
+        AreKnown moduli.old place entered.entries parts.now.entries states.now.items found.entries) }
+{
+    if !are_forms(moduli, &entered) || !are_forms(moduli, parts) {
+        moduli.lose();
+        return Ok(BTreeMap::new(alloc));
     }
-    for state in states {
-        left.rank(*state)?;
-    }
+    let columns = columns_of(alloc, moduli, &entered, parts, states)?;
+    let mut left = Left::of(alloc, columns, parts, states)?;
     let mut pivots = Vec::new(alloc);
-    for _ in 0..states.len() {
-        let Some(rank) = left.order.pop_first() else {
-            break;
-        };
-        pivots.push(left.eliminate(alloc, moduli, rank % NUMBERS)?)?;
+    while let Some((state, column)) = left.taken() {
+        pivots.push(left.eliminate(alloc, moduli, state, column)?)?;
     }
-    visits_by(alloc, moduli, pivots, &left.entered)
+    visits_by(alloc, moduli, pivots)
 }
 
-// The visits of each state: the weight with which it is entered, and what the states that were eliminated after it lead to it,
-// over what leaves it.
+// The visits of each state: what it is entered with, and what the states that were eliminated after it lead to it, over what leaves it.
 fn visits_by(
     alloc: Global,
-    moduli: &Moduli,
+    moduli: &mut Moduli,
     pivots: Vec<Pivot>,
-    entered: &BTreeMap<u64, Residues>,
-) -> Result<BTreeMap<u64, Residues>, FinderError> {
+) -> Result<BTreeMap<u64, Residues>, FinderError>
+    requires { PivotsForms moduli.old pivots.items }
+    ensures loses { Loses moduli.old moduli.new }
+    ensures all { IfOk result (λ found. (pivot : pivot) → Contains pivots.items pivot → HasKey found.entries pivot.state) }
+    ensures known { IfOk result (λ found. (place : ℕ) → place < 5 → is_lost moduli.new place ≡ false → (once : ℕ) (v : ℕ → ℕ) →
+        PivotsHold moduli.old place once v pivots.items → FoundHolds moduli.old place once v found.entries) }
+{
     let mut visits = BTreeMap::new(alloc);
     let mut stack = pivots;
-    for _ in 0..stack.len() {
-        let Some(pivot) = stack.pop() else {
-            break;
-        };
-        let mut sum = match entered.get(&pivot.state) {
-            Some(part) => *part,
-            None => Residues::zero(),
-        };
-        for (source, part) in &pivot.from {
-            if let Some(visited) = visits.get(source) {
-                sum = moduli.sum(&sum, &moduli.product(part, visited));
-            }
-        }
-        visits.insert(pivot.state, moduli.product(&sum, &pivot.leaves))?;
+    while let Some(pivot) = stack.pop() {
+        let visited = visit(moduli, &pivot, &visits);
+        visits.insert(pivot.state, visited)?;
     }
     Ok(visits)
+}
+
+// The visits of a state, where those of the states that lead to it are told. Where one is not told, all moduli are lost.
+fn visit(moduli: &mut Moduli, pivot: &Pivot, visits: &BTreeMap<u64, Residues>) -> Residues
+    requires pivot { PivotForms moduli.old pivot.now.leaves pivot.now.column }
+    requires visits { AllForms moduli.old visits.now.entries }
+    ensures loses { Loses moduli.old moduli.new }
+    ensures forms { AreForms moduli.old result }
+    ensures known { (place : ℕ) → place < 5 → is_lost moduli.new place ≡ false → (once : ℕ) (v : ℕ → ℕ) →
+        PivotHolds moduli.old place once v pivot.now.state pivot.now.leaves pivot.now.column → FoundHolds moduli.old place once v visits.now.entries →
+        Same (modulus moduli.old place) (2 ^ 64 * v pivot.now.state) (once * form_at place result) }
+{
+    let mut sum = pivot.column.entered;
+    for (source, part) in &pivot.column.from {
+        match visits.get(source) {
+            Some(visited) => sum = moduli.sum(&sum, &moduli.product(part, visited)),
+            None => moduli.lose(),
+        }
+    }
+    moduli.product(&sum, &pivot.leaves)
 }

@@ -1,5 +1,11 @@
 // Where the turns of a loop lead, and how often each state is expected to be visited.
 
+ghost use Rattle.std.specs.Prelude.{◌≡◌, map, IfOk, IfErr};
+ghost use Rattle.std.specs.BTreeMap.{keys};
+ghost use Rattle.visit_finder.specs.declared.error.FinderError.TheVariants.{NoneNarrow};
+ghost use Rattle.visit_finder.specs.Exact.{AreClosed, AreOnly, HaveNone};
+ghost use Rattle.visit_finder.specs.Sources.{HaveTurns, AreClosedUnder};
+
 use crate::error::FinderError;
 use crate::primes::PRIMES;
 use crate::residues::{Moduli, Residues};
@@ -22,7 +28,7 @@ fn fractions(
 ) -> Result<BTreeMap<u64, Frac>, FinderError> {
     let mut fractions = BTreeMap::new(alloc);
     for (number, part) in residues {
-        let fraction = moduli.fraction(part).ok_or(FinderError::TooWide)?;
+        let fraction = moduli.fraction(part).ok_or(FinderError::NoneNarrow)?;
         fractions.insert(*number, fraction)?;
     }
     Ok(fractions)
@@ -35,7 +41,9 @@ pub fn left(
     states: u64,
     whole: &BTreeSet<u64>,
     sources: BTreeMap<u64, Vec<u64>>,
-) -> Result<BTreeMap<u64, bool>, FinderError> {
+) -> Result<BTreeMap<u64, bool>, FinderError>
+    ensures { IfOk result (λ leaving. AreClosedUnder (keys leaving) sources.entries) }
+{
     let mut sources = sources;
     let mut leaving = BTreeMap::new(alloc);
     let mut waiting = Vec::new(alloc);
@@ -45,15 +53,12 @@ pub fn left(
             waiting.push(number)?;
         }
     }
-    for _ in 0..states {
-        let Some(to) = waiting.pop() else {
-            break;
-        };
+    while let Some(to) = waiting.pop() {
         if let Some(list) = sources.remove(&to) {
-            for from in list {
-                if !leaving.contains_key(&from) {
-                    leaving.insert(from, true)?;
-                    waiting.push(from)?;
+            for from in &list {
+                if !leaving.contains_key(from) {
+                    leaving.insert(*from, true)?;
+                    waiting.push(*from)?;
                 }
             }
         }
@@ -78,7 +83,9 @@ impl Turns {
     fn sums_and_sources(
         &self,
         alloc: Global,
-    ) -> Result<(BTreeMap<u64, Frac>, BTreeMap<u64, Vec<u64>>), FinderError> {
+    ) -> Result<(BTreeMap<u64, Frac>, BTreeMap<u64, Vec<u64>>), FinderError>
+        ensures { IfOk result (λ made. HaveTurns made.1.entries self.now.parts.items) }
+    {
         let mut sums = BTreeMap::new(alloc);
         let mut sources: BTreeMap<u64, Vec<u64>> = BTreeMap::new(alloc);
         for (from, to, weight) in &self.parts {
@@ -99,7 +106,9 @@ impl Turns {
 
     /// The states from which the loop is left with some weight: those from which a turn leads on with less than all, and those
     /// from which a turn leads to one of them.
-    pub fn leaving(&self, alloc: Global, states: u64) -> Result<BTreeMap<u64, bool>, FinderError> {
+    pub fn leaving(&self, alloc: Global, states: u64) -> Result<BTreeMap<u64, bool>, FinderError>
+        ensures { IfOk result (λ leaving. AreClosed (map (λ e. e.0) leaving.entries) self.now.parts.items) }
+    {
         let (sums, sources) = self.sums_and_sources(alloc)?;
         let mut whole = BTreeSet::new(alloc);
         for (number, sum) in &sums {
@@ -167,13 +176,17 @@ impl Turns {
     }
 
     /// The visits of the states below `states` from which the loop may be left, by number, where it is entered with these weights: at moduli
-    /// of which none is lost. The others are never left.
+    /// of which none is lost. The others are never left. What is found of a state is the only narrow fraction that its visits can be, and
+    /// `NoneNarrow` comes only where those of some state are none.
     pub fn visits(
         &self,
         alloc: Global,
         states: u64,
         entered: &Vec<(u64, Frac)>,
-    ) -> Result<BTreeMap<u64, Frac>, FinderError> {
+    ) -> Result<BTreeMap<u64, Frac>, FinderError>
+        ensures only { IfOk result (λ found. AreOnly self.now.parts.items entered.now.items found.entries) }
+        ensures none { IfErr result (λ e. e ≡ NoneNarrow → HaveNone self.now.parts.items entered.now.items) }
+    {
         let leaving = self.leaving(alloc, states)?;
         let mut moduli = Moduli::first();
         for _ in 0..PRIMES.len() {
@@ -182,8 +195,8 @@ impl Turns {
             if moduli.hold() {
                 return fractions(alloc, &moduli, &visits);
             }
-            moduli = moduli.others().ok_or(FinderError::TooWide)?;
+            moduli = moduli.others().ok_or(FinderError::TooFewPrimes)?;
         }
-        Err(FinderError::TooWide)
+        Err(FinderError::TooFewPrimes)
     }
 }

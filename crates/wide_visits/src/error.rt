@@ -25,7 +25,9 @@ impl From<WideError> for VisitsError {
 impl From<FinderError> for VisitsError {
     fn from(error: FinderError) -> Self {
         match error {
-            FinderError::TooWide => VisitsError::TooWide,
+            FinderError::TooWide | FinderError::NoneNarrow | FinderError::TooFewPrimes => {
+                VisitsError::TooWide
+            }
             FinderError::OutOfMemory => VisitsError::OutOfMemory,
         }
     }
