@@ -12,7 +12,6 @@ pub mod Forms
 pub mod FoundVisits
 mod Inverses
 pub mod Losing
-pub mod Maps
 pub mod Newton
 mod Numbers
 pub mod Places
