@@ -4,3 +4,4 @@ pub mod Forms
 pub mod Places
 pub mod Equations
 pub mod Exact
+pub mod inner

@@ -1,8 +1,9 @@
 // Where the turns of a loop lead, and how often each state is expected to be visited.
 
-ghost use Rattle.std.specs.Prelude.{◌≡◌, map, IfOk, IfErr};
+ghost use Rattle.std.specs.Prelude.{◌≡◌, [], ◌∷◌, ◌++◌, map, OnOk, IfOk, IfErr};
 ghost use Rattle.visit_finder.specs.declared.error.FinderError.TheVariants.{NoneNarrow};
 ghost use Rattle.visit_finder.specs.Exact.{AreClosed, AreOnly, HaveNone};
+ghost use Rattle.visit_finder.specs.inner.Adding.{ends_order, AreAdded};
 
 use crate::error::FinderError;
 use crate::primes::PRIMES;
@@ -10,12 +11,46 @@ use crate::residues::{Moduli, Residues};
 use crate::solving::solved;
 use numbers::Frac;
 use std::alloc::Global;
+use std::collections::btree_map::Entry;
 use std::collections::{BTreeMap, BTreeSet};
+use std::marker::Model;
 
 /// Where one turn leads from each state of a loop on which its guard holds. States are told by numbers.
+///
+/// A contract sees the list of the turns.
 #[derive(Drop)]
 pub struct Turns {
     parts: Vec<(u64, u64, Frac)>,
+}
+
+impl Model for Turns {
+    ghost use Rattle.std.specs.Prelude.{List};
+    ghost use Rattle.visit_finder.specs.Exact.{Turn};
+
+    ghost Value = { List Turn };
+
+    ghost view = { λ t. t.parts.items };
+}
+
+// The part is added to what a turn leads from one state to another already.
+fn add_part(
+    moduli: &Moduli,
+    parts: &mut BTreeMap<(u64, u64), Residues>,
+    ends: (u64, u64),
+    part: &Residues,
+) -> Result<(), FinderError>
+    ensures { OnOk result (AreAdded ends_order moduli.now parts.old.entries parts.new.entries ends part.now) }
+{
+    match parts.entry(ends)? {
+        Entry::Occupied(mut at) => {
+            let sum = moduli.sum(at.get(), part);
+            at.insert(sum);
+        }
+        Entry::Vacant(at) => {
+            at.insert(*part);
+        }
+    }
+    Ok(())
 }
 
 // The fractions with these remainders, by number.
@@ -66,14 +101,18 @@ pub fn left(
 }
 
 impl Turns {
-    pub fn none(alloc: Global) -> Turns {
+    pub fn none(alloc: Global) -> Turns
+        ensures { result ≡ [] }
+    {
         Turns {
             parts: Vec::new(alloc),
         }
     }
 
     /// One turn leads from one state to another with this weight.
-    pub fn lead(&mut self, from: u64, to: u64, weight: Frac) -> Result<(), FinderError> {
+    pub fn lead(&mut self, from: u64, to: u64, weight: Frac) -> Result<(), FinderError>
+        ensures { OnOk result (self.new ≡ self.old ++ (from, to, weight) ∷ []) }
+    {
         self.parts.push((from, to, weight))?;
         Ok(())
     }
@@ -104,7 +143,7 @@ impl Turns {
     /// The states from which the loop is left with some weight: those from which a turn leads on with less than all, and those
     /// from which a turn leads to one of them.
     pub fn leaving(&self, alloc: Global, states: u64) -> Result<BTreeMap<u64, bool>, FinderError>
-        ensures { IfOk result (λ leaving. AreClosed (map (λ e. e.0) leaving.entries) self.now.parts.items) }
+        ensures { IfOk result (λ leaving. AreClosed (map (λ e. e.0) leaving.entries) self.now) }
     {
         let (sums, sources) = self.sums_and_sources(alloc)?;
         let mut whole = BTreeSet::new(alloc);
@@ -116,8 +155,8 @@ impl Turns {
         left(alloc, states, &whole, sources)
     }
 
-    // The part of each turn between states that may be left, at these moduli. Neighbours often have one denominator, and 1 over it
-    // is kept from one to the next.
+    // The part of each turn between states that may be left, at these moduli, where several between the same two states become one.
+    // Neighbours often have one denominator, and 1 over it is kept from one to the next.
     fn parts_at(
         &self,
         alloc: Global,
@@ -134,7 +173,7 @@ impl Turns {
                     over = moduli.inverse(&moduli.of_number(den));
                 }
                 let part = moduli.product(&moduli.of_number(weight.num()), &over);
-                parts.insert((*from, *to), part)?;
+                add_part(moduli, &mut parts, (*from, *to), &part)?;
             }
         }
         Ok(parts)
@@ -181,8 +220,8 @@ impl Turns {
         states: u64,
         entered: &Vec<(u64, Frac)>,
     ) -> Result<BTreeMap<u64, Frac>, FinderError>
-        ensures only { IfOk result (λ found. AreOnly self.now.parts.items entered.now.items found.entries) }
-        ensures none { IfErr result (λ e. e ≡ NoneNarrow → HaveNone self.now.parts.items entered.now.items) }
+        ensures only { IfOk result (λ found. AreOnly self.now entered.now.items found.entries) }
+        ensures none { IfErr result (λ e. e ≡ NoneNarrow → HaveNone self.now entered.now.items) }
     {
         let leaving = self.leaving(alloc, states)?;
         let mut moduli = Moduli::first();
