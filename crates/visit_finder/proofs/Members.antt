@@ -1,7 +1,15 @@
 -- What stands in lists, and among states.
-use Rattle.std.proofs.Common.{◌≡◌, ◌⊎◌, inl, inr, ℕ, zero, suc, ◌<◌, Bool, true, false, ◌||◌, List, [], ◌∷◌, refl, sym, ◌∙◌, arith}
+use Rattle.std.proofs.Common.{◌≡◌, ◌⊎◌, inl, inr, ℕ, zero, suc, ◌+◌, ◌<◌, Bool, true, false, cond, ◌&&◌, ◌||◌, Some, is_some, List, [], ◌∷◌, map, drop, get_or, Ordering, refl, sym, ap, ◌∙◌, subst, arith}
 use Rattle.std.specs.Prelude.{◌==◌, Contains, slice_index_or, length}
+use Rattle.std.specs.declared.cmp.Ordering.TheVariants.{Less, Equal, Greater}
+use Rattle.std.specs.Ordering.{nat_cmp, is_eq, ordering_reverse}
+use Rattle.std.specs.Cmp.{Equal-is}
+use Rattle.std.specs.BTreeMap.{is_at}
+use Rattle.std.specs.Map.{lookup}
+use Rattle.std.proofs.lemmas.Cmp.{nat_cmp_total}
+use Rattle.std.proofs.lemmas.Map.Lookups.{exact_unsigned}
 use Rattle.std.proofs.lemmas.Bool.{eqb-true, eq-eqb, false≢true}
+use Rattle.std.proofs.lemmas.List.{at_drop_more}
 use Rattle.std.proofs.lemmas.List.Elements.{Contains-append_right}
 use Rattle.visit_finder.specs.Exact.{is_in}
 
@@ -51,3 +59,39 @@ same_among xs ys into onto t = by (is_in xs t) (is_in ys t) refl refl
     by false false p q = refl
     by true false p q = sym (is_among ys t (into t (among xs t p))) ∙ q
     by false true p q = sym p ∙ is_among xs t (onto t (among ys t q))
+
+equal_to_itself : (o : Ordering) → o ≡ ordering_reverse o → o ≡ Equal
+equal_to_itself Less e = cc
+equal_to_itself Equal e = refl
+equal_to_itself Greater e = cc
+
+same_test : (q k : ℕ) → is_eq (nat_cmp q k) ≡ (k == q)
+same_test q k = by (is_eq (nat_cmp q k)) (k == q) refl refl
+  where
+    by : (b c : Bool) → is_eq (nat_cmp q k) ≡ b → (k == q) ≡ c → b ≡ c
+    by true true p r = refl
+    by false false p r = refl
+    by true false p r = sym (eq-eqb k q (sym (exact_unsigned q k ((Equal-is (nat_cmp q k)).0 p)))) ∙ r
+    by false true p r = sym p ∙ (Equal-is (nat_cmp q k)).1 (subst (λ k. nat_cmp q k ≡ Equal) (sym (eqb-true k q r)) (equal_to_itself (nat_cmp q q) (nat_cmp_total.antisymm q q)))
+
+-- the keys of a map
+pub found_among : {X : Type 0} (q : ℕ) (es : List (ℕ × X)) → is_some (lookup (is_at (nat_cmp q)) es) ≡ is_in (map (λ e. e.0) es) q
+found_among q [] = refl
+found_among q (e ∷ es) = by (is_eq (nat_cmp q e.0)) (e.0 == q) (same_test q e.0) (found_among q es)
+  where
+    by : (b c : Bool) → b ≡ c → is_some (lookup (is_at (nat_cmp q)) es) ≡ is_in (map (λ e. e.0) es) q → is_some (cond b (Some e.1) (lookup (is_at (nat_cmp q)) es)) ≡ (c || is_in (map (λ e. e.0) es) q)
+    by true true p i = refl
+    by false false p i = i
+    by true false p i = absurd (false≢true (sym p))
+    by false true p i = absurd (false≢true p)
+
+-- the next of those that are left
+pub next_of : {X : Type 0} (xs : List X) (i : ℕ) (x : X) → i < length xs → x ≡ get_or xs i x → drop i xs ≡ x ∷ drop (i + 1) xs
+next_of xs i x within is = at_drop_more (λ l. l) xs i x within ∙ ap (λ y. y ∷ drop (i + 1) xs) (sym is)
+
+pub first_out : (b c : Bool) → b ≡ false → (b && c) ≡ false
+first_out b c e = rw e refl
+
+pub second_out : (b c : Bool) → c ≡ false → (b && c) ≡ false
+second_out true c e = e
+second_out false c e = refl

@@ -4,4 +4,5 @@ pub mod Forms
 pub mod Places
 pub mod Equations
 pub mod Exact
+pub mod Multiples
 pub mod inner

@@ -1,10 +1,11 @@
 // The visits of a loop by elimination of its states, one after the other: that which may add the fewest entries first. Nothing is
 // promised of them.
 
-ghost use Rattle.std.specs.Prelude.{◌≡◌, ◌<◌, ℕ, false, Contains, IfOk};
+ghost use Rattle.std.specs.Prelude.{◌≡◌, ◌<◌, ℕ, false, Contains, IfOk, IfErr};
 ghost use Rattle.visit_finder.specs.declared.residues.Residues.{Residues as residues};
 ghost use Rattle.visit_finder.specs.Equations.{AreBetween, AreKnown};
-ghost use Rattle.visit_finder.specs.Places.{is_lost, AreForms, Loses};
+ghost use Rattle.visit_finder.specs.Places.{modulus, form_at, is_lost, AreForms, Loses};
+ghost use Rattle.visit_finder.specs.declared.error.FinderError.TheVariants.{OutOfMemory};
 
 use crate::error::FinderError;
 use crate::residues::{Moduli, Residues};
@@ -241,6 +242,11 @@ pub fn solved(
         ((t s : ℕ) (r : residues) → Contains parts.now.entries ((t, s), r) → AreForms moduli.old r) → AreBetween states.now.items parts.now.entries →
         (place : ℕ) → place < 5 → is_lost moduli.new place ≡ false →
         AreKnown moduli.old place entered.entries parts.now.entries states.now.items found.entries) }
+    ensures forms { IfOk result (λ found. ((s : ℕ) (r : residues) → Contains entered.entries (s, r) → AreForms moduli.old r) →
+        ((t s : ℕ) (r : residues) → Contains parts.now.entries ((t, s), r) → AreForms moduli.old r) →
+        (place : ℕ) → place < 5 → is_lost moduli.new place ≡ false →
+        (s : ℕ) (r : residues) → Contains found.entries (s, r) → form_at place r < modulus moduli.old place) }
+    ensures cause { IfErr result (λ e. e ≡ OutOfMemory) }
 {
     let mut left = Left {
         out: BTreeMap::new(alloc),

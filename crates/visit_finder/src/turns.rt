@@ -1,9 +1,14 @@
 // Where the turns of a loop lead, and how often each state is expected to be visited.
 
-ghost use Rattle.std.specs.Prelude.{◌≡◌, [], ◌∷◌, ◌++◌, map, OnOk, IfOk, IfErr};
-ghost use Rattle.visit_finder.specs.declared.error.FinderError.TheVariants.{NoneNarrow};
-ghost use Rattle.visit_finder.specs.Exact.{AreClosed, AreOnly, HaveNone};
-ghost use Rattle.visit_finder.specs.inner.Adding.{ends_order, AreAdded};
+ghost use Rattle.std.specs.Prelude.{◌≡◌, ◌≢◌, ◌<◌, ℕ, false, [], ◌∷◌, ◌++◌, map, Contains, OnOk, IfOk, IfErr};
+ghost use Rattle.std.specs.Ordering.{nat_cmp};
+ghost use Rattle.visit_finder.specs.declared.error.FinderError.TheVariants.{NoneNarrow, OutOfMemory};
+ghost use Rattle.visit_finder.specs.declared.residues.Residues.{Residues as residues};
+ghost use Rattle.visit_finder.specs.Places.{modulus, is_lost, AreForms, AreOver, Loses};
+ghost use Rattle.visit_finder.specs.Multiples.{AreVisits};
+ghost use Rattle.visit_finder.specs.Exact.{is_in, AreClosed, AreOnly, HaveNone};
+ghost use Rattle.visit_finder.specs.inner.Adding.{ends_order, AreAdded, AreOverOne};
+ghost use Rattle.visit_finder.specs.inner.Parts.{AreParts, AreBegun};
 
 use crate::error::FinderError;
 use crate::primes::PRIMES;
@@ -39,7 +44,8 @@ fn add_part(
     ends: (u64, u64),
     part: &Residues,
 ) -> Result<(), FinderError>
-    ensures { OnOk result (AreAdded ends_order moduli.now parts.old.entries parts.new.entries ends part.now) }
+    ensures ok { OnOk result (AreAdded ends_order moduli.now parts.old.entries parts.new.entries ends part.now) }
+    ensures cause { IfErr result (λ e. e ≡ OutOfMemory) }
 {
     match parts.entry(ends)? {
         Entry::Occupied(mut at) => {
@@ -51,6 +57,74 @@ fn add_part(
         }
     }
     Ok(())
+}
+
+// The part is added to what the loop is entered with in a state already.
+fn add_entry(
+    moduli: &Moduli,
+    begun: &mut BTreeMap<u64, Residues>,
+    number: u64,
+    part: &Residues,
+) -> Result<(), FinderError>
+    ensures ok { OnOk result (AreAdded nat_cmp moduli.now begun.old.entries begun.new.entries number part.now) }
+    ensures cause { IfErr result (λ e. e ≡ OutOfMemory) }
+{
+    match begun.entry(number)? {
+        Entry::Occupied(mut at) => {
+            let sum = moduli.sum(at.get(), part);
+            at.insert(sum);
+        }
+        Entry::Vacant(at) => {
+            at.insert(*part);
+        }
+    }
+    Ok(())
+}
+
+// Whether a state is one of those that may be left.
+fn may_leave(leaving: &BTreeMap<u64, bool>, number: u64) -> bool
+    ensures { result ≡ is_in (map (λ e. e.0) leaving.now.entries) number }
+{
+    leaving.contains_key(&number)
+}
+
+// The states that may be left.
+fn numbers(alloc: Global, leaving: &BTreeMap<u64, bool>) -> Result<Vec<u64>, FinderError>
+    ensures states { IfOk result (λ states. states.items ≡ map (λ e. e.0) leaving.now.entries) }
+    ensures cause { IfErr result (λ e. e ≡ OutOfMemory) }
+{
+    let mut states = Vec::new(alloc);
+    for (number, _) in leaving {
+        states.push(*number)?;
+    }
+    Ok(states)
+}
+
+// 1 over a denominator.
+fn over_of(moduli: &mut Moduli, den: u128) -> Residues
+    ensures loses { Loses moduli.old moduli.new }
+    ensures over { AreOverOne moduli.new result den }
+{
+    let below = moduli.of_number(den);
+    moduli.inverse(&below)
+}
+
+// 1 over the next denominator, which may be the one before.
+fn keep_over(moduli: &mut Moduli, over: &mut Residues, before: u128, next: u128)
+    ensures loses { Loses moduli.old moduli.new }
+    ensures over { AreOverOne moduli.old over.old before → AreOverOne moduli.new over.new next }
+{
+    if next != before {
+        *over = over_of(moduli, next);
+    }
+}
+
+// A numerator over what the other is 1 over.
+fn times_over(moduli: &Moduli, num: u128, over: &Residues) -> Residues
+    ensures forms { AreForms moduli.now over.now → AreForms moduli.now result }
+    ensures fraction { (place den : ℕ) → place < 5 → AreOver moduli.now place over.now 1 den → AreOver moduli.now place result num den }
+{
+    moduli.product(&moduli.of_number(num), over)
 }
 
 // The fractions with these remainders, by number.
@@ -162,17 +236,19 @@ impl Turns {
         alloc: Global,
         moduli: &mut Moduli,
         leaving: &BTreeMap<u64, bool>,
-    ) -> Result<BTreeMap<(u64, u64), Residues>, FinderError> {
+    ) -> Result<BTreeMap<(u64, u64), Residues>, FinderError>
+        ensures loses { Loses moduli.old moduli.new }
+        ensures parts { IfOk result (λ parts. AreParts moduli.new (map (λ e. e.0) leaving.now.entries) self.now parts.entries) }
+        ensures cause { IfErr result (λ e. e ≡ OutOfMemory) }
+    {
         let mut parts = BTreeMap::new(alloc);
         let mut den = 1;
         let mut over = moduli.of_number(1);
         for (from, to, weight) in &self.parts {
-            if leaving.contains_key(from) && leaving.contains_key(to) {
-                if weight.den() != den {
-                    den = weight.den();
-                    over = moduli.inverse(&moduli.of_number(den));
-                }
-                let part = moduli.product(&moduli.of_number(weight.num()), &over);
+            if may_leave(leaving, *from) && may_leave(leaving, *to) {
+                keep_over(moduli, &mut over, den, weight.den());
+                den = weight.den();
+                let part = times_over(moduli, weight.num(), &over);
                 add_part(moduli, &mut parts, (*from, *to), &part)?;
             }
         }
@@ -186,26 +262,35 @@ impl Turns {
         moduli: &mut Moduli,
         entered: BTreeMap<u64, Residues>,
         leaving: &BTreeMap<u64, bool>,
-    ) -> Result<BTreeMap<u64, Residues>, FinderError> {
+    ) -> Result<BTreeMap<u64, Residues>, FinderError>
+        ensures loses { Loses moduli.old moduli.new }
+        ensures visits { IfOk result (λ found. ((s : ℕ) (r : residues) → Contains entered.entries (s, r) → AreForms moduli.old r) →
+            (place : ℕ) → place < 5 → is_lost moduli.new place ≡ false →
+            AreVisits (modulus moduli.new place) place (map (λ e. e.0) leaving.now.entries) self.now entered.entries found.entries) }
+        ensures cause { IfErr result (λ e. e ≡ OutOfMemory) }
+    {
         let parts = self.parts_at(alloc, moduli, leaving)?;
-        let mut states = Vec::new(alloc);
-        for (number, _) in leaving {
-            states.push(*number)?;
-        }
+        let states = numbers(alloc, leaving)?;
         solved(alloc, moduli, entered, &parts, &states)
     }
 
-    // The weights with which the loop is entered in states that may be left, at these moduli.
+    // The weights with which the loop is entered in states that may be left, at these moduli, where several in one state become one.
     fn entered_at(
         alloc: Global,
         moduli: &mut Moduli,
         entered: &Vec<(u64, Frac)>,
         leaving: &BTreeMap<u64, bool>,
-    ) -> Result<BTreeMap<u64, Residues>, FinderError> {
+    ) -> Result<BTreeMap<u64, Residues>, FinderError>
+        ensures loses { Loses moduli.old moduli.new }
+        ensures begun { IfOk result (λ begun. AreBegun moduli.new (map (λ e. e.0) leaving.now.entries) entered.now.items begun.entries) }
+        ensures cause { IfErr result (λ e. e ≡ OutOfMemory) }
+    {
         let mut begun = BTreeMap::new(alloc);
         for (number, weight) in entered {
-            if leaving.contains_key(number) {
-                begun.insert(*number, moduli.of(weight))?;
+            if may_leave(leaving, *number) {
+                let over = over_of(moduli, weight.den());
+                let part = times_over(moduli, weight.num(), &over);
+                add_entry(moduli, &mut begun, *number, &part)?;
             }
         }
         Ok(begun)
