@@ -8,4 +8,5 @@ mod Leading
 mod Members
 pub mod Newton
 pub mod Places
+mod Visits
 mod Walks
