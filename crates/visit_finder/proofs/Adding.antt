@@ -71,10 +71,10 @@ old_part place n None = 0
 old_part place n (Some r) = form_at place r * n
 
 -- each entry has something
-abbrev pub Each : {K : Type 0} → (K → Residues → Type 0) → List (K × Residues) → Type 0
-Each {K} P es = (k : K) (r : Residues) → Contains es (k, r) → P k r
+abbrev pub Each : {K X : Type 0} → (K → X → Type 0) → List (K × X) → Type 0
+Each {K} {X} P es = (k : K) (x : X) → Contains es (k, x) → P k x
 
-either : {K : Type 0} (P : K → Residues → Type 0) (d : K × Residues) (ds : List (K × Residues)) → P d.0 d.1 → Each P ds → Each P (d ∷ ds)
+either : {K X : Type 0} (P : K → X → Type 0) (d : K × X) (ds : List (K × X)) → P d.0 d.1 → Each P ds → Each P (d ∷ ds)
 either P d ds one more q x c = by (first_or_behind d ds (q, x) c)
   where
     by : (d ≡ (q, x)) ⊎ Contains ds (q, x) → P q x
@@ -93,7 +93,7 @@ module _ {K : Type 0} (order : K → K → Ordering) (total : IsTotalOrder order
       at_head Equal p i = rw p (rw (ap G (equal_is k e.0 p)) (omega arith))
       at_head Greater p i = rw p (omega arith)
 
-  each_insert : (P : K → Residues → Type 0) (k : K) (r : Residues) (es : List (K × Residues)) → P k r → Each P es → Each P (insert_entry order es k r)
+  pub each_insert : {X : Type 0} (P : K → X → Type 0) (k : K) (r : X) (es : List (K × X)) → P k r → Each P es → Each P (insert_entry order es k r)
   each_insert P k r [] new old = either P (k, r) [] new old
   each_insert P k r (e ∷ es) new old = at_head (order k e.0) refl (each_insert P k r es new (λ q x c. old q x (behind e es (q, x) c)))
     where
@@ -101,6 +101,37 @@ module _ {K : Type 0} (order : K → K → Ordering) (total : IsTotalOrder order
       at_head Less p i = rw p (either P (k, r) (e ∷ es) new old)
       at_head Equal p i = rw p (either P (e.0, r) es (subst (λ k. P k r) (equal_is k e.0 p) new) (λ q x c. old q x (behind e es (q, x) c)))
       at_head Greater p i = rw p (either P e (insert_entry order es k r) (old e.0 e.1 (first_in e es)) i)
+
+  -- the keys that were there, and the new one
+  pub still_among : {X : Type 0} (k : K) (x : X) (es : List (K × X)) (q : K) → (k ≡ q) ⊎ Contains (keys_of es) q → Contains (keys_of (insert_entry order es k x)) q
+  still_among k x [] q c = subst (λ q. Contains (k ∷ []) q) (here c) (first_in k [])
+    where
+      here : (k ≡ q) ⊎ Contains [] q → k ≡ q
+      here (inl e) = e
+      here (inr c) = absurd (none_in q c)
+  still_among k x (e ∷ es) q c = at_head (order k e.0) refl c (λ c. still_among k x es q c)
+    where
+      at_front : (h : K) (hs : List K) → (h ≡ q) ⊎ Contains hs q → Contains (h ∷ hs) q
+      at_front h hs (inl e) = subst (λ q. Contains (h ∷ hs) q) e (first_in h hs)
+      at_front h hs (inr c) = behind h hs q c
+
+      equal : k ≡ e.0 → (k ≡ q) ⊎ Contains (e.0 ∷ keys_of es) q → Contains (e.0 ∷ keys_of es) q
+      equal p (inl f) = at_front e.0 (keys_of es) (inl (sym p ∙ f))
+      equal p (inr c) = c
+
+      greater : (k ≡ q) ⊎ Contains (e.0 ∷ keys_of es) q → ((k ≡ q) ⊎ Contains (keys_of es) q → Contains (keys_of (insert_entry order es k x)) q) → Contains (e.0 ∷ keys_of (insert_entry order es k x)) q
+      greater (inl f) more = behind e.0 (keys_of (insert_entry order es k x)) q (more (inl f))
+      greater (inr c) more = by (first_or_behind e.0 (keys_of es) q c)
+        where
+          by : (e.0 ≡ q) ⊎ Contains (keys_of es) q → Contains (e.0 ∷ keys_of (insert_entry order es k x)) q
+          by (inl f) = at_front e.0 (keys_of (insert_entry order es k x)) (inl f)
+          by (inr c) = at_front e.0 (keys_of (insert_entry order es k x)) (inr (more (inr c)))
+
+      at_head : (o : Ordering) → order k e.0 ≡ o → (k ≡ q) ⊎ Contains (e.0 ∷ keys_of es) q → ((k ≡ q) ⊎ Contains (keys_of es) q → Contains (keys_of (insert_entry order es k x)) q) →
+          Contains (keys_of (insert_entry order (e ∷ es) k x)) q
+      at_head Less p c more = rw p (at_front k (e.0 ∷ keys_of es) c)
+      at_head Equal p c more = rw p (equal (equal_is k e.0 p) c)
+      at_head Greater p c more = rw p (greater c more)
 
   found_in : (P : K → Residues → Type 0) (k : K) (old : Residues) (es : List (K × Residues)) → lookup (is_at (order k)) es ≡ Some old → Each P es → P k old
   found_in P k old [] e h = cc

@@ -11,7 +11,7 @@ use Rattle.visit_finder.specs.Exact as exact
 use Rattle.visit_finder.proofs.Members.{among}
 
 -- what turns within the states lead to a state, where the visits of each state are g times others
-led_times : (whole g : ℕ) (states : List ℕ) (turns : List Turn) (v w : ℕ → ℕ) → ((t : ℕ) → Contains states t → v t ≡ g * w t) → (s : ℕ) →
+pub led_times : (whole g : ℕ) (states : List ℕ) (turns : List Turn) (v w : ℕ → ℕ) → ((t : ℕ) → Contains states t → v t ≡ g * w t) → (s : ℕ) →
     led whole (turns_within states turns) v s ≡ g * led whole (turns_within states turns) w s
 led_times whole g states [] v w same s = omega arith
 led_times whole g states (e ∷ es) v w same s = by (is_in states e.0) (is_in states e.1) refl (led_times whole g states es v w same s)

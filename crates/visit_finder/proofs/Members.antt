@@ -95,3 +95,14 @@ first_out b c e = rw e refl
 pub second_out : (b c : Bool) → c ≡ false → (b && c) ≡ false
 second_out true c e = e
 second_out false c e = refl
+
+pub not_among : (states : List ℕ) (t : ℕ) → is_in states t ≡ false → Contains states t → ⊥
+not_among states t out c = false≢true (sym out ∙ is_among states t c)
+
+pub key_of : {X : Type 0} (es : List (ℕ × X)) (s : ℕ) (x : X) → Contains es (s, x) → Contains (map (λ e. e.0) es) s
+key_of [] s x c = absurd (none_in (s, x) c)
+key_of {X = X} (e ∷ es) s x c = by (first_or_behind e es (s, x) c) (λ c. key_of es s x c)
+  where
+    by : (e ≡ (s, x)) ⊎ Contains es (s, x) → (Contains es (s, x) → Contains (map (λ e. e.0) es) s) → Contains (map (λ e. e.0) (e ∷ es)) s
+    by (inl p) more = subst (λ q. Contains (e.0 ∷ map (λ e. e.0) es) q) (ap (λ e. e.0) p) (first_in e.0 (map (λ e. e.0) es))
+    by (inr c) more = behind e.0 (map (λ e. e.0) es) s (more c)

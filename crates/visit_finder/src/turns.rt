@@ -8,6 +8,7 @@ ghost use Rattle.visit_finder.specs.Places.{modulus, is_lost, AreForms, AreOver,
 ghost use Rattle.visit_finder.specs.Multiples.{AreVisits};
 ghost use Rattle.visit_finder.specs.Exact.{is_in, AreClosed, AreOnly, HaveNone};
 ghost use Rattle.visit_finder.specs.inner.Adding.{ends_order, AreAdded, AreOverOne};
+ghost use Rattle.visit_finder.specs.inner.Fractions.{AreFractions, SomeHasNone};
 ghost use Rattle.visit_finder.specs.inner.Parts.{AreParts, AreBegun};
 
 use crate::error::FinderError;
@@ -127,16 +128,24 @@ fn times_over(moduli: &Moduli, num: u128, over: &Residues) -> Residues
     moduli.product(&moduli.of_number(num), over)
 }
 
-// The fractions with these remainders, by number.
+// The fractions with these remainders, of states that may be left.
 fn fractions(
     alloc: Global,
     moduli: &Moduli,
-    residues: &BTreeMap<u64, Residues>,
-) -> Result<BTreeMap<u64, Frac>, FinderError> {
+    leaving: &BTreeMap<u64, bool>,
+    visits: &BTreeMap<u64, Residues>,
+) -> Result<BTreeMap<u64, Frac>, FinderError>
+    ensures fractions { IfOk result (λ found. AreFractions moduli.now (map (λ e. e.0) leaving.now.entries) visits.now.entries found.entries) }
+    ensures none { IfErr result (λ e. e ≡ NoneNarrow → SomeHasNone moduli.now (map (λ e. e.0) leaving.now.entries) visits.now.entries) }
+{
     let mut fractions = BTreeMap::new(alloc);
-    for (number, part) in residues {
-        let fraction = moduli.fraction(part).ok_or(FinderError::NoneNarrow)?;
-        fractions.insert(*number, fraction)?;
+    for (number, part) in visits {
+        if may_leave(leaving, *number) {
+            let Some(fraction) = moduli.fraction(part) else {
+                return Err(FinderError::NoneNarrow);
+            };
+            fractions.insert(*number, fraction)?;
+        }
     }
     Ok(fractions)
 }
@@ -217,7 +226,8 @@ impl Turns {
     /// The states from which the loop is left with some weight: those from which a turn leads on with less than all, and those
     /// from which a turn leads to one of them.
     pub fn leaving(&self, alloc: Global, states: u64) -> Result<BTreeMap<u64, bool>, FinderError>
-        ensures { IfOk result (λ leaving. AreClosed (map (λ e. e.0) leaving.entries) self.now) }
+        ensures closed { IfOk result (λ leaving. AreClosed (map (λ e. e.0) leaving.entries) self.now) }
+        ensures cause { IfErr result (λ e. e ≢ NoneNarrow) }
     {
         let (sums, sources) = self.sums_and_sources(alloc)?;
         let mut whole = BTreeSet::new(alloc);
@@ -314,7 +324,7 @@ impl Turns {
             let begun = Turns::entered_at(alloc, &mut moduli, entered, &leaving)?;
             let visits = self.visits_at(alloc, &mut moduli, begun, &leaving)?;
             if moduli.hold() {
-                return fractions(alloc, &moduli, &visits);
+                return fractions(alloc, &moduli, &leaving, &visits);
             }
             moduli = moduli.others().ok_or(FinderError::TooFewPrimes)?;
         }
