@@ -1,4 +1,4 @@
-use Rattle.std.proofs.Common.{ℕ, IfOk, map, sym, subst, ◌∙◌}
+use Rattle.std.proofs.Common.{ℕ, map, sym, subst}
 use Rattle.std.specs.Prelude.{Contains}
 use Rattle.visit_finder.specs.declared.residues.Residues.{Residues}
 use Rattle.visit_finder.specs.Places.{AreForms}
@@ -20,10 +20,10 @@ returns-clause-visits c =
     let turns = c.args.self.now in
     let begun = c.args.entered.entries in
     if_both c.solved.result _ _ _ (λ found known forms entered place within kept.
-        let still : (s : ℕ) (r : Residues) → Contains begun (s, r) → AreForms mid r = λ s r there. still_forms before mid r c.in_ok-parts.ensures.loses (entered s r there) in
-        let same = same_modulus mid after place c.solved.ensures.loses in
-        let between = subst (λ states. AreBetween states parts) (sym c.in_ok-states.ensures.states) of.between in
-        visits_at_place mid _ place states turns begun parts found.entries same
-        (subst (λ m. AreOfTurns m place (turns_within states turns) parts) same (of.parts_of place within (c.solved.ensures.loses.1 place kept)))
-        (subst (λ states. AreKnown mid place begun parts states found.entries) c.in_ok-states.ensures.states (known still of.forms between place within kept))
-        (forms still of.forms place within kept)) c.solved.ensures.known c.solved.ensures.forms
+    let still : (s : ℕ) (r : Residues) → Contains begun (s, r) → AreForms mid r = λ s r there. still_forms before mid r c.in_ok-parts.ensures.loses (entered s r there) in
+    let same = same_modulus mid after place c.solved.ensures.loses in
+    let between = subst (λ states. AreBetween states parts) (sym c.in_ok-states.ensures.states) of.between in
+    visits_at_place mid _ place states turns begun parts found.entries same
+    (subst (λ m. AreOfTurns m place (turns_within states turns) parts) same (of.parts_of place within (c.solved.ensures.loses.1 place kept)))
+    (subst (λ states. AreKnown mid place begun parts states found.entries) c.in_ok-states.ensures.states (known still of.forms between place within kept))
+    (forms still of.forms place within kept)) c.solved.ensures.known c.solved.ensures.forms
