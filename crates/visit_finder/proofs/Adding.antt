@@ -1,11 +1,11 @@
 -- Residues that are added to those of a key of a map.
-use Rattle.std.proofs.Common.{◌≡◌, ◌⊎◌, inl, inr, ℕ, zero, suc, ◌+◌, ◌*◌, ◌/◌, ◌^◌, ◌<◌, ◌≤◌, Bool, true, false, if◌then◌else◌, Option, Some, None, MatchOption, Ordering, List, [], ◌∷◌, map, length, get_or, refl, sym, ap, ◌∙◌, subst, arith}
+use Rattle.std.proofs.Common.{◌≡◌, ◌⊎◌, inl, inr, ℕ, ◌+◌, ◌*◌, ◌/◌, ◌^◌, ◌<◌, Bool, true, false, if◌then◌else◌, Option, Some, None, MatchOption, Ordering, List, [], ◌∷◌, map, length, refl, sym, ap, ◌∙◌, subst, arith}
 use Rattle.std.specs.Prelude.{◌==◌, Contains}
 use Rattle.std.specs.declared.cmp.Ordering.TheVariants.{Less, Equal, Greater}
-use Rattle.std.specs.Ordering.{nat_cmp, on}
+use Rattle.std.specs.Ordering.{nat_cmp}
 use Rattle.std.specs.Cmp.{IsTotalOrder}
 use Rattle.std.specs.BTreeMap.{insert_entry, is_at}
-use Rattle.std.specs.Map.{keys_of, values_of, lookup}
+use Rattle.std.specs.Map.{keys_of, lookup}
 use Rattle.std.specs.List.Sorted.{IsStrictlySortedBy}
 use Rattle.std.proofs.lemmas.Cmp.{nat_cmp_total, on_total, then_total}
 use Rattle.std.proofs.lemmas.Map.{lookup-none}
@@ -13,8 +13,7 @@ use Rattle.std.proofs.lemmas.Map.Lookups.{exact_pairs, exact_unsigned}
 use Rattle.std.proofs.lemmas.Map.Entries.{none_below_head}
 use Rattle.std.proofs.lemmas.Map.Keys.{sorted_tail}
 use Rattle.narrow_fractions.specs.Remainders.{Same}
-use Rattle.narrow_fractions.proofs.Congruence.{equal, turned, chained, added, times}
-use Rattle.visit_finder.specs.declared.primes.Prime.{Prime}
+use Rattle.narrow_fractions.proofs.Congruence.{equal, turned, chained, added}
 use Rattle.visit_finder.specs.declared.residues.Moduli.{Moduli}
 use Rattle.visit_finder.specs.declared.residues.Residues.{Residues}
 use Rattle.visit_finder.specs.Places.{modulus, form_at, AreAt, AreForms}
@@ -157,24 +156,24 @@ module _ {K : Type 0} (order : K → K → Ordering) (total : IsTotalOrder order
       by sum None e is = record {
         each = each_insert (λ k r. P k × AreForms moduli r) k sum es (key, subst (AreForms moduli) (sym is) form) old;
         sums = λ place within G. equal (modulus moduli place) _ _ (
-          let i = summed_insert place G k sum es add.0 in
-          let z = ap (old_part place (G k)) e in
-          let y = ap (λ x. form_at place x * G k) is in
-          omega (arith, i, z, y)
-        );
+            let i = summed_insert place G k sum es add.0 in
+            let z = ap (old_part place (G k)) e in
+            let y = ap (λ x. form_at place x * G k) is in
+            omega (arith, i, z, y)
+            );
       }
       by sum (Some x) e is =
           let before = (found_in (λ k r. P k × AreForms moduli r) k x es e old).1 in
           let at : (place : ℕ) → place < 5 → (form_at place sum < modulus moduli place) × Same (modulus moduli place) (form_at place sum) (form_at place x + form_at place r) =
-              λ place within. sum_at moduli x r sum place count within before form is
+          λ place within. sum_at moduli x r sum place count within before form is
           in
           record {
             each = each_insert (λ k r. P k × AreForms moduli r) k sum es (key, λ place within. (at place within).0) old;
             sums = λ place within G.
                 joined (modulus moduli place) (form_at place sum) (form_at place x) (form_at place r) (G k) (summed place G (insert_entry order es k sum)) (summed place G es) (at place within).1 (
-                  let i = summed_insert place G k sum es add.0 in
-                  let z = ap (old_part place (G k)) e in
-                  omega (arith, i, z)
+                let i = summed_insert place G k sum es add.0 in
+                let z = ap (old_part place (G k)) e in
+                omega (arith, i, z)
                 );
           }
         where

@@ -1,5 +1,5 @@
 -- Turns and entries that were gone over, and those that are left.
-use Rattle.std.proofs.Common.{◌≡◌, ◌⊎◌, inl, inr, ℕ, ◌+◌, ◌*◌, ◌/◌, ◌^◌, Bool, true, false, if◌then◌else◌, List, [], ◌∷◌, sym, ap, ◌∙◌, subst, arith}
+use Rattle.std.proofs.Common.{◌≡◌, ◌⊎◌, inl, inr, ℕ, ◌+◌, ◌*◌, ◌/◌, ◌^◌, Bool, true, false, if◌then◌else◌, List, [], ◌∷◌, ap, subst, arith}
 use Rattle.std.specs.Prelude.{◌==◌, Contains}
 use Rattle.numbers.specs.Fraction.{Fraction}
 use Rattle.narrow_fractions.specs.Remainders.{Same}

@@ -1,9 +1,9 @@
 -- What was found at five moduli of which none is lost is the only fraction that the visits can be, whatever visits balance.
-use Rattle.std.proofs.Common.{◌≡◌, ◌⊎◌, inl, inr, ℕ, zero, suc, ◌+◌, ◌*◌, ◌/◌, ◌^◌, ◌≤◌, ◌<◌, Bool, ◌&&◌, cond, Some, List, [], ◌∷◌, ◌++◌, map, length, false, refl, sym, ap, ◌∙◌, subst, subst₂, arith}
+use Rattle.std.proofs.Common.{◌≡◌, ◌⊎◌, inl, inr, ℕ, zero, suc, ◌+◌, ◌*◌, ◌/◌, ◌^◌, ◌≤◌, ◌<◌, ◌&&◌, cond, List, [], ◌∷◌, ◌++◌, map, length, refl, sym, ap, ◌∙◌, subst, subst₂, arith}
 use Rattle.std.specs.Prelude.{Contains}
-use Rattle.std.specs.Ordering.{nat_cmp, eq_by_cmp}
+use Rattle.std.specs.Ordering.{nat_cmp}
 use Rattle.std.specs.List.Sorted.{IsStrictlySortedBy}
-use Rattle.std.specs.Map.{keys_of, lookup}
+use Rattle.std.specs.Map.{keys_of}
 use Rattle.std.proofs.Math.Nat.{mul-div_right}
 use Rattle.std.proofs.lemmas.Cmp.{nat_cmp_total, eq_by_cmp_equiv}
 use Rattle.std.proofs.lemmas.Map.Keys.{IsDistinct-from_sorted}
@@ -14,11 +14,11 @@ use Rattle.narrow_fractions.specs.Remainders.{Same}
 use Rattle.narrow_fractions.proofs.Congruence.{equal, turned, chained, added, times, cancelled}
 use Rattle.visit_finder.specs.declared.residues.Moduli.{Moduli}
 use Rattle.visit_finder.specs.declared.residues.Residues.{Residues}
-use Rattle.visit_finder.specs.Places.{modulus, form_at, is_lost, AreForms, AreOfFraction}
+use Rattle.visit_finder.specs.Places.{modulus, form_at, AreForms, AreOfFraction}
 use Rattle.visit_finder.specs.Equations.{entered_at}
-use Rattle.visit_finder.specs.Exact.{Turn, Entry, is_in, turns_within, entries_within, common, common_of, entered, led, BalanceExactly, AreClosed, IsOnly, AreOnly, HaveNone}
+use Rattle.visit_finder.specs.Exact.{Turn, Entry, is_in, turns_within, entries_within, common, common_of, entered, led, BalanceExactly, AreClosed, AreOnly, HaveNone}
 use Rattle.visit_finder.specs.Multiples.{HasInverse, HaveInverses, IsMultiple, turn_weights, entry_weights, AreOfEntries, AreVisits}
-use Rattle.visit_finder.specs.inner.Fractions.{IsOnlyOf, HasNoneOf, AreFractions, SomeHasNone}
+use Rattle.visit_finder.specs.inner.Fractions.{AreFractions, SomeHasNone}
 use Rattle.visit_finder.proofs.Members.{none_in, first_or_behind, behind, first_in, same_among, key_of}
 use Rattle.visit_finder.proofs.Places.{modulus_some}
 use Rattle.visit_finder.proofs.Adding.{word_inverse}
@@ -90,8 +90,8 @@ module _ (m place : ℕ) (states : List ℕ) (turns : List Turn) (entries : List
       let whole = common_of inner within in
       let inverse = common_inverse m (fs ++ gs) (λ f c. either f (Contains-append_cases fs gs f c)) in
       visits.known whole (λ f c. common_multiple (fs ++ gs) f (Contains-append_left fs gs f c)) inverse once v (λ s c.
-          by (2 ^ 64) whole (v s) (entered whole within s) once (led whole inner v s) (entered_at place begun s)
-          (enter.enters whole (λ f c. common_multiple (fs ++ gs) f (Contains-append_right fs gs f c)) s) (balance s c)) s c
+      by (2 ^ 64) whole (v s) (entered whole within s) once (led whole inner v s) (entered_at place begun s)
+      (enter.enters whole (λ f c. common_multiple (fs ++ gs) f (Contains-append_right fs gs f c)) s) (balance s c)) s c
     where
       either : (f : Fraction) → Contains (turn_weights (turns_within states turns)) f ⊎ Contains (entry_weights (entries_within states entries)) f → HasInverse m f.1
       either f (inl c) = visits.inverses f c
@@ -131,21 +131,25 @@ module _ (m place : ℕ) (states : List ℕ) (turns : List Turn) (entries : List
       one once v f = without_word (v s) once (form_at place r) (subst (λ x. Same m (2 ^ 64 * v s) (once * form_at place x)) (one_value found s f.0 r ordered f.1 there) f.2)
 
 -- ---- at all places
-module _ (moduli : Moduli) (states : List ℕ) (turns : List Turn) (entries : List Entry) (begun visits : List (ℕ × Residues)) (count : length moduli.primes ≡ 5)
-    (enter : (place : ℕ) → place < 5 → AreOfEntries (modulus moduli place) place (entries_within states entries) begun)
-    (visit : (place : ℕ) → place < 5 → AreVisits (modulus moduli place) place states turns begun visits) (closed : AreClosed states turns) where
+pub record AllFound (moduli : Moduli) (states : List ℕ) (turns : List Turn) (entries : List Entry) (begun visits : List (ℕ × Residues)) : Type 0 where
+  pub count : length moduli.primes ≡ 5
+  pub closed : AreClosed states turns
+  pub entered : (place : ℕ) → place < 5 → AreOfEntries (modulus moduli place) place (entries_within states entries) begun
+  pub visited : (place : ℕ) → place < 5 → AreVisits (modulus moduli place) place states turns begun visits
+
+module _ (moduli : Moduli) (states : List ℕ) (turns : List Turn) (entries : List Entry) (begun visits : List (ℕ × Residues)) (all : AllFound moduli states turns entries begun visits) where
   of_fraction : IsStrictlySortedBy nat_cmp (keys_of visits) → (s : ℕ) (r : Residues) → Contains states s → Contains visits (s, r) → (once : ℕ) (v : ℕ → ℕ) → 1 ≤ once → BalanceExactly states turns entries once v →
       (num den : ℕ) → den * v s ≡ once * num → AreOfFraction moduli r num den
   of_fraction ordered s r here there once v positive balance num den e place within =
-      fraction_at (modulus moduli place) place states turns entries begun visits (modulus_some moduli place count within) (word_inverse moduli place count within) ordered (enter place within) (visit place within)
-      s r here there once v positive balance num den e
+      fraction_at (modulus moduli place) place states turns entries begun visits (modulus_some moduli place all.count within) (word_inverse moduli place all.count within) ordered
+      (all.entered place within) (all.visited place within) s r here there once v positive balance num den e
 
   forms : (s : ℕ) (r : Residues) → Contains visits (s, r) → AreForms moduli r
-  forms s r there place within = (visit place within).below s r there
+  forms s r there place within = (all.visited place within).below s r there
 
   pub are_only : (found : List (ℕ × Fraction)) → AreFractions moduli states visits found → AreOnly turns entries found
   are_only found h = record {
-    closed = λ t s f turn c. onto t (closed t s f turn (into s c));
+    closed = λ t s f turn c. onto t (all.closed t s f turn (into s c));
     only = λ s f c once v positive balance num den some low high e.
         let was = h.each s f c in
         was.1.2 (forms s was.1.0 was.1.1) num den some low high
@@ -155,15 +159,19 @@ module _ (moduli : Moduli) (states : List ℕ) (turns : List Turn) (entries : Li
       into : (s : ℕ) → Contains (map (λ e. e.0) found) s → Contains states s
       into s c = let f = entry_of found s c in (h.each s f.0 f.1).0
 
+      first : 0 < 5
+      first = omega arith
+
       onto : (s : ℕ) → Contains states s → Contains (map (λ e. e.0) found) s
       onto s c =
-          let r = each_found (modulus moduli 0) 0 states turns entries begun visits (modulus_some moduli 0 count (omega arith)) (word_inverse moduli 0 count (omega arith)) h.ordered (enter 0 (omega arith)) (visit 0 (omega arith)) s c in
+          let r = each_found (modulus moduli 0) 0 states turns entries begun visits (modulus_some moduli 0 all.count first) (word_inverse moduli 0 all.count first) h.ordered
+          (all.entered 0 first) (all.visited 0 first) s c in
           h.all s c (key_of visits s r.0 r.1)
 
   pub have_none : SomeHasNone moduli states visits → HaveNone turns entries
   have_none h = record {
     states = states;
-    closed = closed;
+    closed = all.closed;
     state = h.state;
     among = h.among;
     none = λ once v positive balance num den some low high e.

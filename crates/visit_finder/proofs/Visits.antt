@@ -2,7 +2,7 @@
 use Rattle.std.proofs.Common.{◌≡◌, ℕ, ◌+◌, ◌*◌, ◌^◌, ◌<◌, List, Result, Ok, Err, IfOk, refl, sym, subst, arith}
 use Rattle.std.specs.Prelude.{Contains}
 use Rattle.narrow_fractions.specs.Remainders.{Same}
-use Rattle.narrow_fractions.proofs.Congruence.{equal, chained, added, times, cancelled}
+use Rattle.narrow_fractions.proofs.Congruence.{equal, chained, added, cancelled}
 use Rattle.visit_finder.specs.declared.residues.Moduli.{Moduli}
 use Rattle.visit_finder.specs.declared.residues.Residues.{Residues}
 use Rattle.visit_finder.specs.Places.{modulus, form_at}
@@ -24,7 +24,7 @@ visits_at_place moduli m place states turns begun parts found same parts_of know
   known = λ whole multiple inverse once v balance s c.
       let inner = turns_within states turns in
       let is = known once v (λ s c. subst (λ m. Same m (2 ^ 64 * v s) (entered_at place begun s * once + led_at place parts v s)) (sym same)
-          (without_multiple m whole inverse.0 (2 ^ 64) (v s) (entered_at place begun s * once) (led whole inner v s) (led_at place parts v s) inverse.1 (balance s c) (parts_of.leads whole multiple v s))) s c in
+      (without_multiple m whole inverse.0 (2 ^ 64) (v s) (entered_at place begun s * once) (led whole inner v s) (led_at place parts v s) inverse.1 (balance s c) (parts_of.leads whole multiple v s))) s c in
       (is.0, is.1, subst (λ m. Same m (2 ^ 64 * v s) (once * form_at place is.0)) same is.2);
   below = λ s r c. subst (λ m. form_at place r < m) same (below s r c);
 }

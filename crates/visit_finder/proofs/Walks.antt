@@ -1,5 +1,5 @@
 -- A walk over turns, and one over entries, at moduli of which more may be lost on the way.
-use Rattle.std.proofs.Common.{◌≡◌, ℕ, ◌+◌, ◌*◌, ◌^◌, ◌<◌, Bool, true, false, ◌&&◌, cond, if◌then◌else◌, List, [], ◌∷◌, map, length, slice_index, refl, sym, ap, ◌∙◌, subst, subst₂, arith}
+use Rattle.std.proofs.Common.{◌≡◌, ℕ, ◌*◌, ◌^◌, ◌<◌, Bool, true, false, ◌&&◌, cond, if◌then◌else◌, List, [], ◌∷◌, map, length, slice_index, refl, sym, ap, ◌∙◌, subst, subst₂, arith}
 use Rattle.std.specs.Prelude.{◌==◌, Contains}
 use Rattle.std.specs.BTreeMap.{BTreeMap}
 use Rattle.std.specs.Ordering.{nat_cmp}
@@ -11,13 +11,12 @@ use Rattle.narrow_fractions.proofs.Congruence.{equal, chained, times}
 use Rattle.visit_finder.specs.declared.residues.Moduli.{Moduli}
 use Rattle.visit_finder.specs.declared.residues.Residues.{Residues}
 use Rattle.visit_finder.specs.Places.{modulus, form_at, is_lost, AreOf, AreForms, AreOver, Loses}
-use Rattle.visit_finder.specs.Equations.{entered_at, led_at}
 use Rattle.visit_finder.specs.Exact.{Turn, Entry, is_in, turns_within, entries_within}
 use Rattle.visit_finder.specs.Multiples.{HasInverse}
 use Rattle.visit_finder.specs.inner.Adding.{ends_order, AreAdded, AreOverOne}
 use Rattle.visit_finder.specs.inner.Parts.{AreParts, AreBegun}
 use Rattle.visit_finder.proofs.Members.{none_in, among}
-use Rattle.visit_finder.proofs.Adding.{Each, Added, added_at, summed, entered_summed, led_summed, ends_total, ends_exact}
+use Rattle.visit_finder.proofs.Adding.{Each, added_at, entered_summed, led_summed, ends_total, ends_exact}
 use Rattle.visit_finder.proofs.Leading.{LeadingAt, leading_none, leading_one, leading_all, EnteringAt, entering_none, entering_one, entering_all}
 
 -- ---- moduli of which more are lost
@@ -99,7 +98,7 @@ pub walk_taken : (old before moduli : Moduli) (states : List ℕ) (turns rest : 
     AreAdded ends_order moduli parts more (e.0, e.1) part → Leading old before states turns (e ∷ rest) last den parts → Leading old moduli states turns rest over e.2.1 more
 walk_taken old before moduli states turns rest e last over part den parts more count loses is_over is_part from to add h =
     let add = added_at ends_order ends_total ends_exact moduli (Between states) parts more (e.0, e.1) part count (among states e.0 from, among states e.1 to) (is_part.forms is_over.0)
-        (λ k r c. let old = h.each k r c in (old.0, still_forms before moduli r loses old.1)) add in
+    (λ k r c. let old = h.each k r c in (old.0, still_forms before moduli r loses old.1)) add in
     record {
       loses = loses_then old before moduli h.loses loses;
       kept = is_over;
@@ -153,7 +152,7 @@ pub entering_taken : (old before moduli : Moduli) (states : List ℕ) (entries r
     AreAdded nat_cmp moduli begun more e.0 part → Entering old before states entries (e ∷ rest) begun → Entering old moduli states entries rest more
 entering_taken old before moduli states entries rest e over part begun more count loses is_over is_part here add h =
     let add = added_at nat_cmp nat_cmp_total exact_unsigned moduli (Contains states) begun more e.0 part count (among states e.0 here) (is_part.forms is_over.0)
-        (λ k r c. let old = h.each k r c in (old.0, still_forms before moduli r loses old.1)) add in
+    (λ k r c. let old = h.each k r c in (old.0, still_forms before moduli r loses old.1)) add in
     record {
       loses = loses_then old before moduli h.loses loses;
       each = add.each;

@@ -324,7 +324,8 @@ pub fn solved(
     while let Some((state, column)) = left.taken() {
         pivots.push(left.eliminate(alloc, moduli, state, column)?)?;
     }
-    Ok(visits_by(alloc, moduli, pivots)?)
+    let found = visits_by(alloc, moduli, pivots)?;
+    Ok(found)
 }
 
 // The visits of each state: what it is entered with, and what the states that were eliminated after it lead to it, over what leaves it.

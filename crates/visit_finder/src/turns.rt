@@ -1,6 +1,6 @@
 // Where the turns of a loop lead, and how often each state is expected to be visited.
 
-ghost use Rattle.std.specs.Prelude.{◌≡◌, ◌≢◌, ◌<◌, ℕ, false, [], ◌∷◌, ◌++◌, map, Contains, OnOk, IfOk, IfErr};
+ghost use Rattle.std.specs.Prelude.{◌≡◌, ◌≢◌, ◌<◌, ℕ, false, [], ◌∷◌, ◌++◌, length, map, Contains, OnOk, IfOk, IfErr};
 ghost use Rattle.std.specs.BTreeMap.{keys};
 ghost use Rattle.std.specs.Ordering.{nat_cmp};
 ghost use Rattle.visit_finder.specs.declared.error.FinderError.TheVariants.{NoneNarrow, OutOfMemory};
@@ -137,6 +137,7 @@ fn fractions(
     leaving: &BTreeMap<u64, bool>,
     visits: &BTreeMap<u64, Residues>,
 ) -> Result<BTreeMap<u64, Frac>, FinderError>
+    ensures places { length moduli.now.primes ≡ 5 }
     ensures fractions { IfOk result (λ found. AreFractions moduli.now (map (λ e. e.0) leaving.now.entries) visits.now.entries found.entries) }
     ensures none { IfErr result (λ e. e ≡ NoneNarrow → SomeHasNone moduli.now (map (λ e. e.0) leaving.now.entries) visits.now.entries) }
 {

@@ -1,7 +1,6 @@
-use Rattle.std.proofs.Common.{◌≡◌, ◌∙◌, [], ◌∷◌, ◌++◌, false, true, map, refl, sym, subst}
+use Rattle.std.proofs.Common.{◌∙◌, [], ◌∷◌, false, true, map, refl, sym, subst}
 use Rattle.std.specs.Map.Iter.{deref_pair}
 use Rattle.std.proofs.lemmas.List.{map-append}
-use Rattle.visit_finder.specs.Exact.{is_in}
 use Rattle.visit_finder.proofs.Members.{among, not_among}
 use Rattle.visit_finder.proofs.Fractions.{Fractioned, none_gone, one_found, one_skipped, all_gone, gone_more, gone_all, next_there}
 use Rattle.visit_finder.proofs.turns.fractions.Goals as goal

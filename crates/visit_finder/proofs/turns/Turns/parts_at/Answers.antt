@@ -1,4 +1,4 @@
-use Rattle.std.proofs.Common.{rules, ◌≡◌, ◌+◌, [], ◌∷◌, map, drop, length, sym, subst, subst₂, ◌∙◌}
+use Rattle.std.proofs.Common.{rules, ◌≡◌, ◌+◌, map, drop, length, sym, subst, ◌∙◌}
 use Rattle.std.proofs.lemmas.List.{drop_all}
 use Rattle.visit_finder.specs.inner.Adding.{AreOverOne}
 use Rattle.visit_finder.specs.inner.Parts.{AreParts}

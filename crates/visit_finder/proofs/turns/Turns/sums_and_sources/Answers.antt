@@ -23,4 +23,4 @@ loop-from-preserved c =
 
 pub returns-clause-turns : goal.returns-clause-turns
 returns-clause-turns c = λ t s f there. c.loop-from.invariant t s f
-    (subst (λ (turns : List Turn). Contains turns (t, s, f)) (sym (take_all c.loop-from.from-index c.deref-from-items.result.now c.loop-from-test.false ∙ c.deref-from-items.ensures.value)) there)
+    (subst (λ (turns : List Turn). Contains turns (t, s, f)) (sym (take_all c.loop-from.from-index c.deref-from-items.result.now c.loop-from-test.false ∙ c.deref-from-items.ensures.value ∙ c.self.view_is)) there)

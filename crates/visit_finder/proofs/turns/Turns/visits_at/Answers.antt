@@ -1,4 +1,4 @@
-use Rattle.std.proofs.Common.{ℕ, IfOk, map, sym, subst, ◌∙◌}
+use Rattle.std.proofs.Common.{ℕ, map, sym, subst}
 use Rattle.std.specs.Prelude.{Contains}
 use Rattle.visit_finder.specs.declared.residues.Residues.{Residues}
 use Rattle.visit_finder.specs.Places.{AreForms}
