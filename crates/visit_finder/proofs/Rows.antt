@@ -81,7 +81,7 @@ another_without moduli state row part others rest s r h =
 
 pub part_without : (moduli : Moduli) (state : ℕ) (row : Row) (part : Residues) (others rest : Row) (s : ℕ) (r more : Residues) → s ≡ state
     → ((place : ℕ) → place < 5 → form_at place part < modulus moduli place → form_at place r < modulus moduli place →
-        (form_at place more < modulus moduli place) × Same (modulus moduli place) (form_at place more) (form_at place part + form_at place r))
+    (form_at place more < modulus moduli place) × Same (modulus moduli place) (form_at place more) (form_at place part + form_at place r))
     → Without moduli state row part others ((s, r) ∷ rest) → Without moduli state row more others rest
 part_without moduli state row part others rest s r more is clause h =
     let first = forms_first moduli s r rest h.left in
@@ -153,7 +153,7 @@ other_joined moduli factor row other all behind rest s r more clause h =
 pub both_joined : (moduli : Moduli) (factor : Residues) (row other all behind rest : Row) (s : ℕ) (r o more sum : Residues)
     → ((place : ℕ) → place < 5 → form_at place r < modulus moduli place → IsTimes (modulus moduli place) (form_at place factor) (form_at place r) (form_at place more))
     → ((place : ℕ) → place < 5 → form_at place o < modulus moduli place → form_at place more < modulus moduli place →
-        (form_at place sum < modulus moduli place) × Same (modulus moduli place) (form_at place sum) (form_at place o + form_at place more))
+    (form_at place sum < modulus moduli place) × Same (modulus moduli place) (form_at place sum) (form_at place o + form_at place more))
     → Joined moduli factor row other (all ++ (s, o) ∷ behind) ((s, r) ∷ rest) → Joined moduli factor row other ((all ++ (s, sum) ∷ []) ++ behind) rest
 both_joined moduli factor row other all behind rest s r o more sum clause adds h =
     let first = forms_first moduli s r rest h.left in

@@ -166,7 +166,15 @@ impl Left {
             None => BTreeSet::new(alloc),
         };
         for target in targets {
-            renew(alloc, moduli, &mut self.columns, target, state, leaves, column)?;
+            renew(
+                alloc,
+                moduli,
+                &mut self.columns,
+                target,
+                state,
+                leaves,
+                column,
+            )?;
             self.stand_all(alloc, column, target)?;
             self.rank(target)?;
         }
@@ -220,7 +228,7 @@ impl Left {
         ensures told { IfOk result (λ pivot. (place : ℕ) → place < 5 → is_lost moduli.new place ≡ false → (once : ℕ) (v : ℕ → ℕ) →
             ColumnHolds moduli.old place once v state column → PivotHolds moduli.old place once v state pivot.leaves pivot.column) }
     {
-            let before = *moduli;
+        let before = *moduli;
         let (from, back) = without(alloc, &before, &column, state)?;
         let rest = before.difference(&before.of_number(1), &back);
         let leaves = moduli.inverse(&rest);

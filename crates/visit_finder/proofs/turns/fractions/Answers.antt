@@ -1,4 +1,4 @@
-use Rattle.std.proofs.Common.{◌∙◌, [], ◌∷◌, false, true, map, refl, sym, subst}
+use Rattle.std.proofs.Common.{◌∙◌, [], ◌∷◌, map, refl, sym, subst}
 use Rattle.std.specs.Map.Iter.{deref_pair}
 use Rattle.std.proofs.lemmas.List.{map-append}
 use Rattle.visit_finder.proofs.Members.{among, not_among}
