@@ -1,5 +1,5 @@
 -- States that are eliminated, one after the other.
-use Rattle.std.proofs.Common.{◌≡◌, ◌⊎◌, inl, inr, ℕ, suc, ◌+◌, ◌*◌, ◌^◌, ◌≤◌, ◌<◌, false, List, [], ◌∷◌, ◌++◌, length, Contains, refl, sym, ap, ◌∙◌, subst, arith}
+use Rattle.std.proofs.Common.{◌≡◌, ◌⊎◌, inl, inr, ℕ, ◌+◌, ◌*◌, ◌^◌, ◌<◌, false, List, [], ◌∷◌, ◌++◌, length, Contains, sym, ap, subst, arith}
 use Rattle.std.proofs.lemmas.List.Elements.{Contains-append_left, Contains-push, Contains-push_cases}
 use Rattle.narrow_fractions.specs.Remainders.{Same}
 use Rattle.narrow_fractions.proofs.Congruence.{chained}
@@ -8,8 +8,8 @@ use Rattle.visit_finder.specs.declared.residues.Moduli.{Moduli}
 use Rattle.visit_finder.specs.declared.residues.Residues.{Residues}
 use Rattle.visit_finder.specs.declared.solving.Pivot.{Pivot}
 use Rattle.visit_finder.specs.Equations.{entered_at, led_at, AreKnown}
-use Rattle.visit_finder.specs.Places.{modulus, form_at, is_lost, AreForms, Loses}
-use Rattle.visit_finder.specs.inner.Columns.{sum_at, HasKey, ColumnForms, ColumnHolds, ColumnsForms, ColumnsHold}
+use Rattle.visit_finder.specs.Places.{modulus, form_at, is_lost, Loses}
+use Rattle.visit_finder.specs.inner.Columns.{sum_at, HasKey, ColumnHolds, ColumnsForms, ColumnsHold}
 use Rattle.visit_finder.specs.inner.Pivots.{Takes, Renews, PivotForms, PivotsForms, PivotHolds, PivotsHold, FoundHolds}
 use Rattle.visit_finder.proofs.AtPlaces.{loses_none, loses_after}
 use Rattle.visit_finder.proofs.Losing.{pivot_forms_before, pivot_before, column_after, renews_before, found_before}
@@ -41,7 +41,7 @@ eliminating_none moduli columns pivots none forms = record {
 pub eliminating_more : (old new newer : Moduli) (columns left taken renewed : List (ℕ × Column)) (pivots : List Pivot) (column : Column) (pivot : Pivot) → Eliminating old new columns left pivots
     → Takes left pivot.state column taken → Loses new newer → PivotForms new pivot.leaves pivot.column → Renews new pivot.state pivot.leaves pivot.column taken renewed
     → ((place : ℕ) → place < 5 → is_lost newer place ≡ false → (once : ℕ) (v : ℕ → ℕ) → ColumnHolds new place once v pivot.state column →
-        PivotHolds new place once v pivot.state pivot.leaves pivot.column)
+    PivotHolds new place once v pivot.state pivot.leaves pivot.column)
     → Eliminating old newer columns renewed (pivots ++ pivot ∷ [])
 eliminating_more old new newer columns left taken renewed pivots column pivot h takes loses over_new renews_new told = record {
   loses = loses_after old new newer h.loses loses;
@@ -81,7 +81,7 @@ pub all_known : (old new last : Moduli) (columns : List (ℕ × Column)) (pivots
     → Eliminating old new columns [] pivots → Loses new last
     → ((s : ℕ) → Contains states s → HasKey columns s)
     → ((place : ℕ) → place < 5 → (once : ℕ) (v : ℕ → ℕ) → (s : ℕ) (column : Column) → Contains {X = ℕ × Column} columns (s, column) → Contains states s ×
-        Same (modulus old place) (entered_at place entered s * once + led_at place parts v s) (sum_at place once v column.entered column.from.items))
+    Same (modulus old place) (entered_at place entered s * once + led_at place parts v s) (sum_at place once v column.entered column.from.items))
     → ((pivot : Pivot) → Contains pivots pivot → HasKey found pivot.state)
     → ((place : ℕ) → place < 5 → is_lost last place ≡ false → (once : ℕ) (v : ℕ → ℕ) → PivotsHold new place once v pivots → FoundHolds new place once v found)
     → (place : ℕ) → place < 5 → is_lost last place ≡ false → AreKnown old place entered parts states found

@@ -1,17 +1,16 @@
 -- What is found of the states that were eliminated.
-use Rattle.std.proofs.Common.{◌≡◌, ◌⊎◌, inl, inr, ℕ, ◌*◌, ◌^◌, ◌<◌, false, List, [], ◌∷◌, ◌++◌, Contains, refl, sym, subst, subst₂, ◌∙◌}
+use Rattle.std.proofs.Common.{◌≡◌, ◌⊎◌, inl, inr, ℕ, ◌*◌, ◌^◌, ◌<◌, false, List, [], ◌∷◌, ◌++◌, Contains, sym, subst, subst₂}
 use Rattle.std.specs.BTreeMap.{insert_entry}
 use Rattle.std.specs.Ordering.{nat_cmp}
 use Rattle.std.proofs.lemmas.List.Elements.{Contains-append_left, Contains-push, Contains-push_cases}
 use Rattle.narrow_fractions.specs.Remainders.{Same}
-use Rattle.visit_finder.specs.declared.columns.Column.{Column}
 use Rattle.visit_finder.specs.declared.residues.Moduli.{Moduli}
 use Rattle.visit_finder.specs.declared.residues.Residues.{Residues}
 use Rattle.visit_finder.specs.declared.solving.Pivot.{Pivot}
 use Rattle.visit_finder.specs.Equations.{AllForms}
 use Rattle.visit_finder.specs.Places.{modulus, form_at, is_lost, AreForms, Loses}
 use Rattle.visit_finder.specs.inner.Columns.{sum_at, HasKey}
-use Rattle.visit_finder.specs.inner.Pivots.{PivotHolds, PivotsForms, PivotsHold, FoundHolds}
+use Rattle.visit_finder.specs.inner.Pivots.{PivotHolds, PivotsHold, FoundHolds}
 use Rattle.visit_finder.proofs.AtPlaces.{same_modulus, forms_before, loses_none, loses_after}
 use Rattle.visit_finder.proofs.Entries.{none_in, put_or_before, put_key, put_keeps}
 

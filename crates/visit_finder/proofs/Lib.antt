@@ -1,4 +1,6 @@
+mod Adding
 pub mod AtPlaces
+mod Balance
 mod Closed
 pub mod ColumnsOf
 mod Digits
@@ -10,13 +12,18 @@ pub mod Entries
 pub mod Forming
 pub mod Forms
 pub mod FoundVisits
+mod Fractions
 mod Inverses
+mod Leading
 pub mod Losing
-pub mod Maps
+mod Members
 pub mod Newton
 mod Numbers
+mod OnlyVisits
 pub mod Places
 pub mod Renewals
 pub mod Rows
 pub mod Taken
 pub mod Visited
+mod Visits
+mod Walks

@@ -1,11 +1,11 @@
 -- What is said at moduli is said at the same moduli of which more are lost, and the other way round.
-use Rattle.std.proofs.Common.{◌≡◌, ℕ, ◌*◌, ◌^◌, ◌<◌, List, sym, subst}
+use Rattle.std.proofs.Common.{ℕ, ◌*◌, ◌^◌, List, sym, subst}
 use Rattle.narrow_fractions.specs.Remainders.{Same}
 use Rattle.visit_finder.specs.declared.columns.Column.{Column}
 use Rattle.visit_finder.specs.declared.residues.Moduli.{Moduli}
 use Rattle.visit_finder.specs.declared.residues.Residues.{Residues}
 use Rattle.visit_finder.specs.declared.solving.Pivot.{Pivot}
-use Rattle.visit_finder.specs.Places.{modulus, form_at, Loses}
+use Rattle.visit_finder.specs.Places.{form_at, Loses}
 use Rattle.visit_finder.specs.inner.Columns.{sum_at, ColumnForms, ColumnHolds}
 use Rattle.visit_finder.specs.inner.Pivots.{Renews, PivotForms, PivotsForms, PivotHolds, PivotsHold, FoundHolds}
 use Rattle.visit_finder.proofs.AtPlaces.{same_modulus, forms_after, forms_before}

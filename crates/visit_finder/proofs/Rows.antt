@@ -9,17 +9,12 @@ use Rattle.visit_finder.specs.declared.residues.Residues.{Residues}
 use Rattle.visit_finder.specs.Equations.{AllForms}
 use Rattle.visit_finder.specs.Places.{modulus, form_at, AreAt, AreForms}
 use Rattle.visit_finder.specs.inner.Columns.{row_at}
+use Rattle.visit_finder.proofs.Entries.{first_is, later, none_in}
 
 abbrev pub Row : Type 0
 Row = List (ℕ × Residues)
 
 -- ---- members
-
-pub first_in : {X : Type 0} (x : X) (xs : List X) → Contains (x ∷ xs) x
-first_in x xs = (0, omega arith, refl)
-
-pub rest_in : {X : Type 0} (x : X) (xs : List X) (y : X) → Contains xs y → Contains (x ∷ xs) y
-rest_in x xs y (k, l, e) = (suc k, omega arith, e)
 
 pub only_in : {X : Type 0} (x y : X) → Contains (x ∷ []) y → x ≡ y
 only_in x y (zero, l, e) = e
@@ -38,10 +33,10 @@ forms_pushed moduli xs s r all here k q h = by (Contains-append_cases xs ((s, r)
     by (inr last) = subst (λ e. AreForms moduli e.1) (only_in (s, r) (k, q) last) here
 
 pub forms_first : (moduli : Moduli) (s : ℕ) (r : Residues) (rest : Row) → AllForms moduli ((s, r) ∷ rest) → AreForms moduli r × AllForms moduli rest
-forms_first moduli s r rest all = (all s r (first_in (s, r) rest), λ k q h. all k q (rest_in (s, r) rest (k, q) h))
+forms_first moduli s r rest all = (all s r (first_is (s, r) rest), λ k q h. all k q (later (s, r) rest (k, q) h))
 
 pub no_forms : (moduli : Moduli) → AllForms {K = ℕ} moduli []
-no_forms moduli k r h = absurd (omega (arith, h.1))
+no_forms moduli k r h = absurd (none_in (k, r) h)
 
 -- ---- sums
 
@@ -86,7 +81,7 @@ another_without moduli state row part others rest s r h =
 
 pub part_without : (moduli : Moduli) (state : ℕ) (row : Row) (part : Residues) (others rest : Row) (s : ℕ) (r more : Residues) → s ≡ state
     → ((place : ℕ) → place < 5 → form_at place part < modulus moduli place → form_at place r < modulus moduli place →
-        (form_at place more < modulus moduli place) × Same (modulus moduli place) (form_at place more) (form_at place part + form_at place r))
+    (form_at place more < modulus moduli place) × Same (modulus moduli place) (form_at place more) (form_at place part + form_at place r))
     → Without moduli state row part others ((s, r) ∷ rest) → Without moduli state row more others rest
 part_without moduli state row part others rest s r more is clause h =
     let first = forms_first moduli s r rest h.left in
@@ -158,7 +153,7 @@ other_joined moduli factor row other all behind rest s r more clause h =
 pub both_joined : (moduli : Moduli) (factor : Residues) (row other all behind rest : Row) (s : ℕ) (r o more sum : Residues)
     → ((place : ℕ) → place < 5 → form_at place r < modulus moduli place → IsTimes (modulus moduli place) (form_at place factor) (form_at place r) (form_at place more))
     → ((place : ℕ) → place < 5 → form_at place o < modulus moduli place → form_at place more < modulus moduli place →
-        (form_at place sum < modulus moduli place) × Same (modulus moduli place) (form_at place sum) (form_at place o + form_at place more))
+    (form_at place sum < modulus moduli place) × Same (modulus moduli place) (form_at place sum) (form_at place o + form_at place more))
     → Joined moduli factor row other (all ++ (s, o) ∷ behind) ((s, r) ∷ rest) → Joined moduli factor row other ((all ++ (s, sum) ∷ []) ++ behind) rest
 both_joined moduli factor row other all behind rest s r o more sum clause adds h =
     let first = forms_first moduli s r rest h.left in

@@ -6,3 +6,4 @@ pub mod Equations
 pub mod Exact
 pub mod inner
 pub mod Sources
+pub mod Multiples

@@ -6,9 +6,8 @@ ghost use Rattle.visit_finder.specs.Equations.{AllForms};
 ghost use Rattle.visit_finder.specs.Places.{modulus, form_at, AreForms};
 ghost use Rattle.visit_finder.specs.inner.Columns.{row_at, ColumnForms};
 
-use crate::error::FinderError;
 use crate::residues::{Moduli, Residues};
-use std::alloc::Global;
+use std::alloc::{AllocError, Global};
 
 /// With what the loop is entered in a state, and from which states turns lead to it.
 #[derive(Drop)]
@@ -24,7 +23,7 @@ pub fn without(
     moduli: &Moduli,
     column: &Column,
     state: u64,
-) -> Result<(Vec<(u64, Residues)>, Residues), FinderError>
+) -> Result<(Vec<(u64, Residues)>, Residues), AllocError>
     requires { ColumnForms moduli.now column.now }
     ensures others { IfOk result (λ t. AllForms moduli.now t.0.items) }
     ensures part { IfOk result (λ t. AreForms moduli.now t.1) }
@@ -49,7 +48,7 @@ fn copied_below(
     from: usize,
     state: u64,
     all: &mut Vec<(u64, Residues)>,
-) -> Result<usize, FinderError>
+) -> Result<usize, AllocError>
     requires { from ≤ length row.now.items }
     ensures within { IfOk result (λ at. at ≤ length row.now.items) }
     ensures moved { IfOk result (λ at. all.new.items ++ drop at row.now.items ≡ all.old.items ++ drop from row.now.items) }
@@ -73,7 +72,7 @@ pub fn added(
     row: &Vec<(u64, Residues)>,
     factor: &Residues,
     other: &Vec<(u64, Residues)>,
-) -> Result<Vec<(u64, Residues)>, FinderError>
+) -> Result<Vec<(u64, Residues)>, AllocError>
     requires row { AllForms moduli.now row.now.items }
     requires factor { AreForms moduli.now factor.now }
     requires other { AllForms moduli.now other.now.items }

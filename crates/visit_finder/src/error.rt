@@ -1,5 +1,7 @@
 // Why no visits are found.
 
+ghost use Rattle.std.specs.Prelude.{◌≡◌};
+
 use std::alloc::{AllocError, AllocFailed};
 
 /// Why no visits are found.
@@ -16,12 +18,20 @@ pub enum FinderError {
 }
 
 impl From<AllocError> for FinderError {
+    ghost use Rattle.visit_finder.specs.declared.error.FinderError.TheVariants.{OutOfMemory};
+
+    ghost from_gives = { λ _ e. e ≡ OutOfMemory };
+
     fn from(_error: AllocError) -> Self {
         FinderError::OutOfMemory
     }
 }
 
 impl<T: Drop> From<AllocFailed<T>> for FinderError {
+    ghost use Rattle.visit_finder.specs.declared.error.FinderError.TheVariants.{OutOfMemory};
+
+    ghost from_gives = { λ _ e. e ≡ OutOfMemory };
+
     fn from(_error: AllocFailed<T>) -> Self {
         FinderError::OutOfMemory
     }

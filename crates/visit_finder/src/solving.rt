@@ -1,7 +1,8 @@
 // The visits of a loop by elimination of its states, one after the other: that which may add the fewest entries first.
 
-ghost use Rattle.std.specs.Prelude.{◌≡◌, ◌<◌, ◌+◌, ◌*◌, ◌^◌, ℕ, [], true, false, length, Contains, IfOk, OnOk, IfSome, IsNone};
+ghost use Rattle.std.specs.Prelude.{◌≡◌, ◌<◌, ◌+◌, ◌*◌, ◌^◌, ℕ, [], true, false, length, Contains, IfOk, IfErr, OnOk, IfSome, IsNone};
 ghost use Rattle.narrow_fractions.specs.Remainders.{Same};
+ghost use Rattle.visit_finder.specs.declared.error.FinderError.TheVariants.{OutOfMemory};
 ghost use Rattle.visit_finder.specs.declared.columns.Column.{Column as column};
 ghost use Rattle.visit_finder.specs.declared.solving.Pivot.{Pivot as pivot};
 ghost use Rattle.visit_finder.specs.Equations.{entered_at, led_at, AreKnown, AllForms};
@@ -12,7 +13,7 @@ ghost use Rattle.visit_finder.specs.inner.Pivots.{Takes, Renews, PivotForms, Piv
 use crate::columns::{Column, added, without};
 use crate::error::FinderError;
 use crate::residues::{Moduli, Residues};
-use std::alloc::Global;
+use std::alloc::{AllocError, Global};
 use std::collections::{BTreeMap, BTreeSet};
 
 // A state that was eliminated: 1 over what leaves it, and its column, without the part from itself.
@@ -40,7 +41,7 @@ fn columns_of(
     entered: &BTreeMap<u64, Residues>,
     parts: &BTreeMap<(u64, u64), Residues>,
     states: &Vec<u64>,
-) -> Result<BTreeMap<u64, Column>, FinderError>
+) -> Result<BTreeMap<u64, Column>, AllocError>
     requires entered { AllForms moduli.now entered.now.entries }
     requires parts { AllForms moduli.now parts.now.entries }
     ensures forms { IfOk result (λ columns. ColumnsForms moduli.now columns.entries) }
@@ -78,7 +79,7 @@ impl Left {
         columns: BTreeMap<u64, Column>,
         parts: &BTreeMap<(u64, u64), Residues>,
         states: &Vec<u64>,
-    ) -> Result<Left, FinderError>
+    ) -> Result<Left, AllocError>
         ensures { IfOk result (λ left. left.columns.entries ≡ columns.entries) }
     {
         let mut left = Left {
@@ -97,7 +98,7 @@ impl Left {
     }
 
     // The state stands in the column of another.
-    fn stand(&mut self, alloc: Global, state: u64, target: u64) -> Result<(), FinderError>
+    fn stand(&mut self, alloc: Global, state: u64, target: u64) -> Result<(), AllocError>
         ensures { self.new.columns.entries ≡ self.old.columns.entries }
     {
         let mut targets = match self.targets.remove(&state) {
@@ -122,7 +123,7 @@ impl Left {
         from.saturating_mul(into)
     }
 
-    fn rank(&mut self, state: u64) -> Result<(), FinderError>
+    fn rank(&mut self, state: u64) -> Result<(), AllocError>
         ensures { self.new.columns.entries ≡ self.old.columns.entries }
     {
         if let Some(old) = self.gains.get(&state) {
@@ -155,7 +156,7 @@ impl Left {
         state: u64,
         leaves: &Residues,
         column: &Column,
-    ) -> Result<(), FinderError>
+    ) -> Result<(), AllocError>
         requires columns { ColumnsForms moduli.now self.old.columns.entries }
         requires pivot { PivotForms moduli.now leaves.now column.now }
         ensures { OnOk result (Renews moduli.now state leaves.now column.now self.old.columns.entries self.new.columns.entries) }
@@ -165,7 +166,15 @@ impl Left {
             None => BTreeSet::new(alloc),
         };
         for target in targets {
-            renew(alloc, moduli, &mut self.columns, target, state, leaves, column)?;
+            renew(
+                alloc,
+                moduli,
+                &mut self.columns,
+                target,
+                state,
+                leaves,
+                column,
+            )?;
             self.stand_all(alloc, column, target)?;
             self.rank(target)?;
         }
@@ -173,7 +182,7 @@ impl Left {
     }
 
     // The states of a column stand in that of another.
-    fn stand_all(&mut self, alloc: Global, column: &Column, target: u64) -> Result<(), FinderError>
+    fn stand_all(&mut self, alloc: Global, column: &Column, target: u64) -> Result<(), AllocError>
         ensures { self.new.columns.entries ≡ self.old.columns.entries }
     {
         for entry in &column.from {
@@ -182,7 +191,7 @@ impl Left {
         Ok(())
     }
 
-    fn rank_all(&mut self, column: &Column) -> Result<(), FinderError>
+    fn rank_all(&mut self, column: &Column) -> Result<(), AllocError>
         ensures { self.new.columns.entries ≡ self.old.columns.entries }
     {
         for entry in &column.from {
@@ -209,7 +218,7 @@ impl Left {
         moduli: &mut Moduli,
         state: u64,
         column: Column,
-    ) -> Result<Pivot, FinderError>
+    ) -> Result<Pivot, AllocError>
         requires columns { ColumnsForms moduli.old self.old.columns.entries }
         requires column { ColumnForms moduli.old column }
         ensures loses { Loses moduli.old moduli.new }
@@ -219,7 +228,7 @@ impl Left {
         ensures told { IfOk result (λ pivot. (place : ℕ) → place < 5 → is_lost moduli.new place ≡ false → (once : ℕ) (v : ℕ → ℕ) →
             ColumnHolds moduli.old place once v state column → PivotHolds moduli.old place once v state pivot.leaves pivot.column) }
     {
-            let before = *moduli;
+        let before = *moduli;
         let (from, back) = without(alloc, &before, &column, state)?;
         let rest = before.difference(&before.of_number(1), &back);
         let leaves = moduli.inverse(&rest);
@@ -247,7 +256,7 @@ fn renew(
     state: u64,
     leaves: &Residues,
     column: &Column,
-) -> Result<(), FinderError>
+) -> Result<(), AllocError>
     requires columns { ColumnsForms moduli.now columns.old.entries }
     requires pivot { PivotForms moduli.now leaves.now column.now }
     ensures { OnOk result (Renews moduli.now state leaves.now column.now columns.old.entries columns.new.entries) }
@@ -267,7 +276,7 @@ fn replaced(
     state: u64,
     leaves: &Residues,
     other: &Column,
-) -> Result<Column, FinderError>
+) -> Result<Column, AllocError>
     requires column { ColumnForms moduli.now column }
     requires pivot { PivotForms moduli.now leaves.now other.now }
     ensures forms { IfOk result (λ next. ColumnForms moduli.now next) }
@@ -310,6 +319,8 @@ pub fn solved(
     ensures loses { Loses moduli.old moduli.new }
     ensures known { IfOk result (λ found. (place : ℕ) → place < 5 → is_lost moduli.new place ≡ false →
         AreKnown moduli.old place entered.entries parts.now.entries states.now.items found.entries) }
+    ensures forms { IfOk result (λ found. AllForms moduli.old found.entries) }
+    ensures cause { IfErr result (λ e. e ≡ OutOfMemory) }
 {
     if !are_forms(moduli, &entered) || !are_forms(moduli, parts) {
         moduli.lose();
@@ -321,7 +332,8 @@ pub fn solved(
     while let Some((state, column)) = left.taken() {
         pivots.push(left.eliminate(alloc, moduli, state, column)?)?;
     }
-    visits_by(alloc, moduli, pivots)
+    let found = visits_by(alloc, moduli, pivots)?;
+    Ok(found)
 }
 
 // The visits of each state: what it is entered with, and what the states that were eliminated after it lead to it, over what leaves it.
@@ -329,9 +341,10 @@ fn visits_by(
     alloc: Global,
     moduli: &mut Moduli,
     pivots: Vec<Pivot>,
-) -> Result<BTreeMap<u64, Residues>, FinderError>
+) -> Result<BTreeMap<u64, Residues>, AllocError>
     requires { PivotsForms moduli.old pivots.items }
     ensures loses { Loses moduli.old moduli.new }
+    ensures forms { IfOk result (λ found. AllForms moduli.old found.entries) }
     ensures all { IfOk result (λ found. (pivot : pivot) → Contains pivots.items pivot → HasKey found.entries pivot.state) }
     ensures known { IfOk result (λ found. (place : ℕ) → place < 5 → is_lost moduli.new place ≡ false → (once : ℕ) (v : ℕ → ℕ) →
         PivotsHold moduli.old place once v pivots.items → FoundHolds moduli.old place once v found.entries) }

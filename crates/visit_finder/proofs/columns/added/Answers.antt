@@ -1,4 +1,4 @@
-use Rattle.std.proofs.Common.{◌≡◌, ℕ, ◌+◌, ◌*◌, ◌^◌, ◌<◌, List, [], ◌∷◌, ◌++◌, length, drop, drop-cons, get_or, append_assoc, append-nil, refl, sym, ap, subst, subst₂, ◌∙◌, arith}
+use Rattle.std.proofs.Common.{◌≡◌, ℕ, ◌+◌, ◌*◌, ◌^◌, ◌<◌, [], ◌∷◌, ◌++◌, length, drop, get_or, append_assoc, append-nil, sym, ap, subst, subst₂, ◌∙◌, arith}
 use Rattle.std.proofs.lemmas.List.{drop_all, get_or_default}
 use Rattle.std.proofs.lemmas.List.Elements.{Contains-append_left}
 use Rattle.narrow_fractions.proofs.Congruence.{chained, equal}
@@ -6,7 +6,7 @@ use Rattle.visit_finder.specs.declared.residues.Residues.{Residues}
 use Rattle.visit_finder.specs.Places.{modulus, form_at}
 use Rattle.visit_finder.specs.inner.Columns.{row_at}
 use Rattle.visit_finder.proofs.AtPlaces.{sum_at, product_at}
-use Rattle.visit_finder.proofs.Rows.{Row, one_step, Joined, none_joined, other_joined, both_joined}
+use Rattle.visit_finder.proofs.Rows.{one_step, Joined, none_joined, other_joined, both_joined}
 use Rattle.visit_finder.proofs.columns.added.Goals as goal
 use Rattle.visit_finder.proofs.columns.added.Goals.{then-at-len+then-index-entry+in_ok-push, else-at-len+in_ok-push-2}
 
@@ -34,10 +34,10 @@ loop-entry-preserved c =
     let all = c.copied_below.new.all.items in
     let at = c.in_ok-at.at in
     let before =
-        subst₂ (λ put left. Joined moduli factor row other put left) (sym c.in_ok-at.ensures.moved)
-        (one_step entries c.loop-entry.entry-index none c.loop-entry-test.true) c.loop-entry.invariant.joined in
+    subst₂ (λ put left. Joined moduli factor row other put left) (sym c.in_ok-at.ensures.moved)
+    (one_step entries c.loop-entry.entry-index none c.loop-entry-test.true) c.loop-entry.invariant.joined in
     let times = λ (place : ℕ) (within : place < 5) (below : form_at place entry.1 < modulus moduli place).
-        product_at moduli place _ _ _ (c.product-more.ensures place within) (c.requires.factor place within) below in
+    product_at moduli place _ _ _ (c.product-more.ensures place within) (c.requires.factor place within) below in
     elim c.if-at-len.branch [
       | then-at-len+then-index-entry+in_ok-push w ↦
           let below : at < length row = omega (arith, w.if-at-len.true, c.len-in-loop-entry.ensures) in
@@ -46,13 +46,13 @@ loop-entry-preserved c =
           let same : here.0 ≡ entry.0 = ap (λ e. e.0) (w.index-then-index-entry.ensures ∙ get_or_default row at here w.index.result.now below ∙ sym w.index.ensures) ∙ w.if-index-entry.true in
           let first : drop at row ≡ (entry.0, here.1) ∷ behind = one_step row at here below ∙ ap (λ e. e ∷ behind) (sym w.index-then-index-entry.ensures) ∙ ap (λ s. (s, here.1) ∷ behind) same in
           let adds = λ (place : ℕ) (within : place < 5) (first : form_at place here.1 < modulus moduli place) (second : form_at place c.product-more.result < modulus moduli place).
-              sum_at moduli place _ _ _ (w.sum.ensures place within) first second in record {
-                within = omega (arith, below, w.at-is);
-                joined =
-                    subst₂ (λ put at. Joined moduli factor row other (put ++ drop at row) rest) (sym (ap (λ all. all.items) w.all-is ∙ w.in_ok-push.ensures.items)) (sym w.at-is)
-                    (both_joined moduli factor row other all behind rest entry.0 entry.1 here.1 c.product-more.result w.sum.result times adds
-                    (subst (λ left. Joined moduli factor row other (all ++ left) (entry ∷ rest)) first before));
-              }
+          sum_at moduli place _ _ _ (w.sum.ensures place within) first second in record {
+            within = omega (arith, below, w.at-is);
+            joined =
+                subst₂ (λ put at. Joined moduli factor row other (put ++ drop at row) rest) (sym (ap (λ all. all.items) w.all-is ∙ w.in_ok-push.ensures.items)) (sym w.at-is)
+                (both_joined moduli factor row other all behind rest entry.0 entry.1 here.1 c.product-more.result w.sum.result times adds
+                (subst (λ left. Joined moduli factor row other (all ++ left) (entry ∷ rest)) first before));
+          }
       | else-at-len+in_ok-push-2 w ↦ record {
         within = omega (arith, c.in_ok-at.ensures.within, w.at-is);
         joined =

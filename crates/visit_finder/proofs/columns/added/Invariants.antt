@@ -1,7 +1,5 @@
 use Rattle.std.proofs.Common.{[], ◌-◌, ◌≤◌, ◌++◌, length, drop}
-use Rattle.visit_finder.proofs.Rows.{Row, Joined}
-use Rattle.visit_finder.specs.declared.residues.Moduli.{Moduli}
-use Rattle.visit_finder.specs.declared.residues.Residues.{Residues}
+use Rattle.visit_finder.proofs.Rows.{Joined}
 use Rattle.visit_finder.proofs.columns.added.Given as goal
 
 abbrev pub invariant-loop-entry : goal.invariant-loop-entry

@@ -1,4 +1,4 @@
-use Rattle.std.proofs.Common.{◌≡◌, [], sym, subst}
+use Rattle.std.proofs.Common.{sym, subst}
 use Rattle.visit_finder.specs.Equations.{AllForms}
 use Rattle.visit_finder.proofs.Forming.{no_forms_at, first_forms}
 use Rattle.visit_finder.proofs.solving.are_forms.Goals as goal

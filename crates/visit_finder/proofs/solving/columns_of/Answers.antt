@@ -1,4 +1,4 @@
-use Rattle.std.proofs.Common.{◌≡◌, ◌∷◌, ◌++◌, [], take, take_all, sym, subst, subst₂, refl, ◌∙◌}
+use Rattle.std.proofs.Common.{◌∷◌, [], take_all, sym, subst, subst₂, refl, ◌∙◌}
 use Rattle.std.proofs.lemmas.List.{take_more}
 use Rattle.visit_finder.specs.declared.columns.Column.{Column}
 use Rattle.visit_finder.specs.Equations.{AllForms}

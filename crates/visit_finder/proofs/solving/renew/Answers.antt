@@ -2,8 +2,6 @@ use Rattle.std.proofs.Common.{◌≡◌, ℕ, ◌+◌, ◌≤◌, Bool, true, fa
 use Rattle.std.specs.BTreeMap.{insert_entry}
 use Rattle.std.specs.Option.{is_some}
 use Rattle.std.specs.Ordering.{nat_cmp}
-use Rattle.std.proofs.lemmas.Map.Lookups.{exact_unsigned}
-use Rattle.std.proofs.lemmas.Map.Views.{tells_apart}
 use Rattle.visit_finder.specs.inner.Pivots.{Renews}
 use Rattle.visit_finder.proofs.Entries.{has_found}
 use Rattle.visit_finder.proofs.Renewals.{renews_none, renews_one}
@@ -22,7 +20,7 @@ returns-in_ok-insert c =
     let is = c.in_ok-insert.ensures.entries ∙ ap (λ rest. insert_entry nat_cmp rest c.args.target c.in_ok-next.next) c.in-Some.ensures.entries in
     let count = no_more (is_some c.in_ok-insert.field-0) (length c.remove.new.self.entries) (length old) (length c.insert.new.self.entries) c.in-Some.ensures.len c.in_ok-insert.ensures.len in
     subst (λ new. Renews c.args.moduli.now c.args.state c.args.leaves.now c.args.column.now old new) (sym is)
-    (renews_one c.args.moduli.now c.args.state c.args.leaves.now c.args.column.now old c.args.target c.in-Some.old c.in_ok-next.next exact_unsigned (tells_apart exact_unsigned)
+    (renews_one c.args.moduli.now c.args.state c.args.leaves.now c.args.column.now old c.args.target c.in-Some.old c.in_ok-next.next
     (has_found old c.args.target c.in-Some.old (sym c.in-Some.ensures.value)) (λ forms. c.in_ok-next.ensures.forms)
     (λ place within once v pivot holds. c.in_ok-next.ensures.hold place within once v pivot c.args.target holds)
     (subst (λ es. length es ≤ length old) is count))

@@ -1,13 +1,11 @@
-use Rattle.std.proofs.Common.{◌≡◌, ◌⊎◌, inl, inr, ℕ, ◌+◌, ◌*◌, ◌^◌, ◌<◌, false, [], ◌++◌, ◌∷◌, length, Contains, Result, Ok, Err, IfOk, refl, sym, ap, subst, ◌∙◌, arith}
+use Rattle.std.proofs.Common.{◌≡◌, ℕ, ◌+◌, ◌*◌, ◌<◌, Contains, refl, sym, subst}
 use Rattle.narrow_fractions.specs.Remainders.{Same}
-use Rattle.narrow_fractions.proofs.Congruence.{chained}
 use Rattle.visit_finder.specs.declared.columns.Column.{Column}
-use Rattle.visit_finder.specs.declared.residues.Residues.{Residues}
-use Rattle.visit_finder.specs.declared.solving.Pivot.{Pivot}
 use Rattle.visit_finder.specs.Equations.{entered_at, led_at}
-use Rattle.visit_finder.specs.Places.{modulus, form_at, is_lost}
+use Rattle.visit_finder.specs.Places.{modulus}
 use Rattle.visit_finder.specs.inner.Columns.{sum_at, HasKey, ColumnsForms, ColumnHolds}
-use Rattle.visit_finder.specs.inner.Pivots.{Takes, Renews, PivotForms, PivotHolds, PivotsHold, FoundHolds}
+use Rattle.visit_finder.specs.inner.Pivots.{Takes, Renews, PivotHolds}
+use Rattle.visit_finder.proofs.AtPlaces.{forms_before}
 use Rattle.visit_finder.proofs.Eliminating.{Eliminating, eliminating_none, eliminating_more, all_known}
 use Rattle.visit_finder.proofs.Losing.{column_forms_after, pivots_after}
 use Rattle.visit_finder.proofs.solving.solved.Goals as goal
@@ -45,11 +43,6 @@ loop-state-preserved c =
 pub visits_by-requires : goal.visits_by-requires
 visits_by-requires c = let h = c.loop-state.invariant in pivots_after c.args.moduli.now c.loop-state.moduli h.loses c.loop-state.pivots.items h.over
 
--- what holds of an answer by two facts of it
-both_ok : {X Y : Type 0} (r : Result X Y) (P Q R : X → Type 0) → ((x : X) → P x → Q x → R x) → IfOk r P → IfOk r Q → IfOk r R
-both_ok (Ok x) P Q R f p q = f x p q
-both_ok (Err e) P Q R f p q = tt
-
 pub returns-clause-known : goal.returns-clause-known
 returns-clause-known c =
     let old = c.args.moduli.now in
@@ -61,10 +54,12 @@ returns-clause-known c =
     let ended = subst (λ left. Eliminating old new columns left pivots) (c.in_default.ensures.none refl) c.loop-state.invariant in
     let keys = λ (s : ℕ) (has : Contains c.args.states.now.items s). subst (λ es. HasKey es s) (sym is) (c.in_ok-columns.ensures.all s has) in
     let told : (place : ℕ) → place < 5 → (once : ℕ) (v : ℕ → ℕ) (s : ℕ) (column : Column) → Contains {X = ℕ × Column} columns (s, column) → Contains c.args.states.now.items s ×
-        Same (modulus old place) (entered_at place c.args.entered.entries s * once + led_at place c.args.parts.now.entries v s) (sum_at place once v column.entered column.from.items)
-        = λ place within once v s column has.
-        let here = subst (λ es. Contains {X = ℕ × Column} es (s, column)) is has in
-        (c.in_ok-columns.ensures.only s column here, c.in_ok-columns.ensures.hold place within once v s column here) in
-    both_ok c.visits_by.result _ _ _
-    (λ found all known place within kept. all_known old new last columns pivots c.args.entered.entries c.args.parts.now.entries c.args.states.now.items found.entries ended c.visits_by.ensures.loses keys told all known place within kept)
-    c.visits_by.ensures.all c.visits_by.ensures.known
+    Same (modulus old place) (entered_at place c.args.entered.entries s * once + led_at place c.args.parts.now.entries v s) (sum_at place once v column.entered column.from.items)
+    = λ place within once v s column has.
+    let here = subst (λ es. Contains {X = ℕ × Column} es (s, column)) is has in
+    (c.in_ok-columns.ensures.only s column here, c.in_ok-columns.ensures.hold place within once v s column here) in
+    all_known old new last columns pivots c.args.entered.entries c.args.parts.now.entries c.args.states.now.items c.in_ok-found.found.entries ended c.in_ok-found.ensures.loses keys told
+    c.in_ok-found.ensures.all c.in_ok-found.ensures.known
+
+pub returns-clause-forms : goal.returns-clause-forms
+returns-clause-forms c s r has = forms_before c.args.moduli.now c.loop-state.moduli r c.loop-state.invariant.loses (c.in_ok-found.ensures.forms s r has)

@@ -1,4 +1,4 @@
-use Rattle.std.proofs.Common.{◌≡◌, ◌+◌, sym, subst, subst₂}
+use Rattle.std.proofs.Common.{◌+◌, sym, subst, subst₂}
 use Rattle.std.proofs.lemmas.List.Elements.{Contains-get_or}
 use Rattle.visit_finder.specs.Equations.{AllForms}
 use Rattle.visit_finder.proofs.Entries.{has_found}

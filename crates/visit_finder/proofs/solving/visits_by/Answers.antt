@@ -3,7 +3,7 @@ use Rattle.std.proofs.lemmas.Grind.{common_steps}
 use Rattle.std.proofs.lemmas.List.{nil_from_length}
 use Rattle.std.proofs.lemmas.List.Elements.{Contains-push}
 use Rattle.visit_finder.proofs.AtPlaces.{forms_after}
-use Rattle.visit_finder.proofs.FoundVisits.{IsTold, told_none, told_more, told_all}
+use Rattle.visit_finder.proofs.FoundVisits.{IsTold, told_more, told_all}
 use Rattle.visit_finder.proofs.solving.visits_by.Goals as goal
 
 pub visit-visited-requires-clause-pivot : goal.visit-visited-requires-clause-pivot

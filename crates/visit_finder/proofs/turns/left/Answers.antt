@@ -88,7 +88,7 @@ loop-to-preserved c =
     (settling_begins Found c.loop-to.waiting.items (sources_of c.loop-to.sources.entries) first c.in-Some.to rest [] now c.in-Some.ensures.items
     (ap found_items c.in_default-remove.ensures.value) (apart_from_removed c.in-Some.to c.loop-to.sources c.remove.new.self c.remove.ensures.updates) c.loop-to.invariant)
 
-pub returns : goal.returns
-returns c =
+pub returns-clause-closed : goal.returns-clause-closed
+returns-clause-closed c =
     let none : length c.loop-to.waiting.items ≡ 0 = let e = c.in_default.ensures.cases.0 in search rules in
     none_waits c.loop-to.leaving c.loop-to.waiting.items (sources_of c.loop-to.sources.entries) c.args.sources.entries none c.loop-to.invariant

@@ -1,9 +1,8 @@
-use Rattle.std.proofs.Common.{◌≡◌, ℕ, ◌+◌, ◌*◌, ◌^◌, ◌<◌, refl, sym, ap, subst, subst₂, ◌∙◌, arith}
-use Rattle.narrow_fractions.specs.Remainders.{Same}
+use Rattle.std.proofs.Common.{◌*◌, ◌^◌, ◌<◌, refl, sym, subst, subst₂, arith}
 use Rattle.narrow_fractions.proofs.Congruence.{chained, equal, added}
 use Rattle.visit_finder.specs.Forms.{IsInverse}
 use Rattle.visit_finder.specs.Places.{modulus, form_at}
-use Rattle.visit_finder.specs.inner.Columns.{row_at, ColumnsForms}
+use Rattle.visit_finder.specs.inner.Columns.{ColumnsForms}
 use Rattle.visit_finder.specs.inner.Pivots.{Renews}
 use Rattle.visit_finder.proofs.AtPlaces.{difference_at, over_inverse_at, same_modulus}
 use Rattle.visit_finder.proofs.Eliminated.{pivot_told}

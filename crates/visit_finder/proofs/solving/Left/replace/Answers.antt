@@ -1,4 +1,4 @@
-use Rattle.std.proofs.Common.{◌≡◌, sym, subst, ◌∙◌}
+use Rattle.std.proofs.Common.{sym, subst, ◌∙◌}
 use Rattle.visit_finder.specs.inner.Pivots.{Renews}
 use Rattle.visit_finder.proofs.Renewals.{renews_none, renews_more}
 use Rattle.visit_finder.proofs.solving.Left.replace.Goals as goal

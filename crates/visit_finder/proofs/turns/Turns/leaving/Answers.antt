@@ -5,9 +5,9 @@ use Rattle.visit_finder.specs.Sources.{AreClosedUnder}
 use Rattle.visit_finder.proofs.Closed.{closed_by}
 use Rattle.visit_finder.proofs.turns.Turns.leaving.Goals as goal
 
-pub returns : goal.returns
-returns c =
+pub returns-clause-closed : goal.returns-clause-closed
+returns-clause-closed c =
     let sources = c.in_ok-sums.sources.entries in
-    let turns = c.args.self.now.parts.items in
+    let turns = c.args.self.now in
     IfOk-weaker c.left.result (λ leaving. AreClosedUnder (keys leaving) sources) (λ leaving. AreClosed (keys leaving) turns)
-    (λ leaving closed. closed_by (keys leaving) sources turns c.in_ok-sums.ensures closed) c.left.ensures
+    (λ leaving closed. closed_by (keys leaving) sources turns c.in_ok-sums.ensures.turns closed) c.left.ensures.closed

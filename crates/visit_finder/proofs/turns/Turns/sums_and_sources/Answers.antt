@@ -21,6 +21,6 @@ loop-from-preserved c =
     (puts turn.1 turn.0 c.loop-from.sources c.remove.new.self c.insert-in-loop-from.new.self c.match-remove.list c.push.new.self was c.in_ok-push.ensures.items c.remove.ensures.updates c.in_ok-insert-2.ensures.updates)
     c.loop-from.invariant
 
-pub returns : goal.returns
-returns c = λ t s f there. c.loop-from.invariant t s f
-    (subst (λ (turns : List Turn). Contains turns (t, s, f)) (sym (take_all c.loop-from.from-index c.deref-from-items.result.now c.loop-from-test.false ∙ c.deref-from-items.ensures.value)) there)
+pub returns-clause-turns : goal.returns-clause-turns
+returns-clause-turns c = λ t s f there. c.loop-from.invariant t s f
+    (subst (λ (turns : List Turn). Contains turns (t, s, f)) (sym (take_all c.loop-from.from-index c.deref-from-items.result.now c.loop-from-test.false ∙ c.deref-from-items.ensures.value ∙ c.self.view_is)) there)
