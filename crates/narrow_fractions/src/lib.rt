@@ -9,7 +9,7 @@
 //! elimination step merges rows entry by entry, in whatever order (`rows_may_be_merged`). At most one narrow fraction has a
 //! remainder (`one_fraction_has_a_remainder`).
 //!
-//! No call takes memory. No clause is of elimination as code: `exact_fold` eliminates, and does not use this crate yet.
+//! No call takes memory. No clause is of elimination as code, which `visit_finder` has.
 #![tactic(auto)]
 
 mod fraction;

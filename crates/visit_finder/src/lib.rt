@@ -1,11 +1,13 @@
 //! The expected visits of the states of a loop, from where each turn leads, by elimination modulo primes above 2^62; fractions are found
 //! again by Euclid's algorithm.
 //!
-//! Nothing is promised of what is found, and numbers wrap on the way: whoever asks for visits checks them by one turn of the loop. No
-//! clause says that there is an answer either. Proved are two parts of the way. The residues of numbers at five moduli, and of their sums,
-//! differences and products, are what they say, whether a modulus is a prime or not, and one at which an inverse is none is lost (`Prime`,
-//! `Moduli`). And the fraction that Euclid's algorithm finds by a remainder is the only one of two numbers of 128 bits, and where it finds none
-//! there is none (`Wide::quotient_of`).
+//! Proved: whatever visits balance exactly, what is found of a state is the only fraction of two numbers of 128 bits that they can be, and
+//! `NoneNarrow` comes only where those of some state are no such fraction (`Turns::visits`). For that no turn leads to a state that may be
+//! left but from one (`Turns::leaving`), whatever balances modulo a prime is so many times what elimination finds there (`solved`), and the
+//! fraction that is found by its remainders is the only one, or there is none (`Moduli::fraction`).
+//!
+//! That there are visits is not said: whoever asks for them checks what is found by one turn of the loop. Nor is it said that there is an
+//! answer: what a turn leads on with may add up to a wide fraction, and four of eight primes may be of no use.
 #![tactic(auto)]
 
 mod columns;
