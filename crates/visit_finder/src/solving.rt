@@ -112,10 +112,7 @@ impl Left {
 
     // How many entries the columns may gain where the state is eliminated.
     fn gain(&self, state: u64) -> u64 {
-        let from = match self.columns.get(&state) {
-            Some(column) => column.from.len() as u64,
-            None => 0,
-        };
+        let from = self.entries(state) as u64;
         let into = match self.targets.get(&state) {
             Some(targets) => targets.len() as u64,
             None => 0,
@@ -166,6 +163,7 @@ impl Left {
             None => BTreeSet::new(alloc),
         };
         for target in targets {
+            let before = self.entries(target);
             renew(
                 alloc,
                 moduli,
@@ -175,10 +173,34 @@ impl Left {
                 leaves,
                 column,
             )?;
-            self.stand_all(alloc, column, target)?;
+            self.stand_where_more(alloc, column, target, before)?;
             self.rank(target)?;
         }
         Ok(())
+    }
+
+    // How many entries the column of a state has.
+    fn entries(&self, state: u64) -> usize {
+        match self.columns.get(&state) {
+            Some(column) => column.from.len(),
+            None => 0,
+        }
+    }
+
+    // The states of a column stand in that of another, in which it replaced one of so many entries. Where there are fewer now, none is new.
+    fn stand_where_more(
+        &mut self,
+        alloc: Global,
+        column: &Column,
+        target: u64,
+        before: usize,
+    ) -> Result<(), AllocError>
+        ensures { self.new.columns.entries ≡ self.old.columns.entries }
+    {
+        if self.entries(target) < before {
+            return Ok(());
+        }
+        self.stand_all(alloc, column, target)
     }
 
     // The states of a column stand in that of another.

@@ -18,6 +18,6 @@ loop-target-preserved c = record {
   next = tt;
   finite = tt;
   renews =
-      subst (λ new. Renews c.args.moduli.now c.args.state c.args.leaves.now c.args.column.now c.args.self.now.columns.entries new) (sym (c.rank.ensures ∙ c.stand_all.ensures))
+      subst (λ new. Renews c.args.moduli.now c.args.state c.args.leaves.now c.args.column.now c.args.self.now.columns.entries new) (sym (c.rank.ensures ∙ c.stand_where_more.ensures))
       (renews_more c.args.moduli.now c.args.state c.args.leaves.now c.args.column.now _ _ _ c.loop-target.invariant.renews c.in_ok-renew.ensures);
 }
